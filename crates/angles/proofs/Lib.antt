@@ -1,0 +1,10 @@
+mod Tests
+mod Division
+mod Reduction
+mod Bits
+mod Rounding
+mod Regions
+mod Places
+mod Answered
+mod ArcTerms
+mod Whole

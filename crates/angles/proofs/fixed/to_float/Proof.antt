@@ -1,0 +1,21 @@
+use mathlib.Core.Path.{_≡_, _∙_, sym, ap}
+use mathlib.Core.Bool.{Bool}
+use Rattle.angles.proofs.Rounding.{float-zero, float-neg, float-pos}
+use borrow.Author.Needs.{needs}
+use Rattle.angles.proofs.fixed.to_float.Statement.{statement}
+use Rattle.angles.proofs.fixed.to_float.Tie as tie
+
+over-60-requires : tie.Need-over-60-requires
+over-60-requires c κs = search needs
+
+returns : tie.Need-returns
+returns c = float-zero _ _ _ (c .before .if1 .taken) (c .if2 .taken) (c .before .before .over-60 .ensures)
+
+returns-2 : tie.Need-returns-2
+returns-2 c = float-neg _ _ _ (c .before .if1 .taken) (c .if2 .left) (c .before .before .over-60 .ensures)
+
+returns-3 : tie.Need-returns-3
+returns-3 c = float-pos _ _ _ (c .if1 .left) (c .before .over-60 .ensures)
+
+pub to-float-spec : {M : Type 1} → statement M
+to-float-spec = tie.close (tie.spec over-60-requires returns returns-2 returns-3)

@@ -1,0 +1,21 @@
+-- `angles::turn::place` meets its contract.
+use mathlib.Core.Path.{sym, subst}
+use Prim.Native.Nat.{ℕ}
+use borrow.Author.Needs.{needs}
+use Rattle.angles.specs.Sizes.{TurnOf}
+use Rattle.angles.proofs.turn.place.Statement.{statement}
+use Rattle.angles.proofs.turn.place.Tie as tie
+
+split-requires : tie.Need-split-requires
+split-requires c κs = search needs
+
+nearest-turn-requires : tie.Need-nearest-turn-requires
+nearest-turn-requires c κs = search needs
+
+returns : tie.Need-returns
+returns c =
+    let t = c .nearest-turn .result in
+    subst (λ (y : ℕ). TurnOf y (t .quarter) (t .size) (t .below)) (sym (c .before .split .ensures .0)) (c .nearest-turn .ensures)
+
+pub place-spec : {M : Type 1} → statement M
+place-spec = tie.close (tie.spec split-requires nearest-turn-requires returns)

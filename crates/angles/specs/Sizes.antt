@@ -1,0 +1,73 @@
+-- The recipes over sizes (natural numbers), as the code works them out. The laws beside tie them to `Angles` and `Arcs`.
+use mathlib.Core.Path.{_≡_}
+use mathlib.Core.Bool.{Bool, true, false, not}
+use Prim.Native.Nat.{ℕ, zero, suc, _+_, _-_, _*_, _/_, _^_, _≤_, _<_}
+use lib.Ieee.{Float}
+use Rattle.angles.specs.declared.series.Partial.{Partial}
+use Rattle.angles.specs.declared.arc.Arc.{Arc}
+use Rattle.angles.specs.Angles.{signed, divisor, Q, scaled, quarters, rest, mod4}
+use Rattle.angles.specs.Arcs.{arcTerm, arcSum}
+
+-- ---- the two series
+
+-- the next term's size
+abbrev pub nextOf : ℕ → ℕ → ℕ → ℕ
+nextOf u d t = t * u / 2 ^ 60 * u / 2 ^ 60 / d
+
+-- two terms further: one taken off, one added
+abbrev pub pairOf : ℕ → ℕ → ℕ → Partial → Partial
+pairOf u d e p =
+    record {
+      sum = p .sum - nextOf u d (p .term) + nextOf u e (nextOf u d (p .term));
+      term = nextOf u e (nextOf u d (p .term));
+    }
+
+abbrev pub twice : ℕ → ℕ
+twice zero = zero
+twice (suc i) = suc (suc (twice i))
+
+-- after 2i terms
+unfoldable pub pairs : ℕ → ℕ → ℕ → ℕ → Partial
+pairs c u t zero = record { sum = t; term = t }
+pairs c u t (suc i) = pairOf u (divisor c (twice i)) (divisor c (suc (twice i))) (pairs c u t i)
+
+-- ---- the ring
+
+-- whether place q is negative, at a rest that is negative where b is true
+abbrev pub negativeAt : ℕ → Bool → Bool
+negativeAt zero b = b
+negativeAt (suc zero) b = false
+negativeAt (suc (suc zero)) b = not b
+negativeAt (suc (suc (suc q))) b = true
+
+-- its size, at a rest of the size u
+abbrev pub sizeAt : ℕ → ℕ → ℕ
+sizeAt zero u = pairs 1 u u 4 .sum
+sizeAt (suc zero) u = pairs 0 u (2 ^ 60) 4 .sum
+sizeAt (suc (suc q)) u = sizeAt q u
+
+-- ---- the reduction
+
+-- y is k quarters and u more, or u less where b is true, and u is below an eighth turn
+abbrev pub TurnOf : ℕ → ℕ → ℕ → Bool → Type 0
+TurnOf y k u false = (2 * u < Q) × (y ≡ k * Q + u)
+TurnOf y k u true = (2 * u < Q) × (y + u ≡ k * Q)
+
+-- q is the argument's quarters, modulo 4, and u with the sign b its rest
+pub record Reduced (x : Float) (q : ℕ) (b : Bool) (u : ℕ) : Type 0 where
+  pub quarter : q ≡ mod4 (quarters (scaled x))
+  pub rests : signed b u ≡ rest (scaled x)
+  pub four : q < 4
+  pub small : u < 2 ^ 60
+
+-- ---- acos
+
+-- the first n terms are summed
+pub record ArcAt (h s n : ℕ) (a : Arc) : Type 0 where
+  pub summed : a .sum ≡ arcSum h s n
+  pub next : a .p ≡ arcTerm h s n
+
+-- with room for the terms to come
+pub record ArcFits (n : ℕ) (a : Arc) : Type 0 where
+  pub room : a .sum + 2 * a .p ≤ 2 ^ 61
+  pub small : (2 * n + 1) * a .p ≤ 2 ^ 60

@@ -1,0 +1,121 @@
+// sin, cos and acos by whole numbers scaled by 2^60, as the papers' recipes have them: the same bits on every machine.
+// An argument outside the range, or a NaN, is answered `Outside`.
+ghost use mathlib.Core.Path.{_≡_};
+ghost use Rattle.angles.specs.Angles.{inRange, tiny, regionOf, sinOf, cosOf};
+ghost use Rattle.angles.specs.Arcs.{acosOf};
+ghost use Rattle.angles.specs.Both.{bothOf};
+use arc::arc_cosine;
+use fixed::to_float;
+use ring::both_at;
+use ring::ring_at;
+use turn::reduced;
+
+pub mod arc;
+pub mod fixed;
+pub mod ring;
+pub mod series;
+pub mod turn;
+
+// What sin, cos and acos answer.
+pub enum Angle {
+    Is(f64),
+    Outside,
+}
+
+// What sin_cos answers: the sine, then the cosine.
+pub enum Both {
+    Are(f64, f64),
+    Outside,
+}
+
+// Where an argument of sin or cos lies: over 1,024 in size or a NaN, below 2^-26 in size, or between.
+pub enum Zone {
+    Outside,
+    Tiny,
+    Inside,
+}
+
+// Whether the size is at most 1,024.
+fn in_range(x: f64) -> bool
+    ensures { λ r. ⌜ r ≡ inRange x ⌝ }
+{
+    if -1024.0 <= x { x <= 1024.0 } else { false }
+}
+
+// Whether the size is below 2^-26.
+fn is_tiny(x: f64) -> bool
+    ensures { λ r. ⌜ r ≡ tiny x ⌝ }
+{
+    if -1.490116119384765625e-8 < x {
+        x < 1.490116119384765625e-8
+    } else {
+        false
+    }
+}
+
+pub fn region(x: f64) -> Zone
+    ensures { λ r. ⌜ r ≡ regionOf x ⌝ }
+{
+    if in_range(x) {
+        if is_tiny(x) { Zone::Tiny } else { Zone::Inside }
+    } else {
+        Zone::Outside
+    }
+}
+
+pub fn sin(x: f64) -> Angle
+    ensures { λ r. ⌜ r ≡ sinOf x ⌝ }
+{
+    let g = region(x);
+    match g {
+        Zone::Outside => Angle::Outside,
+        Zone::Tiny => Angle::Is(x),
+        Zone::Inside => {
+            let t = reduced(x);
+            Angle::Is(to_float(ring_at(t.quarter, t.below, t.size)))
+        }
+    }
+}
+
+pub fn cos(x: f64) -> Angle
+    ensures { λ r. ⌜ r ≡ cosOf x ⌝ }
+{
+    let g = region(x);
+    match g {
+        Zone::Outside => Angle::Outside,
+        Zone::Tiny => Angle::Is(1.0),
+        Zone::Inside => {
+            let t = reduced(x);
+            Angle::Is(to_float(ring_at((t.quarter + 1) % 4, t.below, t.size)))
+        }
+    }
+}
+
+// The sine and the cosine of one angle: one reduction, each series once.
+pub fn sin_cos(x: f64) -> Both
+    ensures { λ r. ⌜ r ≡ bothOf x ⌝ }
+{
+    let g = region(x);
+    match g {
+        Zone::Outside => Both::Outside,
+        Zone::Tiny => Both::Are(x, 1.0),
+        Zone::Inside => {
+            let t = reduced(x);
+            let b = both_at(t.quarter, t.below, t.size);
+            let s = to_float(b.sine);
+            let c = to_float(b.cosine);
+            Both::Are(s, c)
+        }
+    }
+}
+
+pub fn acos(w: f64) -> Angle
+    ensures { λ r. ⌜ r ≡ acosOf w ⌝ }
+{
+    if 0.0 <= w {
+        if w <= 1.0 {
+            return Angle::Is(arc_cosine(w));
+        }
+    }
+    Angle::Outside
+}

@@ -1,0 +1,73 @@
+// The two series of sin and cos over sizes: whole numbers over 2^60, none negative.
+ghost use mathlib.Core.Path.{_≡_};
+ghost use Prim.Native.Nat.{_*_, _/_, _^_, _≤_, _<_};
+ghost use Rattle.angles.specs.Sizes.{nextOf, pairOf, pairs};
+use wide::product::high_product;
+
+// t * u / 2^60.
+pub fn mul_shift(t: u64, u: u64) -> u64
+    requires { ⌜ u < 2 ^ 60 ⌝ }
+    ensures { λ r. ⌜ r ≡ t * u / 2 ^ 60 ⌝ }
+{
+    high_product(t, u * 16)
+}
+
+// A series so far: its sum and its last term.
+pub struct Partial {
+    pub sum: u64,
+    pub term: u64,
+}
+
+// The term after t, with the divisor d.
+pub fn next_term(t: u64, u: u64, d: u64) -> u64
+    requires { ⌜ (u < 2 ^ 60) × (0 < d) ⌝ }
+    ensures { λ r. ⌜ (r ≡ nextOf u d t) × (r ≤ t) ⌝ }
+{
+    mul_shift(mul_shift(t, u), u) / d
+}
+
+// Two terms further: one taken off, one added.
+pub fn pair(p: Partial, u: u64, d: u64, e: u64) -> Partial
+    requires { ⌜ (u < 2 ^ 60) × (0 < d) × (0 < e) × (p .term ≤ p .sum) ⌝ }
+    ensures { λ r. ⌜ (r ≡ pairOf u d e p) × (r .term ≤ r .sum) × (r .sum ≤ p .sum) ⌝ }
+{
+    let t = next_term(p.term, u, d);
+    let v = next_term(t, u, e);
+    Partial {
+        sum: p.sum - t + v,
+        term: v,
+    }
+}
+
+// The sine's series: the term u and eight more.
+pub fn sine_size(u: u64) -> u64
+    requires { ⌜ u < 2 ^ 60 ⌝ }
+    ensures { λ r. ⌜ (r ≡ pairs 1 u u 4 .sum) × (r ≤ 2 ^ 60) ⌝ }
+{
+    let a = pair(Partial { sum: u, term: u }, u, 6, 20);
+    let b = pair(a, u, 42, 72);
+    let c = pair(b, u, 110, 156);
+    let d = pair(c, u, 210, 272);
+    d.sum
+}
+
+// The cosine's series: the term 1 and eight more.
+pub fn cosine_size(u: u64) -> u64
+    requires { ⌜ u < 2 ^ 60 ⌝ }
+    ensures { λ r. ⌜ (r ≡ pairs 0 u (2 ^ 60) 4 .sum) × (r ≤ 2 ^ 60) ⌝ }
+{
+    let one = 0x1000_0000_0000_0000;
+    let a = pair(
+        Partial {
+            sum: one,
+            term: one,
+        },
+        u,
+        2,
+        12,
+    );
+    let b = pair(a, u, 30, 56);
+    let c = pair(b, u, 90, 132);
+    let d = pair(c, u, 182, 240);
+    d.sum
+}

@@ -1,0 +1,7 @@
+-- Lemmas on plain numbers and on floats.
+mod Arms
+mod Cases
+mod Roots
+mod Settled
+mod Shapes
+mod Whole

@@ -1,0 +1,3 @@
+-- Lemmas on plain numbers.
+mod Digits
+pub mod Products

@@ -1,0 +1,2 @@
+-- The whole square root of a number of two words.
+pub mod Isqrt
