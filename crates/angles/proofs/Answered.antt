@@ -2,13 +2,12 @@
 use mathlib.Core.Path.{_≡_, sym, ap, ap₂, _∙_}
 use mathlib.Core.Bool.{Bool}
 use Prim.Native.Nat.{ℕ, _+_, _%_}
-use lib.IntN.{ℤ}
 use lib.Ieee.{Float}
 use Rattle.angles.specs.declared.Zone.{Zone}
 use Rattle.angles.specs.Angles.{signed, scaled, quarters, ring, toFloat, sineAt, cosineAt, regionOf, sinBy, cosBy, sinOf, cosOf}
 use Rattle.angles.specs.Both.{both, bothOf}
 use Rattle.angles.specs.Sizes.{Reduced}
-use Rattle.angles.proofs.Reduction.{mod4-next}
+use Rattle.angles.specs.Reduction.{mod4-next}
 
 module _ (x : Float) {g v : Zone} (e : g ≡ regionOf x) (f : g ≡ v) where
   pub sin-by : sinBy v x ≡ sinOf x
@@ -23,9 +22,9 @@ module _ (x : Float) {g v : Zone} (e : g ≡ regionOf x) (f : g ≡ v) where
   unfolding bothOf
   both-by = ap₂ both sin-by cos-by
 
-module _ {x : Float} {q u : ℕ} {b : Bool} (t : Reduced x q b u) {z : ℤ} {y : Float} (f : y ≡ toFloat z) where
-  pub sine-at : z ≡ ring q (signed b u) → y ≡ toFloat (sineAt (scaled x))
-  sine-at e = f ∙ ap toFloat (e ∙ ap₂ ring (t .quarter) (t .rests))
+module _ {x : Float} {q u : ℕ} {b : Bool} (t : Reduced x q b u) {y : Float} where
+  pub sine-at : y ≡ toFloat (ring q (signed b u)) → y ≡ toFloat (sineAt (scaled x))
+  sine-at e = e ∙ ap toFloat (ap₂ ring (t .quarter) (t .rests))
 
-  pub cosine-at : z ≡ ring ((q + 1) % 4) (signed b u) → y ≡ toFloat (cosineAt (scaled x))
-  cosine-at e = f ∙ ap toFloat (e ∙ ap₂ ring (ap (λ (k : ℕ). (k + 1) % 4) (t .quarter) ∙ sym (mod4-next (quarters (scaled x)))) (t .rests))
+  pub cosine-at : y ≡ toFloat (ring ((q + 1) % 4) (signed b u)) → y ≡ toFloat (cosineAt (scaled x))
+  cosine-at e = e ∙ ap toFloat (ap₂ ring (ap (λ (k : ℕ). (k + 1) % 4) (t .quarter) ∙ sym (mod4-next (quarters (scaled x)))) (t .rests))

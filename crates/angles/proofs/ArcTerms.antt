@@ -1,12 +1,14 @@
 -- Laws of the arc's series. Assumes nothing.
 use mathlib.Core.Path.{_≡_, refl, sym, ap, _∙_, subst}
-use Prim.Native.Nat.{ℕ, zero, suc, _+_, _-_, _*_, _/_, _^_, _≤_, _<_}
-use native.Mathlib.Nat.{mul-assoc, mul-comm, le-trans, le-of-eq, mul-le-mul-left, mul-le-mul-right, div-le-of-le-mul, div-mul-le-self, div-le-self}
+use Prim.Native.Nat.{ℕ, zero, suc, _+_, _-_, _*_, _/_, _%_, _^_, _≤_, _<_}
+use native.Mathlib.Nat.{mul-one, zero-mul, add-mul, mul-left-comm, mod-lt, lt-of-le-of-lt, div-add-mod', mul-assoc, mul-comm, le-trans, le-of-eq, mul-le-mul-left, mul-le-mul-right, div-le-of-le-mul, div-mul-le-self, div-le-self}
 use native.Mathlib.Numerals.{add-one}
 use native.Mathlib.Omega.{arith}
+use lib.Dec.{lit<}
 use Rattle.angles.specs.declared.arc.Arc.{Arc}
-use Rattle.angles.specs.Arcs.{arcTerm, arcSum, arcNext}
+use Rattle.angles.specs.Arcs.{arcTerm, arcSum}
 use Rattle.angles.specs.Sizes.{ArcAt, ArcFits}
+use Rattle.angles.proofs.Division.{reciprocal}
 
 pub half : (p h : ℕ) → h ≤ 2 ^ 59 → p * h / 2 ^ 60 * 2 ≤ p
 half p h l = go (p * h / 2 ^ 60) (p * h) (div-mul-le-self (p * h) (2 ^ 60)) (mul-le-mul-left p l)
@@ -44,42 +46,105 @@ held s p q k a b =
     fin : (A B C D E F G : ℕ) → C ≤ D → A ≤ B → B ≡ C * 2 → E ≤ F → E ≡ D * 2 → F ≡ G → G ≤ s → A ≤ s
     fin A B C D E F G a b c d e f g = omega arith
 
--- ---- one term: k is 2n + 1
+-- ---- (2n + 1) / (2n + 2) as one product: the factor is 2 ^ 64 less its share
 
-module _ (h n : ℕ) (a : Arc) (q : ℕ) (H : h ≤ 2 ^ 59) (N : n < 60) (f : ArcFits n a) (e : q ≡ a .p * h / 2 ^ 60) where
+module _ (n : ℕ) (N : n < 60) where
   abbrev k : ℕ
   k = 2 * n + 1
+
+  abbrev share : ℕ
+  share = 2 ^ 63 / (n + 1)
+
+  abbrev factor : ℕ
+  factor = 2 ^ 64 - 1 - (share - 1)
+
+  abbrev over : ℕ
+  over = 2 ^ 63 % (n + 1)
+
+  shared : share * (n + 1) + over ≡ 2 ^ 63
+  shared = div-add-mod' (2 ^ 63) (n + 1)
+
+  left : over < n + 1
+  left = mod-lt (2 ^ 63) (omega arith)
+
+  pub some-share : 1 ≤ share
+  some-share = go share over shared left
+    where
+      go : (s r : ℕ) → s * (n + 1) + r ≡ 2 ^ 63 → r < n + 1 → 1 ≤ s
+      go zero r e l = absurd (no (zero * (n + 1)) (zero-mul (n + 1)) e)
+        where
+          no : (z : ℕ) → z ≡ 0 → z + r ≡ 2 ^ 63 → ⊥
+          no z f e = omega arith
+      go (suc s) r e l = omega arith
+
+  factor-is : factor * (k + 1) ≡ 2 ^ 64 * k + 2 * over
+  factor-is =
+      go (factor * (k + 1)) (share * (k + 1)) (share * (n + 1)) over
+      (sym (add-mul factor share (k + 1)) ∙ ap (λ (z : ℕ). z * (k + 1)) whole)
+      (ap (λ (z : ℕ). share * z) two ∙ mul-left-comm share 2 (n + 1)) shared
+    where
+      two : k + 1 ≡ 2 * (n + 1)
+      two = omega arith
+
+      whole : factor + share ≡ 2 ^ 64
+      whole = omega (arith, some-share, div-le-self (2 ^ 63) (n + 1))
+
+      go : (a b c r : ℕ) → a + b ≡ 2 ^ 64 * (k + 1) → b ≡ 2 * c → c + r ≡ 2 ^ 63 → a ≡ 2 ^ 64 * k + 2 * r
+      go a b c r e f g = omega arith
+
+  as-product : (q : ℕ) → q * k ≤ 2 ^ 60 → q * factor / 2 ^ 64 ≡ q * k / (k + 1)
+  as-product q h = reciprocal q factor k (k + 1) (2 * over) (omega arith) factor-is (lt-of-le-of-lt (le-trans (mul-le-mul-left q bound) h) (lit< tt))
+    where
+      bound : 2 * over ≤ k
+      bound = omega (arith, left)
+
+-- ---- one term
+
+module _ (h n : ℕ) (a : Arc) (q v : ℕ) (H : h ≤ 2 ^ 59) (N : n < 60) (f : ArcFits n a) (e : q ≡ a .p * h / 2 ^ 60) (g : v ≡ q * factor n N / 2 ^ 64) (w : ℕ) (r : w ≡ a .p / (2 * n + 1)) where
+  abbrev d : ℕ
+  d = 2 * n + 1
 
   halved : q * 2 ≤ a .p
   halved = subst (λ (z : ℕ). z * 2 ≤ a .p) (sym e) (half (a .p) h H)
 
-  pub product-fits : q * k ≤ 2 ^ 60
-  product-fits = room (2 ^ 60) (a .p) q k halved (f .small)
+  is : v ≡ q * d / (d + 1)
+  is = g ∙ as-product n N q (room (2 ^ 60) (a .p) q d halved (f .small))
 
-  pub term-fits : ArcFits (n + 1) (record { sum = a .sum + a .p / k; p = q * k / (k + 1) })
+  abbrev after : Arc
+  after = record { sum = a .sum + w; p = v }
+
+  pub term-fits : ArcFits (n + 1) after
   term-fits =
       record {
-        room = go (a .sum) (a .p) (a .p / k) (q * k / (k + 1)) halved (div-le-self (a .p) k) (less q k) (f .room);
-        small = subst (λ (d : ℕ). d * (q * k / (k + 1)) ≤ 2 ^ 60) two (held (2 ^ 60) (a .p) q k halved (f .small));
+        room = go (a .sum) (a .p) w v halved (subst (λ (z : ℕ). z ≤ a .p) (sym r) (div-le-self (a .p) d)) (subst (λ (z : ℕ). z ≤ q) (sym is) (less q d)) (f .room);
+        small = subst (λ (z : ℕ). (2 * (n + 1) + 1) * z ≤ 2 ^ 60) (sym is) (subst (λ (c : ℕ). c * (q * d / (d + 1)) ≤ 2 ^ 60) two (held (2 ^ 60) (a .p) q d halved (f .small)));
       }
     where
       go : (s p t v : ℕ) → q * 2 ≤ p → t ≤ p → v ≤ q → s + 2 * p ≤ 2 ^ 61 → s + t + 2 * v ≤ 2 ^ 61
       go s p t v i j l m = omega arith
 
-      two : k + 2 ≡ 2 * (n + 1) + 1
+      two : d + 2 ≡ 2 * (n + 1) + 1
       two = omega arith
 
-  pub term-at : (s : ℕ) → ArcAt h s n a → ArcAt h s (n + 1) (record { sum = a .sum + a .p / k; p = q * k / (k + 1) })
+  pub term-at : (s : ℕ) → ArcAt h s n a → ArcAt h s (n + 1) after
   unfolding arcTerm arcSum
-  term-at s g =
+  term-at s t =
       record {
-        summed = (λ i. g .summed i + g .next i / k) ∙ ap (arcSum h s) (sym (add-one n));
-        next = ap (λ (x : ℕ). x * k / (k + 1)) (e ∙ ap (λ (x : ℕ). x * h / 2 ^ 60) (g .next)) ∙ ap (λ (d : ℕ). arcTerm h s n * h / 2 ^ 60 * k / d) one ∙ ap (arcTerm h s) (sym (add-one n));
+        summed = (λ i. t .summed i + r i) ∙ ap (λ (z : ℕ). arcSum h s n + z / d) (t .next) ∙ ap (arcSum h s) (sym (add-one n));
+        next = is ∙ ap (λ (x : ℕ). x * d / (d + 1)) (e ∙ ap (λ (x : ℕ). x * h / 2 ^ 60) (t .next)) ∙ ap (λ (c : ℕ). arcTerm h s n * h / 2 ^ 60 * d / c) one ∙ ap (arcTerm h s) (sym (add-one n));
       }
     where
-      one : k + 1 ≡ 2 * n + 2
+      one : d + 1 ≡ 2 * n + 2
       one = omega arith
 
-pub none-at : (h s : ℕ) → ArcAt h s 0 (record { sum = 0; p = s })
+-- ---- term 0
+
+pub first-fits : (h s q : ℕ) → h ≤ 2 ^ 59 → s ≤ 2 ^ 60 → q ≡ s * h / 2 ^ 60 → ArcFits 1 (record { sum = s; p = q / 2 })
+first-fits h s q H S e = let k : q * 2 ≤ s = subst (λ (z : ℕ). z * 2 ≤ s) (sym e) (half s h H) in record { room = omega arith; small = omega arith }
+
+pub first-at : (h s q : ℕ) → q ≡ s * h / 2 ^ 60 → ArcAt h s 1 (record { sum = s; p = q / 2 })
 unfolding arcTerm arcSum
-none-at h s = record { summed = refl; next = refl }
+first-at h s q e = record { summed = go s; next = ap (λ (z : ℕ). z / 2) (e ∙ sym (mul-one (s * h / 2 ^ 60))) }
+  where
+    go : (s : ℕ) → s ≡ 0 + s / 1
+    go s = omega arith

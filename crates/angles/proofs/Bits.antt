@@ -1,14 +1,14 @@
 -- The bit pattern of a float from 2 ^ -26 to 2 ^ 10: its exponent's field and its digits give the float times 2 ^ 60, truncated. Assumes nothing.
 use mathlib.Core.Path.{_≡_, refl, sym, ap, _∙_, subst}
-use mathlib.Core.Bool.{Bool, true, false, not, _&&_, _||_, cond}
+use mathlib.Core.Bool.{Bool, true, false, not, cond}
 use Prim.Native.Nat.{ℕ, zero, suc, _+_, _-_, _*_, _/_, _%_, _^_, _≤_, _<_}
-use native.Mathlib.Nat.{le-trans, le-of-eq, lt-of-lt-of-le, lt-of-le-of-lt, lt-of-not-le, lt-irrefl, mul-comm, mul-assoc, mul-right-comm, mul-le-mul-right, le-of-mul-le-mul-right, le-add-right, mul-one, one-mul, mod-lt, mod-eq-of-lt}
+use native.Mathlib.Nat.{le-trans, le-of-eq, lt-of-lt-of-le, lt-of-le-of-lt, lt-of-not-le, lt-irrefl, mul-comm, mul-assoc, mul-right-comm, mul-le-mul-right, le-of-mul-le-mul-right, le-add-right, mod-lt, mod-eq-of-lt}
 use native.Mathlib.Omega.{arith}
-use lib.IntN.{ℤ, pos, negsuc}
-use lib.Dec.{T, leb, ltb, eqb, nleb→lt, lit≤, lit<}
+use lib.IntN.{pos, negsuc}
+use lib.Dec.{T, leb, eqb, nleb→lt, lit≤, lit<}
 use lib.Pow.{pow-add, pow-pos, pow-mono, shl-lt, shl-shr, shr-shr, shl-exact}
 use lib.Bits.{bitAnd, bitOr, and-mask, or-shifted-r}
-use lib.Ieee.{Float, nan, inf, fin, binary64, up, down, odd, fits, isNan, ofFields, ofBits, toBits, lt, le}
+use lib.Ieee.{Float, nan, inf, fin, binary64, odd, fits, isNan, ofFields, ofBits, toBits, le}
 use lib.Ieee.Bits.{ofBits-toBits}
 use lib.Ieee.Exact.{HasValue, odd-sign}
 use lib.Ieee.Nearest.{div-same}

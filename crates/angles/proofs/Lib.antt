@@ -1,6 +1,5 @@
 mod Tests
 mod Division
-mod Reduction
 mod Bits
 mod Rounding
 mod Regions

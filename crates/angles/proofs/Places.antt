@@ -1,13 +1,15 @@
 -- The places of the ring: even ones take the sine's series, odd ones the cosine's. Assumes nothing.
-use mathlib.Core.Path.{_≡_, refl, sym, ap₂, _∙_}
-use mathlib.Core.Bool.{Bool}
+use mathlib.Core.Path.{_≡_, refl, sym, ap, ap₂, _∙_}
+use mathlib.Core.Bool.{Bool, true, false}
 use Prim.Native.Nat.{ℕ, zero, suc, _+_, _%_, _^_, _<_}
 use native.Mathlib.Omega.{arith}
-use Rattle.angles.specs.Angles.{signed, ring}
-use Rattle.angles.specs.Sizes.{pairs, negativeAt, sizeAt}
+use lib.Dec.{leb}
+use lib.Ieee.{Float, unlike}
+use Rattle.angles.specs.Angles.{signed, ring, toFloat}
+use Rattle.angles.specs.Sizes.{negativeAt, sizeAt}
 use Rattle.angles.specs.Series.{ring-is}
 
-even-size : (q u : ℕ) → q < 4 → q % 2 ≡ 0 → pairs 1 u u 4 .sum ≡ sizeAt q u
+pub even-size : (q u : ℕ) → q < 4 → q % 2 ≡ 0 → sizeAt 0 u ≡ sizeAt q u
 even-size zero u l e = refl
 even-size (suc zero) u l e = absurd (no e)
   where
@@ -15,25 +17,43 @@ even-size (suc zero) u l e = absurd (no e)
     no e = omega arith
 even-size (suc (suc q)) u l e = even-size q u (omega arith) (omega arith)
 
-odd-size : (q u : ℕ) → q < 4 → (q % 2 ≡ 0 → ⊥) → pairs 0 u (2 ^ 60) 4 .sum ≡ sizeAt q u
+pub odd-size : (q u : ℕ) → q < 4 → (q % 2 ≡ 0 → ⊥) → sizeAt 1 u ≡ sizeAt q u
 odd-size zero u l e = absurd (e refl)
 odd-size (suc zero) u l e = refl
 odd-size (suc (suc q)) u l e = odd-size q u (omega arith) (λ (z : q % 2 ≡ 0). e (omega arith))
 
-module _ (q : ℕ) (b : Bool) (u : ℕ) {n : Bool} {m : ℕ} (Q : q < 4) (U : u < 2 ^ 60) (N : n ≡ negativeAt q b) where
-  pub even-place : m ≡ pairs 1 u u 4 .sum → q % 2 ≡ 0 → signed n m ≡ ring q (signed b u)
-  even-place h e = ap₂ signed N (h ∙ even-size q u Q e) ∙ sym (ring-is q b u Q U)
+-- the sign: the second half of the ring is turned round
 
-  pub odd-place : m ≡ pairs 0 u (2 ^ 60) 4 .sum → (q % 2 ≡ 0 → ⊥) → signed n m ≡ ring q (signed b u)
-  odd-place h e = ap₂ signed N (h ∙ odd-size q u Q e) ∙ sym (ring-is q b u Q U)
+no-more : (q : ℕ) → suc (suc (suc (suc q))) < 4 → ⊥
+no-more q l = omega arith
+
+pub even-sign : (q : ℕ) (b : Bool) → q < 4 → q % 2 ≡ 0 → unlike (leb 2 q) b ≡ negativeAt q b
+even-sign zero false l e = refl
+even-sign zero true l e = refl
+even-sign (suc zero) b l e = absurd (no e)
+  where
+    no : _≡_ {A = ℕ} 1 0 → ⊥
+    no e = omega arith
+even-sign (suc (suc zero)) false l e = refl
+even-sign (suc (suc zero)) true l e = refl
+even-sign (suc (suc (suc zero))) b l e = absurd (no e)
+  where
+    no : _≡_ {A = ℕ} 1 0 → ⊥
+    no e = omega arith
+even-sign (suc (suc (suc (suc q)))) b l e = absurd (no-more q l)
+
+pub odd-sign : (q : ℕ) (b : Bool) → q < 4 → (q % 2 ≡ 0 → ⊥) → leb 2 q ≡ negativeAt q b
+odd-sign zero b l e = absurd (e refl)
+odd-sign (suc zero) b l e = refl
+odd-sign (suc (suc zero)) b l e = absurd (e refl)
+odd-sign (suc (suc (suc zero))) b l e = refl
+odd-sign (suc (suc (suc (suc q)))) b l e = absurd (no-more q l)
+
+-- a place as a float, from its sign and size
+pub placed : (q : ℕ) (b : Bool) (u : ℕ) {n : Bool} {m : ℕ} {y : Float} → q < 4 → u < 2 ^ 60 → n ≡ negativeAt q b → m ≡ sizeAt q u → y ≡ toFloat (signed n m) → y ≡ toFloat (ring q (signed b u))
+placed q b u l h N M Y = Y ∙ ap toFloat (ap₂ signed N M ∙ sym (ring-is q b u l h))
 
 -- the next place
 
 pub next-four : (q : ℕ) → (q + 1) % 4 < 4
 next-four q = omega arith
-
-pub next-odd : (q : ℕ) → q % 2 ≡ 0 → (q + 1) % 4 % 2 ≡ 0 → ⊥
-next-odd q e f = omega arith
-
-pub next-even : (q : ℕ) → (q % 2 ≡ 0 → ⊥) → (q + 1) % 4 % 2 ≡ 0
-next-even q e = omega arith

@@ -1,15 +1,14 @@
 -- Where an argument lies. One that is neither outside nor tiny is finite, and its size is from 2 ^ -26 to 2 ^ 10. Assumes nothing.
-use mathlib.Core.Path.{_≡_, refl, sym, ap, ap₂, _∙_, subst}
-use mathlib.Core.Logic.{_⊎_, inl, inr}
-use mathlib.Core.Bool.{Bool, true, false, _&&_, _||_, cond, true≢false, false≢true}
-use Prim.Native.Nat.{ℕ, zero, suc, _+_, _*_, _/_, _^_, _≤_, _<_}
-use native.Mathlib.Nat.{le-of-lt, le-of-eq, zero-lt-suc, zero-mul, mul-pos}
+use mathlib.Core.Path.{_≡_, refl, sym, ap, ap₂, _∙_}
+use mathlib.Core.Bool.{Bool, true, false, _&&_, cond, false≢true}
+use Prim.Native.Nat.{ℕ, zero, suc, _+_, _*_, _^_, _≤_, _<_}
+use native.Mathlib.Nat.{zero-lt-suc, zero-mul}
 use native.Mathlib.Omega.{arith}
 use lib.IntN.{ℤ, pos, negsuc}
-use lib.Dec.{T, ltb, eqb, ltb→lt, lt→ltb, eqb→eq}
+use lib.Dec.{T, ltb, lt→ltb}
 use borrow.Author.Tests.{ltb-true, ltb-false, lt-ltb}
 use lib.Ieee.{Float, nan, inf, fin, binary64, up, down, ofBits, neg, lt, le, eq}
-use lib.Ieee.Fits.{down-pos, and-l}
+use lib.Ieee.Fits.{down-pos}
 use lib.Ieee.Positive.{positive, cross→le}
 use Rattle.angles.specs.declared.Zone.{Zone}
 use Rattle.angles.specs.declared.Zone.the-variants as Zone

@@ -1,19 +1,19 @@
 -- n / 2 ^ 60 as a float, from the two halves of n, and its sign. Assumes nothing.
 use mathlib.Core.Path.{_≡_, refl, sym, ap, _∙_, subst}
-use mathlib.Core.Bool.{Bool, true, false, cond, true≢false, false≢true}
+use mathlib.Core.Bool.{Bool, true, false, true≢false}
 use Prim.Native.Nat.{ℕ, zero, suc, _+_, _-_, _*_, _/_, _%_, _^_, _≤_, _<_}
-use native.Mathlib.Nat.{le-trans, le-of-lt, lt-of-lt-of-le, zero-lt-suc, mul-one, one-mul, mul-comm, mul-assoc, mul-right-comm, add-mul, mul-pos, mod-lt}
-use native.Mathlib.Omega.{arith}
-use lib.IntN.{ℤ, pos, negsuc, negℤ}
-use lib.Dec.{T, ltb, le→leb, lit<, lit≤}
-use lib.Pow.{pow-add, pow-pos, pow-mono, shl-lt, shr-lt, split}
+use native.Mathlib.Nat.{le-trans, le-of-lt, lt-of-lt-of-le, mul-comm, mul-assoc, mul-right-comm, add-mul, mul-pos, mod-lt}
+use lib.IntN.{pos, negsuc}
+use lib.Dec.{T, le→leb, lit≤}
+use lib.Pow.{pow-pos, shl-lt, shr-lt, split}
 use lib.Bits.{bitAnd, and-mask, mask-lt}
-use lib.Ieee.{Float, nan, inf, fin, Format, binary64, prec, emax, low, up, down, odd, units, round, neg, add, sum, mul, ofInt, inFloat, ofBits}
-use lib.Ieee.Fits.{down-pos, round-is}
+use lib.Ieee.{Float, nan, inf, fin, Format, binary64, up, down, round, neg, add, sum, mul, ofInt, inFloat, ofBits}
+use lib.Ieee.Fits.{down-pos}
 use lib.Ieee.Exact.{HasValue, round-exact}
 use lib.Ieee.Scale.{round-same}
 use lib.Ieee.Back.{round-whole}
 use Rattle.angles.specs.Angles.{signed, toFloat}
+use Rattle.angles.specs.Rounded.{neg-round}
 
 -- ---- a sum of two fractions over one denominator, neither negative
 
@@ -104,22 +104,6 @@ pub lower-in : (n : ℕ) → T (inFloat binary64 (pos (bitAnd n (2 ^ 32 - 1))))
 lower-in n = half-in (bitAnd n (2 ^ 32 - 1)) (mask-lt n 32)
 
 -- ---- the sign
-
-neg-odd : (d q k l : ℕ) → neg (odd d false q k l) ≡ odd d true q k l
-unfolding neg odd
-neg-odd d zero k l = refl
-neg-odd d (suc q) k l = refl
-
-neg-units : (f : Format) (q k : ℕ) → neg (units f false q k) ≡ units f true q k
-unfolding units neg
-neg-units f q k = go (ltb (q * 2 ^ k) (2 ^ (low f + suc (emax f))))
-  where
-    go : (b : Bool) → neg (cond b (odd (suc (prec f)) false q k (low f)) (inf false)) ≡ cond b (odd (suc (prec f)) true q k (low f)) (inf true)
-    go true = neg-odd (suc (prec f)) q k (low f)
-    go false = refl
-
-pub neg-round : (f : Format) (n d : ℕ) → neg (round f false n d) ≡ round f true n d
-neg-round f n d = ap neg (round-is f false n d) ∙ neg-units f _ _ ∙ sym (round-is f true n d)
 
 module _ (s : Bool) (n : ℕ) (x : Float) where
   pub float-zero : s ≡ true → n ≡ 0 → x ≡ round binary64 false n (2 ^ 60) → x ≡ toFloat (signed s n)

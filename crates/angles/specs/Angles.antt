@@ -38,6 +38,7 @@ inRange x = le (neg most) x && le x most
 unfoldable pub tiny : Float → Bool
 tiny x = lt (neg least) x && lt x least
 
+-- outside, tiny, or between
 unfoldable pub regionOf : Float → Zone
 regionOf x = cond (inRange x) (cond (tiny x) Zone.Tiny Zone.Inside) Zone.Outside
 
@@ -76,7 +77,7 @@ mod4 (negsuc n) = 3 - n % 4
 unfoldable pub mulShift : ℤ → ℤ → ℤ
 mulShift a b = quotZ (a *ℤ b) (pos (2 ^ 60))
 
--- the divisor of term j + 1: 2(j + 1)(2(j + 1) + 1) at c = 1, for the sine, and (2(j + 1) - 1)2(j + 1) at c = 0, for the cosine
+-- the divisor of term i = j + 1: 2i(2i + 1) for the sine, where c is 1, and (2i - 1)2i for the cosine, where c is 0
 abbrev pub divisor : ℕ → ℕ → ℕ
 divisor c j = (2 * j + 1 + c) * (2 * j + 2 + c)
 
@@ -95,15 +96,17 @@ unfoldable pub series : ℕ → ℤ → ℤ → ℕ → ℤ
 series c r t zero = t
 series c r t (suc j) = series c r t j +ℤ alternate (suc j) (term c r t (suc j))
 
+-- the term r and eight more
 unfoldable pub sine : ℤ → ℤ
 sine r = series 1 r r 8
 
+-- the term 2 ^ 60 and eight more
 unfoldable pub cosine : ℤ → ℤ
 cosine r = series 0 r (pos (2 ^ 60)) 8
 
 -- ---- the answers
 
--- the ring of four
+-- the ring of four: sine, cosine, negated sine, negated cosine
 unfoldable pub ring : ℕ → ℤ → ℤ
 ring zero r = sine r
 ring (suc zero) r = cosine r
@@ -122,18 +125,22 @@ sineAt x = ring (mod4 (quarters x)) (rest x)
 abbrev pub cosineAt : ℤ → ℤ
 cosineAt x = ring (mod4 (quarters x +ℤ pos 1)) (rest x)
 
+-- sin by region: below 2 ^ -26 the argument itself
 abbrev pub sinBy : Zone → Float → Angle
 sinBy Zone.Outside x = Angle.Outside
 sinBy Zone.Tiny x = Angle.Is x
 sinBy Zone.Inside x = Angle.Is (toFloat (sineAt (scaled x)))
 
+-- cos by region: below 2 ^ -26 it is 1
 abbrev pub cosBy : Zone → Float → Angle
 cosBy Zone.Outside x = Angle.Outside
 cosBy Zone.Tiny x = Angle.Is one
 cosBy Zone.Inside x = Angle.Is (toFloat (cosineAt (scaled x)))
 
+-- sin, for every float
 unfoldable pub sinOf : Float → Angle
 sinOf x = sinBy (regionOf x) x
 
+-- cos, for every float
 unfoldable pub cosOf : Float → Angle
 cosOf x = cosBy (regionOf x) x

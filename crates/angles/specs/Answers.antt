@@ -6,10 +6,12 @@ use Rattle.angles.specs.declared.Angle.the-variants as Angle
 use Rattle.angles.specs.declared.Both.{Both}
 use Rattle.angles.specs.declared.Both.the-variants as Both
 
+-- of sin, cos and acos
 abbrev pub angleAnswer : Angle → Answer Float
 angleAnswer (Angle.Is x) = Given x
 angleAnswer Angle.Outside = Refused 11 0 0
 
+-- of sin_cos: the sine, then the cosine
 abbrev pub bothAnswer : Both → Answer (Float × Float)
 bothAnswer (Both.Are s c) = Given (s, c)
 bothAnswer Both.Outside = Refused 11 0 0

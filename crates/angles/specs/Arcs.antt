@@ -1,6 +1,6 @@
 -- acos: D, its whole square root, sixty terms, one rounding. Whole numbers are ℕ, scaled by 2 ^ 60: none is negative, and division truncates.
 use mathlib.Core.Path.{_≡_, refl}
-use mathlib.Core.Bool.{Bool, true, false, cond, _&&_}
+use mathlib.Core.Bool.{Bool, false, cond, _&&_}
 use Prim.Native.Nat.{ℕ, zero, suc, _+_, _-_, _*_, _/_, _^_}
 use lib.Ieee.{Float, binary64, ofBits, round, le}
 use Rattle.wide.specs.Isqrt.{isqrt}
@@ -42,6 +42,7 @@ arcSum h s (suc n) = arcSum h s n + arcTerm h s n / (2 * n + 1)
 unfoldable pub arcOf : Float → Float
 arcOf w = let d = shortOf w in round binary64 false (2 * arcSum (d / 2) (rootOf d) 60) (2 ^ 60)
 
+-- acos, for every float
 unfoldable pub acosOf : Float → Angle
 acosOf w = cond (inUnit w) (Angle.Is (arcOf w)) Angle.Outside
 

@@ -12,5 +12,6 @@ both (Angle.Is s) (Angle.Is c) = Both.Are s c
 both (Angle.Is s) Angle.Outside = Both.Outside
 both Angle.Outside b = Both.Outside
 
+-- sin and cos of x
 unfoldable pub bothOf : Float → Both
 bothOf x = both (sinOf x) (cosOf x)

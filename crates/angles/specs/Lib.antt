@@ -1,8 +1,14 @@
--- What sin, cos and acos are
+-- what sin, cos and acos are
 pub mod Angles
 pub mod Arcs
 pub mod Both
 pub mod Answers
+pub mod Exact
 -- what the code works with
 pub mod Sizes
+-- laws
 pub mod Series
+pub mod Reduction
+pub mod Near
+pub mod Rounded
+pub mod Accuracy

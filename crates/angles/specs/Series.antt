@@ -9,17 +9,19 @@ use lib.IntN.{ℤ, pos, negsuc, negℤ, _+ℤ_, _*ℤ_, negℤ-+ℤ, negℤ-neg�
 use lib.Signed.{quotZ}
 use lib.Ieee.{unlike}
 use borrow.Author.Tests.{le-ltb}
-use Rattle.angles.specs.declared.series.Partial.{Partial}
 use Rattle.angles.specs.Angles.{signed, mulShift, divisor, term, alternate, series, sine, cosine, ring}
-use Rattle.angles.specs.Sizes.{nextOf, pairOf, pairs, twice, negativeAt, sizeAt}
+use Rattle.angles.specs.Sizes.{nextOf, pairs, twice, negativeAt, sizeAt}
 
 -- ---- terms do not grow
 
 shift-le : (t u : ℕ) → u < 2 ^ 60 → t * u / 2 ^ 60 ≤ t
 shift-le t u h = div-le-of-le-mul (2 ^ 60) (le-trans (mul-le-mul-left t (le-of-lt h)) (le-of-eq (mul-comm t (2 ^ 60))))
 
+pub shifts-le : (t u : ℕ) → u < 2 ^ 60 → t * u / 2 ^ 60 * u / 2 ^ 60 ≤ t
+shifts-le t u h = le-trans (shift-le (t * u / 2 ^ 60) u h) (shift-le t u h)
+
 pub next-le : (t u d : ℕ) → u < 2 ^ 60 → nextOf u d t ≤ t
-next-le t u d h = le-trans (div-le-self (t * u / 2 ^ 60 * u / 2 ^ 60) d) (le-trans (shift-le (t * u / 2 ^ 60) u h) (shift-le t u h))
+next-le t u d h = le-trans (div-le-self (t * u / 2 ^ 60 * u / 2 ^ 60) d) (shifts-le t u h)
 
 -- ---- a sign goes through each operation
 
@@ -43,7 +45,7 @@ shift-signed : (s t : Bool) (a b : ℕ) → mulShift (signed s a) (signed t b) �
 unfolding mulShift
 shift-signed s t a b = ap (λ (z : ℤ). quotZ z (pos (2 ^ 60))) (mul-signed s t a b) ∙ quot-signed (unlike s t) (a * b) (2 ^ 60)
 
-twice-unlike : (s t : Bool) → unlike (unlike t s) s ≡ t
+pub twice-unlike : (s t : Bool) → unlike (unlike t s) s ≡ t
 twice-unlike false false = refl
 twice-unlike false true = refl
 twice-unlike true false = refl
@@ -55,7 +57,7 @@ next-signed s t a u d =
     ∙ ap (λ (z : ℤ). quotZ z (pos d)) (shift-signed (unlike t s) s (a * u / 2 ^ 60) u ∙ ap (λ (b : Bool). signed b (a * u / 2 ^ 60 * u / 2 ^ 60)) (twice-unlike s t))
     ∙ quot-signed t (a * u / 2 ^ 60 * u / 2 ^ 60) d
 
-add-signed : (s : Bool) (a b : ℕ) → signed s a +ℤ signed s b ≡ signed s (a + b)
+pub add-signed : (s : Bool) (a b : ℕ) → signed s a +ℤ signed s b ≡ signed s (a + b)
 add-signed false a b = refl
 add-signed true a b = sym (negℤ-+ℤ (pos a) (pos b))
 
@@ -69,7 +71,7 @@ sub-signed true a b h = sym (negℤ-+ℤ (pos a) (negℤ (pos b))) ∙ ap negℤ
 
 -- ---- the series, two terms at a time
 
-even : (i : ℕ) (z : ℤ) → alternate (twice i) z ≡ z
+pub even : (i : ℕ) (z : ℤ) → alternate (twice i) z ≡ z
 unfolding alternate
 even zero z = refl
 even (suc i) z = negℤ-negℤ (alternate (twice i) z) ∙ even i z
@@ -105,6 +107,19 @@ sized c s t u a h (suc i) =
   where
     last : (x y : ℕ) → x ≤ y + x
     last x y = omega arith
+
+-- no partial sum is above the first term
+pub pairs-le : (c u a : ℕ) → u < 2 ^ 60 → (i : ℕ) → pairs c u a i .sum ≤ a
+unfolding pairs
+pairs-le c u a h zero = le-refl a
+pairs-le c u a h (suc i) =
+    let p = pairs c u a i in
+    let d = divisor c (twice i) in
+    let e = divisor c (suc (twice i)) in
+    go (p .sum) (nextOf u d (p .term)) (nextOf u e (nextOf u d (p .term))) (next-le (p .term) u d h) (sized c false false u a h i .kept) (next-le (nextOf u d (p .term)) u e h) (pairs-le c u a h i)
+  where
+    go : (s t v : ℕ) → t ≤ pairs c u a i .term → pairs c u a i .term ≤ s → v ≤ t → s ≤ a → s - t + v ≤ a
+    go s t v j k l m = omega arith
 
 pub sine-is : (s : Bool) (u : ℕ) → u < 2 ^ 60 → sine (signed s u) ≡ signed s (pairs 1 u u 4 .sum)
 unfolding sine

@@ -22,6 +22,7 @@ pairOf u d e p =
       term = nextOf u e (nextOf u d (p .term));
     }
 
+-- 2i
 abbrev pub twice : ℕ → ℕ
 twice zero = zero
 twice (suc i) = suc (suc (twice i))

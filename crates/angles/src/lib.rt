@@ -1,11 +1,10 @@
-// sin, cos and acos by whole numbers scaled by 2^60, as the papers' recipes have them: the same bits on every machine.
+// sin, cos and acos by whole numbers scaled by 2^60, as document 01 has them: the same bits on every machine.
 // An argument outside the range, or a NaN, is answered `Outside`.
 ghost use mathlib.Core.Path.{_≡_};
 ghost use Rattle.angles.specs.Angles.{inRange, tiny, regionOf, sinOf, cosOf};
 ghost use Rattle.angles.specs.Arcs.{acosOf};
 ghost use Rattle.angles.specs.Both.{bothOf};
 use arc::arc_cosine;
-use fixed::to_float;
 use ring::both_at;
 use ring::ring_at;
 use turn::reduced;
@@ -53,6 +52,7 @@ fn is_tiny(x: f64) -> bool
     }
 }
 
+// Which of the three it is.
 pub fn region(x: f64) -> Zone
     ensures { λ r. ⌜ r ≡ regionOf x ⌝ }
 {
@@ -63,6 +63,7 @@ pub fn region(x: f64) -> Zone
     }
 }
 
+// The sine; the ring's place at the argument's quarters.
 pub fn sin(x: f64) -> Angle
     ensures { λ r. ⌜ r ≡ sinOf x ⌝ }
 {
@@ -72,11 +73,12 @@ pub fn sin(x: f64) -> Angle
         Zone::Tiny => Angle::Is(x),
         Zone::Inside => {
             let t = reduced(x);
-            Angle::Is(to_float(ring_at(t.quarter, t.below, t.size)))
+            Angle::Is(ring_at(t.quarter, t.below, t.size))
         }
     }
 }
 
+// The cosine: the next place of the ring.
 pub fn cos(x: f64) -> Angle
     ensures { λ r. ⌜ r ≡ cosOf x ⌝ }
 {
@@ -86,7 +88,7 @@ pub fn cos(x: f64) -> Angle
         Zone::Tiny => Angle::Is(1.0),
         Zone::Inside => {
             let t = reduced(x);
-            Angle::Is(to_float(ring_at((t.quarter + 1) % 4, t.below, t.size)))
+            Angle::Is(ring_at((t.quarter + 1) % 4, t.below, t.size))
         }
     }
 }
@@ -102,13 +104,12 @@ pub fn sin_cos(x: f64) -> Both
         Zone::Inside => {
             let t = reduced(x);
             let b = both_at(t.quarter, t.below, t.size);
-            let s = to_float(b.sine);
-            let c = to_float(b.cosine);
-            Both::Are(s, c)
+            Both::Are(b.sine, b.cosine)
         }
     }
 }
 
+// The arc cosine, for an argument from 0 to 1.
 pub fn acos(w: f64) -> Angle
     ensures { λ r. ⌜ r ≡ acosOf w ⌝ }
 {

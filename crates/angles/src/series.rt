@@ -12,6 +12,14 @@ pub fn mul_shift(t: u64, u: u64) -> u64
     high_product(t, u * 16)
 }
 
+// q / d as one product, with the whole number next above 2^64 / d: exact where q * d is below 2^64.
+pub fn over(q: u64, d: u64) -> u64
+    requires { ⌜ (2 ≤ d) × (q * d < 2 ^ 64) ⌝ }
+    ensures { λ r. ⌜ r ≡ q / d ⌝ }
+{
+    high_product(q, 0xffff_ffff_ffff_ffff / d + 1)
+}
+
 // A series so far: its sum and its last term.
 pub struct Partial {
     pub sum: u64,
@@ -20,16 +28,16 @@ pub struct Partial {
 
 // The term after t, with the divisor d.
 pub fn next_term(t: u64, u: u64, d: u64) -> u64
-    requires { ⌜ (u < 2 ^ 60) × (0 < d) ⌝ }
-    ensures { λ r. ⌜ (r ≡ nextOf u d t) × (r ≤ t) ⌝ }
+    requires { ⌜ (u < 2 ^ 60) × (2 ≤ d) × (t * d < 2 ^ 64) ⌝ }
+    ensures { λ r. ⌜ (r ≡ nextOf u d t) × (r * d ≤ t) ⌝ }
 {
-    mul_shift(mul_shift(t, u), u) / d
+    over(mul_shift(mul_shift(t, u), u), d)
 }
 
 // Two terms further: one taken off, one added.
 pub fn pair(p: Partial, u: u64, d: u64, e: u64) -> Partial
-    requires { ⌜ (u < 2 ^ 60) × (0 < d) × (0 < e) × (p .term ≤ p .sum) ⌝ }
-    ensures { λ r. ⌜ (r ≡ pairOf u d e p) × (r .term ≤ r .sum) × (r .sum ≤ p .sum) ⌝ }
+    requires { ⌜ (u < 2 ^ 60) × (2 ≤ d) × (2 ≤ e) × (p .term ≤ p .sum) × (p .term * d < 2 ^ 64) × (p .term * e < 2 ^ 65) ⌝ }
+    ensures { λ r. ⌜ (r ≡ pairOf u d e p) × (r .term ≤ r .sum) × (r .sum ≤ p .sum) × (r .term * e ≤ p .term) ⌝ }
 {
     let t = next_term(p.term, u, d);
     let v = next_term(t, u, e);

@@ -1,6 +1,6 @@
 -- The outcomes of the helpers by the tests that the code makes: one lemma for each arm. Assumes nothing.
 use mathlib.Core.Path.{_≡_, refl, sym, ap, _∙_, subst}
-use mathlib.Core.Bool.{Bool, true, false, not, cond, _&&_, _||_, Bool·beq, true≢false}
+use mathlib.Core.Bool.{Bool, true, false, not, cond, _&&_, _||_, Bool·beq}
 use Prim.Native.Nat.{ℕ, zero, suc, _+_, _*_, _^_, _<_}
 use native.Mathlib.Nat.{mul-pos, zero-lt-suc, zero-mul, mul-one, one-mul, pow-succ'}
 use native.Mathlib.Omega.{arith}
@@ -12,10 +12,8 @@ use lib.Ieee.Scale.{finite}
 use lib.Ieee.Bits.{is-true, is-false}
 use lib.Ieee.Compare.{differs-from-itself, nan-differs}
 use lib.Ieee.Fits.{up-pos}
+use Rattle.wide.proofs.Patterns.{never}
 use Rattle.float.specs.Ops.{abs, max, min, clamp}
-
-pub never : {A : Type 0} → false ≡ true → A
-never e = absurd (true≢false (sym e))
 
 -- ---- a finite number against 0
 abbrev some : ℕ → Bool

@@ -1,36 +1,36 @@
 -- The root by cases of the argument, and by its pattern. Assumes nothing.
 use mathlib.Core.Path.{_≡_, refl, sym, ap, _∙_, subst}
-use mathlib.Core.Bool.{Bool, true, false, not, _&&_, _||_, true≢false, Bool·beq}
-use Prim.Native.Nat.{ℕ, zero, suc, _+_, _-_, _*_, _/_, _%_, _^_, _≤_, _<_}
-use native.Mathlib.Nat.{le-of-eq, le-of-lt, lt-of-lt-of-le, lt-of-le-of-lt, lt-irrefl, mul-pos, zero-lt-suc, zero-mul, mul-le-mul-right, mod-eq-of-lt, eq-zero-or-pos}
+use mathlib.Core.Bool.{Bool, true, false, _&&_, _||_, Bool·beq}
+use Prim.Native.Nat.{ℕ, zero, suc, _+_, _-_, _*_, _/_, _^_, _≤_, _<_}
+use native.Mathlib.Nat.{le-of-eq, lt-of-lt-of-le, lt-of-le-of-lt, lt-irrefl, mul-pos, zero-lt-suc, zero-mul, mul-le-mul-right, eq-zero-or-pos}
 use native.Mathlib.Omega.{arith}
 use mathlib.Core.Logic.{inl, inr}
-use lib.Dec.{T, ltb, eqb, eqb→eq, lt→ltb}
-use lib.Arith.{le→nltb}
+use lib.Dec.{T, eqb, eqb→eq, lt→ltb}
 use lib.Pow.{pow-pos, shl-lt}
 use lib.IntN.{ℤ, pos}
-use lib.Ieee.{Float, nan, inf, fin, binary64, up, down, size, div, lt, eq, isNan, fits, ofBits, toBits, nanBits, units}
+use lib.Ieee.{Float, nan, inf, fin, binary64, up, down, size, div, lt, eq, fits, ofBits, toBits, units}
 use lib.Ieee.Digits.{size-le}
 use lib.Ieee.Fits.{up-pos, down-pos, and-i, and-l, eq→eqb, kept-lt}
-use lib.Ieee.Bits.{ofBits-toBits, nanBits-above}
+use lib.Ieee.Bits.{ofBits-toBits}
 use lib.Ieee.Positive.{first-pos}
+use Rattle.wide.proofs.Patterns.{never}
 use Rattle.float.specs.Sqrt.{sqrt, rootUnits}
 use Rattle.float.specs.SqrtLaws.{fits-parts, units-lt}
-use Rattle.float.specs.Post.{unitsOf, rounded}
+use Rattle.float.specs.Post.{unitsOf, rounded, radicand}
 use Rattle.float.proofs.Roots.{join, ofBits-units, bits-value, sqrt-of-value}
-use Rattle.float.proofs.Shapes.{as-square}
+use Rattle.float.proofs.Settled.{radicand-range}
 
 -- ---- by the pattern
-pub root-bits-law : (b m j e r : ℕ) → b < 0x7ff0_0000_0000_0000 → m * 2 ^ j ≡ unitsOf b * 2 ^ 52 → 2 ^ 52 ≤ m → j < 2098
-    → e ≡ m * 2 ^ (j % 2) → 2 ^ 52 ≤ e → e < 2 ^ 54 → r ≡ rounded (e * 2 ^ 52) → 2 ^ 52 ≤ r → r < 2 ^ 53
-    → ofBits binary64 ((j / 2 + 485) * 2 ^ 52 + r) ≡ sqrt binary64 (ofBits binary64 b)
-root-bits-law b m j e r B h M J f el eh q ql qh =
-    let k = j / 2 + 485 in
-    let u-pos : 0 < unitsOf b = first-pos (unitsOf b) (2 ^ 52) (subst (λ (z : ℕ). 0 < z) h (mul-pos (lt-of-lt-of-le (pow-pos 52) M) (pow-pos j))) in
-    ofBits-units k r ql qh (omega arith)
+pub root-bits-law : (b g k r : ℕ) → 0 < b → b < 0x7ff0_0000_0000_0000 → unitsOf b * 2 ^ 1074 ≡ radicand g * 2 ^ 52 * (2 ^ k * 2 ^ k) → g < 2 ^ 53 → k < 2046
+    → r ≡ rounded (radicand g * 2 ^ 52) → 2 ^ 52 ≤ r → r < 2 ^ 53 → ofBits binary64 (k * 2 ^ 52 + r) ≡ sqrt binary64 (ofBits binary64 b)
+root-bits-law b g k r p B h G K q ql qh =
+    let e = radicand g in
+    let w = radicand-range g G in
+    let u-pos : 0 < unitsOf b = first-pos (unitsOf b) (2 ^ 1074) (subst (λ (z : ℕ). 0 < z) (sym h) (mul-pos (mul-pos (lt-of-lt-of-le (pow-pos 52) (w .0)) (pow-pos 52)) (mul-pos (pow-pos k) (pow-pos k)))) in
+    ofBits-units k r ql qh K
     ∙ ap (λ (z : ℕ). units binary64 false z k) q
-    ∙ sym (join (e * 2 ^ 52) k (mul-le-mul-right (2 ^ 52) el) (shl-lt 54 52 eh))
-    ∙ ap (rootUnits binary64) (sym (as-square (unitsOf b) m j e h f))
+    ∙ sym (join (e * 2 ^ 52) k (mul-le-mul-right (2 ^ 52) (w .0)) (shl-lt 54 52 (omega arith)))
+    ∙ ap (rootUnits binary64) (sym h)
     ∙ sym (sqrt-of-value (ofBits binary64 b) (unitsOf b) u-pos (bits-value b B))
 
 -- ---- zero
@@ -41,16 +41,7 @@ zero-is = refl
 z : Float
 z = fin false 0 (pos 0)
 
-never : {A : Type 0} → false ≡ true → A
-never e = absurd (true≢false (sym e))
-
 -- ---- above zero
-pub above-no-nan : (x : Float) → lt (ofBits binary64 0) x ≡ true → T (not (isNan x))
-unfolding isNan lt
-above-no-nan nan h = never (ap (λ (y : Float). lt y nan) (sym zero-is) ∙ h)
-above-no-nan (inf s) h = tt
-above-no-nan (fin s m e) h = tt
-
 not-zero : lt (ofBits binary64 0) (ofBits binary64 0) ≡ true → ⊥
 unfolding lt ofBits
 not-zero h = never h
@@ -61,11 +52,6 @@ above-bits x f h = elim (eq-zero-or-pos (toBits binary64 x)) [
   | inr p ↦ p
 ]
 
-pub no-nan-bits : (r : ℕ) → r < 0x7ff0_0000_0000_0000 → T (not (nanBits binary64 r))
-no-nan-bits r h =
-    let l : r < 2 ^ 63 = omega arith in
-    subst (λ (t : Bool). T (not t)) (sym (nanBits-above binary64 r ∙ ap (ltb 0x7ff0_0000_0000_0000) (mod-eq-of-lt l))) (le→nltb 0x7ff0_0000_0000_0000 r (le-of-lt h))
-
 -- a finite number's pattern is below infinity's
 bound : (k w : ℕ) → k ≤ 2045 → w < 2 ^ 53 → 0 + k * 2 ^ 52 + w < 0x7ff0_0000_0000_0000
 bound k w h l = omega arith
@@ -75,7 +61,7 @@ unfolding toBits
 fin-bits m e f =
     let n = suc m * up e * 2 ^ 1074 / down e in
     let k = size n - 53 in
-    let s : size n ≤ 2098 = size-le n 2098 (units-lt (suc m * up e) (down e) (down-pos e) (fits-parts false m e f .1)) in
+    let s : size n ≤ 2098 = size-le n 2098 (units-lt (suc m * up e) (down e) (down-pos e) (fits-parts false m e f .finite)) in
     bound k (n / 2 ^ k) (omega arith) (kept-lt 53 n)
 
 pub above-inf : (x : Float) → T (fits binary64 x) → lt (ofBits binary64 0) x ≡ true → 0x7ff0_0000_0000_0000 ≤ toBits binary64 x → x ≡ sqrt binary64 x

@@ -1,7 +1,7 @@
 -- Whole numbers that the functions of `root` compute. Assumes nothing.
 use mathlib.Core.Path.{_≡_, refl, sym, ap, ap₂, _∙_, subst}
 use mathlib.Core.Bool.{Bool, true, false, cond}
-use Prim.Native.Nat.{ℕ, suc, _+_, _-_, _*_, _/_, _%_, _^_, _≤_, _<_, compare, Ordering, Ordering·lt, Ordering·gt}
+use Prim.Native.Nat.{ℕ, zero, suc, _+_, _-_, _*_, _/_, _%_, _^_, _≤_, _<_, compare, Ordering, Ordering·lt, Ordering·gt}
 use native.Mathlib.Nat.{le-trans, le-of-eq, lt-of-not-le, not-le-of-lt, mul-le-mul, mul-le-mul-right, mul-assoc, mul-comm, mul-left-comm, mul-add, add-mul, add-assoc, add-comm, add-left-comm, mul-one}
 use native.Mathlib.Omega.{arith}
 use native.Mathlib.Decide.{decLe}
@@ -16,7 +16,7 @@ use lib.Ieee.{nearest}
 use lib.Ieee.Bits.{cond-no}
 use Rattle.wide.specs.Isqrt.{isqrt}
 use Rattle.float.specs.Sqrt.{nearer}
-use Rattle.float.specs.Post.{unitsOf, rounded}
+use Rattle.float.specs.Post.{unitsOf, rounded, radicand}
 use Rattle.float.proofs.Roots.{compare-is, root-range}
 use Rattle.float.specs.SqrtLaws.{Cmp}
 
@@ -143,3 +143,23 @@ not-least m r l h = lt-of-not-le (λ (g : r ≤ 2 ^ 52).
   where
     e : 2 ^ 53 * 2 ^ 53 ≡ 4 * (2 ^ 52 * 2 ^ 52)
     e = refl
+
+-- ---- a number's pattern as a square times a radicand
+power : (k : ℕ) → k < 2 → 1 + k ≡ 2 ^ k
+power zero l = refl
+power (suc zero) l = refl
+power (suc (suc k)) l = absurd (none k l)
+  where
+    none : (k : ℕ) → suc (suc k) < 2 → ⊥
+    none k l = omega arith
+
+pub squared : (b m j g k : ℕ) → m * 2 ^ j ≡ unitsOf b * 2 ^ 52 → 2 ^ 52 ≤ m → m < 2 ^ 53 → g ≡ j % 2 * 2 ^ 52 + m % 2 ^ 52 → k ≡ j / 2 + 485
+    → unitsOf b * 2 ^ 1074 ≡ radicand g * 2 ^ 52 * (2 ^ k * 2 ^ k)
+squared b m j g k h l u p q =
+    let x : g / 2 ^ 52 ≡ j % 2 = omega arith in
+    let y : 2 ^ 52 + g % 2 ^ 52 ≡ m = omega arith in
+    rw q (as-square (unitsOf b) m j (radicand g) h (rw (x, y) (ap (λ (z : ℕ). m * z) (power (j % 2) (omega arith)))))
+
+pub large-squared : (b : ℕ) → 2 ^ 52 ≤ b → b < 0x7ff0_0000_0000_0000
+    → (unitsOf b * 2 ^ 1074 ≡ radicand ((b + 2 ^ 52) % 2 ^ 53) * 2 ^ 52 * (2 ^ ((b / 2 ^ 52 + 1021) / 2) * 2 ^ ((b / 2 ^ 52 + 1021) / 2))) × ((b / 2 ^ 52 + 1021) / 2 < 2046)
+large-squared b h l = (squared b (2 ^ 52 + b % 2 ^ 52) (b / 2 ^ 52 + 51) ((b + 2 ^ 52) % 2 ^ 53) ((b / 2 ^ 52 + 1021) / 2) (large-units b h) (omega arith) (omega arith) (omega arith) (omega arith), omega arith)

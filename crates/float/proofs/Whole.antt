@@ -12,10 +12,11 @@ use lib.Ieee.Back.{round-whole, whole-unique}
 use lib.Ieee.Exact.{HasValue, round-exact}
 use lib.Ieee.Fits.{down-pos, round-is, round-fits}
 use lib.Ieee.Order.{drop, kept}
+use Rattle.wide.proofs.Patterns.{never}
 use Rattle.wide.proofs.Products.{same-lt, is-above, not-above}
 use Rattle.float.specs.Ops.{ceil}
 use Rattle.float.specs.SqrtLaws.{fits-parts}
-use Rattle.float.proofs.Arms.{never, lt-zero, zero-lt, plain-zero}
+use Rattle.float.proofs.Arms.{lt-zero, zero-lt, plain-zero}
 
 -- 2^52: from here on in size every f64 is a whole number
 abbrev large : Float
@@ -143,7 +144,7 @@ own s m k f =
     let p = fits-parts s m (pos k) f in
     let g : c * 2 ^ 1074 ≡ suc m * 2 ^ (k + 1074) = mul-assoc (suc m) (2 ^ k) (2 ^ 1074) ∙ ap (λ (z : ℕ). suc m * z) (sym (pow-add 2 k 1074)) in
     whole-unique binary64 (round binary64 s c 1) (fin s (suc m) (pos k)) s c (round-fits binary64 s c 1) f
-    (round-exact binary64 s c 1 (suc m) (k + 1074) (lit≤ tt) (p .0) (lt-of-le-of-lt (le-of-eq (sym g)) (lt-of-lt-of-le (mul-lt-mul-of-pos-right (p .1) (pow-pos 1074)) (lit≤ tt))) (g ∙ sym (mul-one _))) (refl, refl)
+    (round-exact binary64 s c 1 (suc m) (k + 1074) (lit≤ tt) (p .digits) (lt-of-le-of-lt (le-of-eq (sym g)) (lt-of-lt-of-le (mul-lt-mul-of-pos-right (p .finite) (pow-pos 1074)) (lit≤ tt))) (g ∙ sym (mul-one _))) (refl, refl)
 
 own-zero : (s : Bool) → round binary64 s 0 1 ≡ fin s zero (pos 0)
 unfolding round units size
@@ -161,7 +162,7 @@ whole-ceil false m k f = let q : m * 2 ^ k ≡ (m * 2 ^ k + (1 - 1)) / 1 = omega
 -- a size of 2^52 leaves no place for digits after the point
 no-fraction : (s : Bool) (m k : ℕ) → T (fits binary64 (fin s m (negsuc k))) → 2 ^ 52 * 2 ^ suc k ≤ m → ⊥
 no-fraction s zero k f h = omega (arith, pow-pos (suc k))
-no-fraction s (suc m) k f h = omega (arith, fits-parts s m (negsuc k) f .0, pow-succ' 2 k, pow-pos k)
+no-fraction s (suc m) k f h = omega (arith, fits-parts s m (negsuc k) f .digits, pow-succ' 2 k, pow-pos k)
 
 module _ (s : Bool) (m j : ℕ) (f : T (fits binary64 (fin s m (negsuc j)))) where
   not-large : ltb (m * 1 * 1) (1 * 2 ^ 52 * 2 ^ suc j) ≡ false → ⊥

@@ -4,3 +4,4 @@ pub mod OpsLaws
 pub mod Post
 pub mod Sqrt
 pub mod SqrtLaws
+pub mod SqrtFloats

@@ -202,15 +202,21 @@ grid-mono f a b h =
 abbrev pub squareUnits : Float → ℕ
 squareUnits x = num x * 2 ^ 1074 / den x * 2 ^ 1074
 
--- the digits of a number that fits, and its size
-pub fits-parts : (s : Bool) (m : ℕ) (e : ℤ) → T (fits binary64 (fin s (suc m) e)) → (suc m < 2 ^ 53) × (suc m * up e < 2 ^ 1024 * down e)
+-- what `fits` says of a number above 0
+pub record Fits64 (m : ℕ) (e : ℤ) : Type 0 where
+  pub digits : m < 2 ^ 53
+  pub deep : down e ≤ 2 ^ 1074
+  pub finite : m * up e < 2 ^ 1024 * down e
+
+pub fits-parts : (s : Bool) (m : ℕ) (e : ℤ) → T (fits binary64 (fin s (suc m) e)) → Fits64 (suc m) e
 unfolding fits
 fits-parts s m e f =
     let a = eqb (suc m % 2) 1 in
     let b = ltb (suc m) (2 ^ 53) in
     let c = leb (down e) (2 ^ 1074) in
     let d = ltb (suc m * up e) (2 ^ 1024 * down e) in
-    (ltb→lt (suc m) (2 ^ 53) (and-r a b (and-l (a && b) c (and-l (a && b && c) d f))), ltb→lt (suc m * up e) (2 ^ 1024 * down e) (and-r (a && b && c) d f))
+    let t = and-l (a && b && c) d f in
+    record { digits = ltb→lt (suc m) (2 ^ 53) (and-r a b (and-l (a && b) c t)); deep = leb→le (down e) (2 ^ 1074) (and-r (a && b) c t); finite = ltb→lt (suc m * up e) (2 ^ 1024 * down e) (and-r (a && b && c) d f) }
 
 pub units-lt : (a d : ℕ) → 0 < d → a < 2 ^ 1024 * d → a * 2 ^ 1074 / d < 2 ^ 2098
 units-lt a d p h = div-lt-iff-lt-mul p .1 (lt-of-lt-of-le (mul-lt-mul-of-pos-right h (pow-pos 1074)) (le-of-eq (mul-right-comm (2 ^ 1024) d (2 ^ 1074))))
@@ -231,7 +237,7 @@ sqrt-value (fin false zero e) f p = absurd p
 sqrt-value (fin false (suc m) e) f p =
     let n = suc m * up e * 2 ^ 1074 / down e * 2 ^ 1074 in
     units-val binary64 false (nearer n (2 ^ drops binary64 n) (keeps binary64 n)) (drops binary64 n)
-    (grid-lt n (shl-lt 2098 1074 (units-lt (suc m * up e) (down e) (down-pos e) (fits-parts false m e f .1))))
+    (grid-lt n (shl-lt 2098 1074 (units-lt (suc m * up e) (down e) (down-pos e) (fits-parts false m e f .finite))))
 
 pub sqrt-mono : (x y : Float) → T (fits binary64 x) → T (fits binary64 y) → T (positive x) → T (positive y) → T (le x y) → T (le (sqrt binary64 x) (sqrt binary64 y))
 sqrt-mono x y f g p q h =

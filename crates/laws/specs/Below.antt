@@ -3,6 +3,7 @@ use mathlib.Core.Path.{_≡_}
 use mathlib.Core.Bool.{Bool, true, false, not}
 use Prim.Native.Nat.{ℕ, zero, suc, _<_, _≤_}
 use native.Mathlib.Omega.{arith}
+use Rattle.common.specs.Iter.{iter}
 use lib.Dec.{T, ltb, ltb→lt, nltb→le}
 
 -- anything holds of all below 0
@@ -26,3 +27,9 @@ below-three P a b c = below-next P 2 c (below-next P 1 b (below-next P 0 a (belo
 
 pub below-four : (P : ℕ → Type 0) → P 0 → P 1 → P 2 → P 3 → (i : ℕ) → i < 4 → P i
 below-four P a b c d = below-next P 3 d (below-three P a b c)
+
+-- a loop of n turns, each of which takes what holds of its number to what holds of the next
+pub below-turns : {A : Type 0} (P : ℕ → A → Type 0) (f : ℕ → A → A) (a : A) (n : ℕ) → ((k : ℕ) → k < n → (x : A) → P k x → P (suc k) (f k x)) → P 0 a → P n (iter f a n)
+unfolding iter
+below-turns P f a zero h p = p
+below-turns P f a (suc n) h p = h n (omega arith) (iter f a n) (below-turns P f a n (λ k l. h k (omega arith)) p)

@@ -1,6 +1,6 @@
 -- `clamp lo hi x`, by the places: within its limits, the same done twice, odd between -l and l, and nested. Assumes nothing.
-use mathlib.Core.Path.{_≡_, refl, sym, ap, _∙_}
-use Prim.Native.Nat.{ℕ, _+_, _-_, _≤_, _<_, max, min}
+use mathlib.Core.Path.{_≡_, sym, ap, _∙_}
+use Prim.Native.Nat.{_≤_, _<_, max, min}
 use native.Mathlib.Omega.{arith}
 use mathlib.Core.Logic.{_↔_}
 use mathlib.Core.Bool.{Bool, true, false, not, cond}
@@ -28,6 +28,7 @@ either true x y p q = p
 either false x y p q = q
 
 module _ (f : Format) (lo hi : Float) (L : Held f lo) (H : Held f hi) where
+  -- the clamp of a number is a number of the format
   pub clamp-held : (x : Float) → Held f x → Held f (clamp lo hi x)
   unfolding clamp
   clamp-held x p = either (lt x lo) lo (cond (lt hi x) hi x) L (either (lt hi x) hi x H p)
@@ -75,6 +76,7 @@ module _ (f : Format) (l : Float) (L : Held f l) (over : mid f ≤ place f l) wh
   span : place f (neg l) ≤ place f l
   span = omega (arith, place-neg f l L)
 
+  -- it is a number of the format
   pub sym-held : (x : Float) → Held f x → Held f (clamp (neg l) l x)
   sym-held x p = clamp-held f (neg l) l N L x p
 
@@ -85,6 +87,7 @@ module _ (f : Format) (l : Float) (L : Held f l) (over : mid f ≤ place f l) wh
       let C = sym-held x p in
       up-le f (abs c) l (abs-held C) L (omega (arith, place-abs f c C, clamp-place f (neg l) l N L x p span, place-neg f l L))
 
+  -- a second clamp changes nothing
   pub sym-idem : (x : Float) → Held f x → clamp (neg l) l (clamp (neg l) l x) ≡ clamp (neg l) l x
   sym-idem x p = clamp-idem f (neg l) l N L x p span
 

@@ -1,9 +1,9 @@
 -- The exact value of a finite f64, as a whole number of 2 ^ -1074. Assumes nothing.
 use mathlib.Core.Path.{_≡_, refl}
-use Prim.Native.Nat.{ℕ, zero, suc, _+_, _-_, _*_, _^_, _≤_, _<_}
+use Prim.Native.Nat.{ℕ, zero, suc, _+_, _-_, _^_, _<_}
 use native.Mathlib.Omega.{arith}
 use mathlib.Core.Bool.{Bool, true, false, cond}
-use lib.IntN.{ℤ, pos, negsuc, negℤ}
+use lib.IntN.{ℤ, pos, negℤ}
 use lib.Signed.{_<ℤ_, ltZ-yes}
 use lib.Dec.{T, lt→ltb}
 use lib.Ieee.{Float, nan, inf, fin, Format, binary64, low, lt, fits}
@@ -62,6 +62,7 @@ exact-plus (inf s) p q = absurd p
 exact-plus (fin true m e) p q = absurd q
 exact-plus (fin false m e) p q = refl
 
+-- of |x| it is the size of x
 pub exact-abs : (x : Float) → T (finite x) → exact (abs x) ≡ pos (mag binary64 x)
 unfolding exact abs mag
 exact-abs nan p = absurd p

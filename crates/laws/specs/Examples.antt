@@ -1,17 +1,17 @@
 -- The laws at work: each example is a fact, and shows how its law is called. Assumes nothing.
 use mathlib.Core.Path.{_≡_, refl}
-use Prim.Native.Nat.{ℕ, _+_, _<_, _^_}
-use mathlib.Core.Bool.{true, false}
-use lib.IntN.{ℤ, pos, negsuc, negℤ}
+use Prim.Native.Nat.{_^_}
+use mathlib.Core.Bool.{false}
+use lib.IntN.{pos, negℤ}
 use lib.Dec.{T}
-use lib.Ieee.{Float, nan, fin, Format, binary64, add, sub, mul, div, lt, le, fits, ofBits}
+use lib.Ieee.{Float, fin, binary64, add, sub, mul, lt, fits, ofBits}
 use lib.Ieee.Scale.{finite}
 use Rattle.float.specs.Ops.{number, abs}
 use Rattle.float.specs.Sqrt.{sqrt}
 use Rattle.laws.specs.Place.{mag}
 use Rattle.laws.specs.Numbers.{numbers}
 use Rattle.laws.specs.Finite.{finites}
-use Rattle.laws.specs.Signs.{plus, plus-number, pluses}
+use Rattle.laws.specs.Signs.{plus-number, pluses}
 use Rattle.laws.specs.Exact.{exact}
 use Rattle.laws.specs.Limits.{Limit, Under, bound}
 use Rattle.laws.specs.Sizes.{Within, mul-in, sub-in}

@@ -1,7 +1,6 @@
 -- Finite, backwards: where a result is finite, so are the operands (of a quotient the dividend). `search finites` carries that from a result to any operand of the expression.
 -- And forwards: which results of finite operands are at least numbers. Assumes nothing.
-use mathlib.Core.Path.{_≡_, refl}
-use Prim.Native.Nat.{ℕ, zero, suc, _+_, _-_, _*_}
+use Prim.Native.Nat.{ℕ, _+_, _-_, _*_}
 use mathlib.Core.Bool.{Bool, true, false, not, _&&_, cond, Bool·beq}
 use lib.Dec.{T, ltb, eqb}
 use lib.Ieee.{Float, nan, inf, fin, Format, unlike, up, down, round, sum, add, sub, mul, div, neg, lt, le, eq}
@@ -10,6 +9,7 @@ use Rattle.float.specs.Ops.{number, abs}
 use Rattle.float.specs.Sqrt.{sqrt}
 use Rattle.laws.specs.Signs.{round-number}
 
+-- a finite value is no NaN
 pub finite-number : (x : Float) → T (finite x) → T (number x)
 finite-number nan t = t
 finite-number (inf s) t = tt
@@ -83,7 +83,7 @@ lt-sqrt f (inf false) (inf s) t = t
 lt-sqrt f (inf false) (fin s m e) t = t
 lt-sqrt f (fin s m e) y t = tt
 
--- the same with one operand each
+-- the same with one operand each: l says it of the first, r of the second
 module _ (f : Format) (x y : Float) where
   pub add-fl : T (finite (add f x y)) → T (finite x)
   add-fl t = add-finite f x y t .0

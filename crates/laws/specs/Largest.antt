@@ -1,5 +1,4 @@
 -- The largest of some floats, as `fold(0.0, f64::max)` makes it: a NaN is dropped, and where the largest is not above t, none is. Assumes nothing.
-use mathlib.Core.Path.{_≡_, refl}
 use Prim.Native.Nat.{ℕ, zero, suc, _<_}
 use native.Mathlib.Omega.{arith}
 use mathlib.Core.Bool.{Bool, true, false, not, cond}
@@ -17,6 +16,7 @@ use Rattle.laws.specs.Order.{held, lt-up, nlt-up, up-lt, lt-trans}
 abbrev pub largest : Float → (ℕ → Float) → ℕ → Float
 largest a x n = iter (λ (k : ℕ) (e : Float). max e (x k)) a n
 
+-- the larger of two values of the format is one
 pub max-fits : (f : Format) (a b : Float) → T (fits f a) → T (fits f b) → T (fits f (max a b))
 unfolding max
 max-fits f a b A B = cond-fits f (lt a b) b (cond (isNan a) b a) B (cond-fits f (isNan a) b a B A)
@@ -47,6 +47,7 @@ max-above-r f t (inf s) b F A B h = above-number f t (inf s) b F A B tt h
 max-above-r f t (fin s m e) b F A B h = above-number f t (fin s m e) b F A B tt h
 
 module _ (f : Format) (a : Float) (x : ℕ → Float) (A : T (fits f a)) (F : (i : ℕ) → T (fits f (x i))) where
+  -- the largest of values of the format is one
   pub largest-fits : (n : ℕ) → T (fits f (largest a x n))
   unfolding iter
   largest-fits zero = A

@@ -1,9 +1,9 @@
 -- Limits: a control clamped to one is within it, and a value whose size passes the test against one, with its tolerance of 1e-9, is within it as exact numbers. Assumes nothing.
-use mathlib.Core.Path.{_≡_, refl}
-use Prim.Native.Nat.{ℕ, zero, suc, _+_, _-_, _≤_, _<_}
+use mathlib.Core.Path.{_≡_}
+use Prim.Native.Nat.{ℕ, _+_, _≤_, _<_}
 use native.Mathlib.Nat.{lt-of-not-le}
 use native.Mathlib.Omega.{arith}
-use mathlib.Core.Bool.{Bool, true, false, not}
+use mathlib.Core.Bool.{Bool, not}
 use lib.IntN.{_+ℤ_, pos-+ℤ-pos}
 use lib.Signed.{_<ℤ_, ltZ-yes}
 use lib.Dec.{T, T-not, lt→ltb}
@@ -27,6 +27,7 @@ pub record Limit (l : Float) : Type 0 where
   pub over : T (lt (ofBits binary64 0) l)
 
 module _ (l : Float) (L : Limit l) where
+  -- a limit is a number, and lies above zero
   pub limit-held : Held binary64 l
   limit-held = held (L .fit) (finite-number l (L .fine))
 

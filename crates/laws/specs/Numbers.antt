@@ -1,7 +1,7 @@
 -- No NaN, backwards: where a result is a number, so are the operands, since a NaN goes through sums, differences, products, quotients, signs, sizes, roots and clamps, and every comparison
 -- with one fails. `search numbers` carries that from a result to any operand of the expression. Assumes nothing.
 use mathlib.Core.Path.{_≡_, refl, ap}
-use mathlib.Core.Bool.{Bool, true, false, cond}
+use mathlib.Core.Bool.{Bool, false, cond}
 use Prim.Native.Nat.{ℕ}
 use lib.IntN.{ℤ}
 use lib.Dec.{T}
@@ -21,10 +21,12 @@ never E a b c nan = a
 never E a b c (inf s) = b s
 never E a b c (fin s m e) = c s m e
 
+-- nothing is below a NaN
 pub lt-nan-r : (x : Float) → lt x nan ≡ false
 unfolding lt
 lt-nan-r = never (λ x. lt x nan) refl (λ s. refl) (λ s m e. refl)
 
+-- ---- the operations: l says it of the first operand, r of the second
 module _ (f : Format) (x y : Float) where
   pub add-l : T (number (add f x y)) → T (number x)
   unfolding add
@@ -74,6 +76,7 @@ pub clamp-n : (lo hi x : Float) → T (number (clamp lo hi x)) → T (number x)
 unfolding clamp lt
 clamp-n lo hi = only (λ z. number (clamp lo hi z)) (ap (λ (b : Bool). number (cond b hi nan)) (lt-nan-r hi))
 
+-- ---- the comparisons
 module _ (x y : Float) where
   pub lt-l : T (lt x y) → T (number x)
   unfolding lt

@@ -1,8 +1,8 @@
 -- The laws of `lt` and `le` on the values that a format holds: each goes over to the places, and between is `omega`'s. Assumes nothing.
-use mathlib.Core.Path.{_≡_, refl, sym}
+use mathlib.Core.Path.{_≡_, refl}
 use Prim.Native.Nat.{ℕ, zero, suc, _+_, _-_, _≤_, _<_, max}
 use native.Mathlib.Omega.{arith}
-use mathlib.Core.Bool.{Bool, true, false, not}
+use mathlib.Core.Bool.{true, false, not}
 use lib.IntN.{ℤ}
 use lib.Dec.{T, ltb→lt, lt→ltb, leb→le, le→leb, nltb→le, nleb→lt}
 use lib.Arith.{le→nltb, lt→nleb}
@@ -49,6 +49,10 @@ module _ (f : Format) (x y : Float) (p : Held f x) (q : Held f y) where
 -- not above, and no NaN, is at most
 pub not-above : (f : Format) (x t : Float) → Held f x → Held f t → T (not (lt t x)) → T (le x t)
 not-above f x t p q h = up-le f x t p q (nlt-up f t x q p h)
+
+-- not at most, and no NaN, is above
+pub not-most : (f : Format) (x t : Float) → Held f x → Held f t → T (not (le x t)) → T (lt t x)
+not-most f x t p q h = up-lt f t x q p (nle-up f x t p q h)
 
 -- ---- transitive: what compares is a number, so only `fits` is asked
 module _ (f : Format) (x y z : Float) (p : T (fits f x)) (q : T (fits f y)) (r : T (fits f z)) where

@@ -34,7 +34,7 @@ place f (inf s) = side (mid f) s (mag f (inf s))
 place f (fin s m e) = side (mid f) s (mag f (fin s m e))
 
 -- ---- a finite value is `mag` units in size, exactly
--- powers of two grow with their exponents
+-- the smaller power of two has the smaller exponent
 pub pow-back : (i j : ℕ) → 2 ^ i ≤ 2 ^ j → i ≤ j
 pow-back i j h = go (leb i j) (leb→le i j) (nleb→lt i j)
   where
@@ -93,6 +93,7 @@ unfolding place
 place-inf f true = omega (arith, mag-inf f true)
 place-inf f false = omega (arith, mag-inf f false)
 
+-- zero lies above -∞
 pub mid-pos : (f : Format) → 0 < mid f
 unfolding mid
 mid-pos f = pow-pos (low f + suc (emax f))
@@ -111,13 +112,13 @@ module _ (f : Format) (e : ℤ) where
 
 -- ---- tests that agree
 -- two tests that pass together are one
-pub same-test : (a b : Bool) → (T a → T b) → (T b → T a) → a ≡ b
+same-test : (a b : Bool) → (T a → T b) → (T b → T a) → a ≡ b
 same-test true true p q = refl
 same-test true false p q = absurd (p tt)
 same-test false true p q = absurd (q tt)
 same-test false false p q = refl
 
-pub ltb-same : (a b p q : ℕ) → (a < b → p < q) → (p < q → a < b) → ltb a b ≡ ltb p q
+ltb-same : (a b p q : ℕ) → (a < b → p < q) → (p < q → a < b) → ltb a b ≡ ltb p q
 ltb-same a b p q h k = same-test (ltb a b) (ltb p q) (λ t. lt→ltb p q (h (ltb→lt a b t))) (λ t. lt→ltb a b (k (ltb→lt p q t)))
 
 eqb-same : (a b p q : ℕ) → (a ≡ b → p ≡ q) → (p ≡ q → a ≡ b) → eqb a b ≡ eqb p q
@@ -141,10 +142,10 @@ and-true false = refl
 
 -- ---- a / c is p / l, and b / c is q / l
 module _ (a b c p q l : ℕ) (C : 0 < c) (L : 0 < l) (h : a * l ≡ p * c) (k : b * l ≡ q * c) where
-  pub frac-lt : a < b → p < q
+  frac-lt : a < b → p < q
   frac-lt x = lt-of-mul-lt-mul-right c (lt-of-le-of-lt (le-of-eq (sym h)) (lt-of-lt-of-le (mul-lt-mul-of-pos-right x L) (le-of-eq k)))
 
-  pub lt-frac : p < q → a < b
+  lt-frac : p < q → a < b
   lt-frac x = lt-of-mul-lt-mul-right l (lt-of-le-of-lt (le-of-eq h) (lt-of-lt-of-le (mul-lt-mul-of-pos-right x C) (le-of-eq (sym k))))
 
   frac-eq : a ≡ b → p ≡ q
@@ -153,6 +154,7 @@ module _ (a b c p q l : ℕ) (C : 0 < c) (L : 0 < l) (h : a * l ≡ p * c) (k : 
   eq-frac : p ≡ q → a ≡ b
   eq-frac x = eq-of-mul-eq-mul-right l L a b (h ∙ ap (λ (z : ℕ). z * c) x ∙ sym k)
 
+  -- so the tests agree
   pub same-lt : ltb a b ≡ ltb p q
   same-lt = ltb-same a b p q frac-lt lt-frac
 

@@ -16,7 +16,7 @@ use lib.Ieee.Order.{round-mono}
 use lib.Ieee.Scale.{round-same, finite}
 use Rattle.laws.specs.Place.{mag, mid, side, place, mag-exact, mag-lt, mid-pos, place-inf, pow-back, down-le, same-lt, cross-l, cross-r, fin-under}
 use Rattle.laws.specs.Order.{Held, held, le-up, up-le, neg-held, place-neg}
-use Rattle.laws.specs.Signs.{plus, place-plus, round-plus, round-neg, round-held}
+use Rattle.laws.specs.Signs.{place-plus, round-plus, round-neg, round-held}
 use Rattle.laws.specs.Finite.{finite-number, add-number}
 
 -- ---- a number of units, rounded

@@ -1,9 +1,7 @@
 -- Numbers whose sign is +, an infinity among them: sizes, squares, their sums and their roots. No NaN is one. `search pluses` shows it of an expression. Assumes nothing.
-use mathlib.Core.Path.{_≡_, refl, sym, ap, _∙_}
-use Prim.Native.Nat.{ℕ, zero, suc, _+_, _-_, _*_, _^_, _≤_, _<_}
-use native.Mathlib.Omega.{arith}
+use mathlib.Core.Path.{_≡_, refl}
+use Prim.Native.Nat.{ℕ, zero, suc, _+_, _*_, _^_}
 use mathlib.Core.Bool.{Bool, true, false, not, cond}
-use lib.IntN.{ℤ, pos}
 use lib.Dec.{T, ltb}
 use lib.Ieee.{Float, nan, inf, fin, Format, binary64, prec, emax, low, up, down, odd, units, round, sum, add, mul, neg, lt, ofBits}
 use lib.Ieee.Fits.{round-fits}
@@ -18,6 +16,7 @@ plus nan = false
 plus (inf s) = not s
 plus (fin s m e) = not s
 
+-- it is no NaN
 pub plus-number : (x : Float) → T (plus x) → T (number x)
 plus-number nan p = p
 plus-number (inf s) p = tt
@@ -46,7 +45,7 @@ unfolding odd
 odd-plus d zero k l = tt
 odd-plus d (suc q) k l = tt
 
-pub units-plus : (f : Format) (q k : ℕ) → T (plus (units f false q k))
+units-plus : (f : Format) (q k : ℕ) → T (plus (units f false q k))
 unfolding units
 units-plus f q k = go (ltb (q * 2 ^ k) (2 ^ (low f + suc (emax f))))
   where

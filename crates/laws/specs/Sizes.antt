@@ -1,11 +1,11 @@
 -- Sizes: `Within f k x` says that x is finite and at most 2 ^ k in size. Sums, differences, products and quotients of such are such, as long as no bound passes the format's top: so they
 -- neither overflow nor turn into a NaN. A proof has the expression's own shape. Assumes nothing.
-use mathlib.Core.Path.{_≡_, refl, sym, ap, _∙_}
-use Prim.Native.Nat.{ℕ, zero, suc, _+_, _-_, _*_, _%_, _^_, _≤_, _<_, max}
+use mathlib.Core.Path.{_≡_, sym, ap, _∙_}
+use Prim.Native.Nat.{ℕ, zero, suc, _+_, _*_, _%_, _^_, _≤_, _<_, max}
 use native.Mathlib.Nat.{le-trans, le-of-eq, lt-of-lt-of-le, lt-of-le-of-lt, le-of-mul-le-mul-right, mul-comm, mul-assoc, mul-left-comm, mul-right-comm, mul-one, one-mul, mul-pos, mul-mul-mul-comm, mul-le-mul, mul-le-mul-right, zero-mul, pow-suc, zero-lt-suc}
 use native.Mathlib.Omega.{arith}
-use mathlib.Core.Bool.{Bool, true, false, _&&_, cond}
-use lib.IntN.{ℤ, pos, negsuc}
+use mathlib.Core.Bool.{Bool, true, false, _&&_}
+use lib.IntN.{ℤ, pos}
 use lib.Dec.{T, leb, ltb, eqb, ltb→lt, lt→ltb, leb→le, le→leb, eqb→eq, lit<, not-T}
 use lib.Pow.{pow-add, pow-pos, pow-mono, pow-lt}
 use lib.Ieee.{Float, nan, inf, fin, Format, binary32, binary64, prec, emax, low, unlike, up, down, round, add, sub, mul, div, neg, le, fits}
@@ -32,6 +32,7 @@ pub record Beyond (f : Format) (k : ℕ) (y : Float) : Type 0 where
   pub fine : T (finite y)
   pub large : 2 ^ low f ≤ mag f y * 2 ^ k
 
+-- it is a number of the format
 pub in-held : {f : Format} {k : ℕ} {x : Float} → Within f k x → Held f x
 in-held {f} {k} {x} p = held (p .fit) (finite-number x (p .fine))
 
@@ -127,9 +128,11 @@ add-in {f} {j} {k} {x} {y} p q t =
     let w = between f (add f x y) (2 ^ (low f + suc K)) (held (add-fits f x y) (add-number f x y (p .fine) (finite-number y (q .fine)))) (top-under f (suc K) top) (omega arith) (omega arith) in
     record { fit = add-fits f x y; fine = w .0; small = w .1 }
 
+-- a sign changes no size
 pub neg-in : {f : Format} {k : ℕ} {x : Float} → Within f k x → Within f k (neg x)
 neg-in {f} {k} {x} p = record { fit = neg-fits f x (p .fit); fine = finite-neg x (p .fine); small = le-trans (le-of-eq (mag-neg f x)) (p .small) }
 
+-- ---- the difference
 pub sub-in : {f : Format} {j k : ℕ} {x y : Float} → Within f j x → Within f k y → T (ltb (max j k) (emax f)) → Within f (suc (max j k)) (sub f x y)
 unfolding sub
 sub-in p q t = add-in p (neg-in q) t

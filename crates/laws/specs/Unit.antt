@@ -1,10 +1,10 @@
 -- Lengths near 1: where the computed length n of four numbers differs from 1 by at most a tolerance below 1, n lies between 2 ^ -54 and 4, and each of the four times 1 / n is at most
 -- 2 ^ 56 in size. (No better bound holds in general: the tolerance may be just below 1.) Assumes nothing.
-use mathlib.Core.Path.{_≡_, refl, sym, ap, _∙_}
-use Prim.Native.Nat.{ℕ, zero, suc, _+_, _-_, _*_, _^_, _<_, _≤_}
+use mathlib.Core.Path.{_≡_, refl, sym, ap}
+use Prim.Native.Nat.{ℕ, zero, suc, _+_, _*_, _^_, _<_, _≤_}
 use native.Mathlib.Nat.{le-trans, le-of-eq, le-of-lt, lt-of-not-le, le-of-mul-le-mul-right, mul-assoc, mul-left-comm, mul-right-comm, mul-one, zero-mul, zero-div, zero-lt-suc, mul-pos, mul-le-mul, mul-le-mul-right}
 use native.Mathlib.Omega.{arith}
-use mathlib.Core.Bool.{Bool, true, false, not, cond}
+use mathlib.Core.Bool.{Bool, true, false, not}
 use lib.IntN.{ℤ, pos, negsuc}
 use lib.Dec.{T, lt→ltb, leb, leb→le, nleb→lt, T-not, not-T, lit<}
 use lib.Pow.{pow-pos}
@@ -14,17 +14,17 @@ use lib.Ieee.Order.{round-mono}
 use lib.Ieee.Positive.{positive}
 use lib.Ieee.Scale.{finite}
 use Rattle.wide.specs.Isqrt.{isqrt}
-use Rattle.float.specs.Ops.{number, abs}
+use Rattle.float.specs.Ops.{abs}
 use Rattle.float.specs.Sqrt.{sqrt, rootUnits}
 use Rattle.float.specs.SqrtLaws.{sqrt-fits, sqrt-mono, sqrt-value, gridRoot, squareUnits}
 use Rattle.laws.specs.Numbers.{lt-l}
 use Rattle.laws.specs.Place.{mag, mid, place, mag-exact}
-use Rattle.laws.specs.Order.{Held, held, lt-up, nlt-up, up-le, le-up, nle-up, up-nle, place-neg, place-abs, abs-held}
-use Rattle.laws.specs.Signs.{plus, plus-number, place-plus, square-plus, add-plus, sqrt-plus}
+use Rattle.laws.specs.Order.{Held, held, lt-up, nlt-up, up-le, le-up, place-neg, place-abs, abs-held}
+use Rattle.laws.specs.Signs.{plus, place-plus, square-plus, add-plus, sqrt-plus}
 use Rattle.laws.specs.Finite.{add-finite, sqrt-finite, finite-number, sub-number, finite-neg}
 use Rattle.laws.specs.Rounding.{add-above, add-mono}
 use Rattle.laws.specs.Limits.{finite-under}
-use Rattle.laws.specs.Sizes.{Within, Beyond, in-held, mul-in, div-in}
+use Rattle.laws.specs.Sizes.{Within, Beyond, mul-in, div-in}
 
 abbrev f64 : Format
 f64 = binary64
@@ -212,6 +212,7 @@ one-in = record { fit = one-held .fit; fine = one-finite; small = unfold mag ofB
 abbrev pub square4 : Float → Float → Float → Float → Float
 square4 w x y z = add f64 (add f64 (add f64 (mul f64 w w) (mul f64 x x)) (mul f64 y y)) (mul f64 z z)
 
+-- a finite f64
 pub record Value (x : Float) : Type 0 where
   pub fit : T (fits f64 x)
   pub fine : T (finite x)

@@ -38,5 +38,14 @@ module _ (n s k : ℕ) (h : Open n s (k + 1)) where
 pub shifted : (k : ℕ) → k < 64 → 1 * 2 ^ k % 2 ^ 64 ≡ 2 ^ k
 shifted k h = rw one-mul (mod-eq-of-lt (pow-lt h))
 
+pub between : (n s : ℕ) → s * s ≤ n → n < (s + 1) * (s + 1) → s ≡ isqrt n
+between n s l h = isqrt-unique n s (record { low = l; high = subst (λ (z : ℕ). n < z * z) (add-one s) h })
+
 pub closed : (n s : ℕ) → Open n s 0 → s ≡ isqrt n
-closed n s h = isqrt-unique n s (record { low = h .low; high = subst (λ (z : ℕ). n < z * z) (add-one s) (h .high) })
+closed n s h = between n s (h .low) (h .high)
+
+-- the largest word is the root of what is not below its square
+pub top-root : (hi lo s : ℕ) → hi < 2 ^ 64 → lo < 2 ^ 64 → s ≡ 0xffff_ffff_ffff_ffff → s * s ≤ hi * 2 ^ 64 + lo → s ≡ isqrt (hi * 2 ^ 64 + lo)
+top-root hi lo s h l e k =
+    let t : 2 ^ 64 ≡ s + 1 = omega arith in
+    between _ s k (subst (λ (z : ℕ). hi * 2 ^ 64 + lo < z * z) t (below (2 ^ 64) hi lo (2 ^ 64) h l))

@@ -10,22 +10,6 @@ pub struct Wide {
     pub lo: u64,
 }
 
-// u * v.
-pub fn product(u: u64, v: u64) -> Wide
-    ensures { λ r. ⌜ r .hi * 2 ^ 64 + r .lo ≡ u * v ⌝ }
-{
-    let u0 = u % 0x1_0000_0000;
-    let u1 = u >> 32;
-    let v0 = v % 0x1_0000_0000;
-    let v1 = v >> 32;
-    let w0 = u0 * v0;
-    let t = u1 * v0 + (w0 >> 32);
-    let w1 = (t % 0x1_0000_0000) + u0 * v1;
-    let hi = u1 * v1 + (t >> 32) + (w1 >> 32);
-    let lo = (w1 % 0x1_0000_0000) * 0x1_0000_0000 + (w0 % 0x1_0000_0000);
-    Wide { hi: hi, lo: lo }
-}
-
 // The upper word of u * v.
 pub fn high_product(u: u64, v: u64) -> u64
     ensures { λ r. ⌜ r ≡ u * v / 2 ^ 64 ⌝ }
@@ -39,21 +23,36 @@ pub fn high_product(u: u64, v: u64) -> u64
     u1 * v1 + (t >> 32) + (w >> 32)
 }
 
+// The lower word of u * v.
+pub fn low_product(u: u64, v: u64) -> u64
+    ensures { λ r. ⌜ r ≡ u * v % 2 ^ 64 ⌝ }
+{
+    let u0 = u % 0x1_0000_0000;
+    let v0 = v % 0x1_0000_0000;
+    let c = wrapping_add_u64(u0 * (v >> 32), (u >> 32) * v0);
+    wrapping_add_u64(c << 32, u0 * v0)
+}
+
+// u * v.
+pub fn product(u: u64, v: u64) -> Wide
+    ensures { λ r. ⌜ r .hi * 2 ^ 64 + r .lo ≡ u * v ⌝ }
+{
+    Wide {
+        hi: high_product(u, v),
+        lo: low_product(u, v),
+    }
+}
+
 // Whether s * s is above hi * 2^64 + lo.
 pub fn above(s: u64, hi: u64, lo: u64) -> bool
     ensures { λ r. ⌜ r ≡ ltb (hi * 2 ^ 64 + lo) (s * s) ⌝ }
 {
-    let p = product(s, s);
-    if p.hi == hi { lo < p.lo } else { hi < p.hi }
-}
-
-// The lower word of r * r.
-pub fn low_square(r: u64) -> u64
-    ensures { λ t. ⌜ t ≡ r * r % 2 ^ 64 ⌝ }
-{
-    let a = r % 0x1_0000_0000;
-    let b = r >> 32;
-    wrapping_add_u64(a * a, ((a * b) % 0x8000_0000) * 0x2_0000_0000)
+    let h = high_product(s, s);
+    if h == hi {
+        lo < low_product(s, s)
+    } else {
+        hi < h
+    }
 }
 
 // w + x.

@@ -1,6 +1,5 @@
 -- `angles::cos` meets its contract, region by region.
 use mathlib.Core.Path.{sym, ap, _∙_}
-use native.Mathlib.Omega.{arith}
 use borrow.Author.Needs.{needs}
 use Rattle.angles.specs.declared.Angle.the-variants as Angle
 use Rattle.angles.proofs.Answered.{cos-by, cosine-at}
@@ -28,9 +27,6 @@ add-ring-at c = search needs
 ring-at-requires : tie.Need-ring-at-requires
 ring-at-requires c κs = search needs
 
-to-float-requires : tie.Need-to-float-requires
-to-float-requires c κs = search needs
-
 returns : tie.Need-returns
 returns c = cos-by _ (c .before .before .region .ensures) (c .enum-told .given .1)
 
@@ -39,10 +35,9 @@ returns-2 c = cos-by _ (c .before .before .region .ensures) (c .enum-told2 .give
 
 returns-3 : tie.Need-returns-3
 returns-3 c =
-    let p = c .before in
-    let t = p .before .before in
+    let t = c .before .before in
     let m = t .before in
-    ap Angle.Is (cosine-at (t .reduced .ensures) (c .to-float .ensures) (p .ring-at .ensures)) ∙ cos-by _ (m .before .before .region .ensures) (m .enum-told3 .given .1)
+    ap Angle.Is (cosine-at (t .reduced .ensures) (c .ring-at .ensures)) ∙ cos-by _ (m .before .before .region .ensures) (m .enum-told3 .given .1)
 
 pub cos-spec : {M : Type 1} → statement M
 cos-spec =
@@ -55,7 +50,6 @@ cos-spec =
     reduced-requires
     add-ring-at
     ring-at-requires
-    to-float-requires
     returns
     returns-2
     returns-3)

@@ -1,6 +1,5 @@
 -- `angles::sin` meets its contract, region by region.
 use mathlib.Core.Path.{sym, ap, _∙_}
-use native.Mathlib.Omega.{arith}
 use borrow.Author.Needs.{needs}
 use Rattle.angles.specs.declared.Angle.the-variants as Angle
 use Rattle.angles.proofs.Answered.{sin-by, sine-at}
@@ -25,9 +24,6 @@ reduced-requires c κs = sym (c .before .before .region .ensures) ∙ c .enum-to
 ring-at-requires : tie.Need-ring-at-requires
 ring-at-requires c κs = search needs
 
-to-float-requires : tie.Need-to-float-requires
-to-float-requires c κs = search needs
-
 returns : tie.Need-returns
 returns c = sin-by _ (c .before .before .region .ensures) (c .enum-told .given .1)
 
@@ -36,10 +32,9 @@ returns-2 c = sin-by _ (c .before .before .region .ensures) (c .enum-told2 .give
 
 returns-3 : tie.Need-returns-3
 returns-3 c =
-    let p = c .before in
-    let t = p .before in
+    let t = c .before in
     let m = t .before in
-    ap Angle.Is (sine-at (t .reduced .ensures) (c .to-float .ensures) (p .ring-at .ensures)) ∙ sin-by _ (m .before .before .region .ensures) (m .enum-told3 .given .1)
+    ap Angle.Is (sine-at (t .reduced .ensures) (c .ring-at .ensures)) ∙ sin-by _ (m .before .before .region .ensures) (m .enum-told3 .given .1)
 
 pub sin-spec : {M : Type 1} → statement M
 sin-spec =
@@ -51,7 +46,6 @@ sin-spec =
     enum-told-3
     reduced-requires
     ring-at-requires
-    to-float-requires
     returns
     returns-2
     returns-3)

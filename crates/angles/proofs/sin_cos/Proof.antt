@@ -24,12 +24,6 @@ reduced-requires c κs = sym (c .before .before .region .ensures) ∙ c .enum-to
 both-at-requires : tie.Need-both-at-requires
 both-at-requires c κs = search needs
 
-to-float-requires : tie.Need-to-float-requires
-to-float-requires c κs = search needs
-
-to-float-requires-2 : tie.Need-to-float-requires-2
-to-float-requires-2 c κs = search needs
-
 returns : tie.Need-returns
 returns c = both-by _ (c .before .before .region .ensures) (c .enum-told .given .1)
 
@@ -38,11 +32,9 @@ returns-2 c = both-by _ (c .before .before .region .ensures) (c .enum-told2 .giv
 
 returns-3 : tie.Need-returns-3
 returns-3 c =
-    let s = c .before in
-    let p = s .before in
-    let t = p .before in
+    let t = c .before in
     let m = t .before in
-    ap₂ Both.Are (sine-at (t .reduced .ensures) (s .to-float .ensures) (p .both-at .ensures .0)) (cosine-at (t .reduced .ensures) (c .to-float2 .ensures) (p .both-at .ensures .1))
+    ap₂ Both.Are (sine-at (t .reduced .ensures) (c .both-at .ensures .0)) (cosine-at (t .reduced .ensures) (c .both-at .ensures .1))
     ∙ both-by _ (m .before .before .region .ensures) (m .enum-told3 .given .1)
 
 pub sin-cos-spec : {M : Type 1} → statement M
@@ -55,8 +47,6 @@ sin-cos-spec =
     enum-told-3
     reduced-requires
     both-at-requires
-    to-float-requires
-    to-float-requires-2
     returns
     returns-2
     returns-3)

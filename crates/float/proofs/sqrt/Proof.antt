@@ -4,12 +4,13 @@ use lib.Dec.{T}
 use lib.Ieee.{binary64}
 use lib.Ieee.Bits.{ofBits-toBits}
 use Rattle.float.specs.Sqrt.{sqrt}
-use Rattle.float.proofs.Cases.{above-no-nan, above-bits, no-nan-bits, above-inf, at-zero, other}
+use Rattle.wide.proofs.Patterns.{above-no-nan, no-nan-bits}
+use Rattle.float.proofs.Cases.{above-bits, above-inf, at-zero, other}
 use Rattle.float.proofs.sqrt.Statement.{statement}
 use Rattle.float.proofs.sqrt.Tie as tie
 
 float-to-bits-b : tie.Need-float-to-bits-b
-float-to-bits-b c = above-no-nan (c .before .args .x) (c .if1 .taken)
+float-to-bits-b c = above-no-nan _ (c .before .args .x) (c .if1 .taken)
 
 root-bits-requires : tie.Need-root-bits-requires
 root-bits-requires c κs = (above-bits (c .before .before .args .x) (subst T (sym (c .before .before .good .0 .1)) tt) (c .before .if1 .taken), c .if2 .taken)

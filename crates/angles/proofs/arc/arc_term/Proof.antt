@@ -1,45 +1,69 @@
 -- `angles::arc::arc_term` meets its contract.
+use mathlib.Core.Path.{sym, subst}
+use Prim.Native.Nat.{ℕ, _+_, _*_, _^_, _≤_}
 use native.Mathlib.Nat.{div-le-self}
 use native.Mathlib.Omega.{arith}
 use borrow.Author.Needs.{needs}
-use Prim.Native.Nat.{_+_, _*_}
-use Rattle.angles.proofs.ArcTerms.{product-fits, term-fits, term-at}
+use Rattle.angles.proofs.ArcTerms.{some-share, term-fits, term-at}
 use Rattle.angles.proofs.arc.arc_term.Statement.{statement}
 use Rattle.angles.proofs.arc.arc_term.Tie as tie
 
-mul-d : tie.Need-mul-d
-mul-d c = search needs
+add-share : tie.Need-add-share
+add-share c = search needs
 
-add-d : tie.Need-add-d
-add-d c = search needs
+div-share : tie.Need-div-share
+div-share c = search needs
 
-div-t5 : tie.Need-div-t5
-div-t5 c = search needs
+mul-over : tie.Need-mul-over
+mul-over c = search needs
 
-add-t6 : tie.Need-add-t6
-add-t6 c = omega (arith, c .before .before .pre .2 .room, div-le-self (c .before .before .args .a .p) (2 * c .before .before .args .n + 1))
+add-over : tie.Need-add-over
+add-over c = search needs
+
+over-requires : tie.Need-over-requires
+over-requires c κs = search needs
+
+add-t8 : tie.Need-add-t8
+add-t8 c =
+    let o = c .before in
+    let s = o .before in
+    let h : o .over .result ≤ s .args .a .p = subst (λ (z : ℕ). z ≤ s .args .a .p) (sym (o .over .ensures)) (div-le-self (s .args .a .p) (2 * s .args .n + 1)) in
+    omega (arith, s .pre .2 .room)
 
 mul-shift-requires : tie.Need-mul-shift-requires
 mul-shift-requires c κs = search needs
 
-mul-t8 : tie.Need-mul-t8
-mul-t8 c =
-    let s = c .before .before .before in
-    omega (arith, product-fits (s .args .h) (s .args .n) (s .args .a) (c .mul-shift .result) (s .pre .0) (s .pre .1) (s .pre .2) (c .mul-shift .ensures))
+sub-high-product : tie.Need-sub-high-product
+sub-high-product c = let s = c .before .before .before in some-share (s .args .n) (s .pre .1)
 
-add-t9 : tie.Need-add-t9
-add-t9 c = search needs
+sub-high-product-2 : tie.Need-sub-high-product-2
+sub-high-product-2 c = omega (arith, div-le-self (2 ^ 63) (c .before .before .before .args .n + 1))
 
-div-t10 : tie.Need-div-t10
-div-t10 c = search needs
+high-product-requires : tie.Need-high-product-requires
+high-product-requires c κs = search needs
 
 returns : tie.Need-returns
 returns c =
-    let s = c .before .before .before in (
-      term-fits (s .args .h) (s .args .n) (s .args .a) (c .mul-shift .result) (s .pre .0) (s .pre .1) (s .pre .2) (c .mul-shift .ensures),
-      term-at (s .args .h) (s .args .n) (s .args .a) (c .mul-shift .result) (s .pre .0) (s .pre .1) (s .pre .2) (c .mul-shift .ensures),
+    let m = c .before in
+    let o = m .before .before in
+    let s = o .before in
+    let a = s .args in (
+      term-fits (a .h) (a .n) (a .a) (m .mul-shift .result) (c .high-product .result) (s .pre .0) (s .pre .1) (s .pre .2) (m .mul-shift .ensures) (c .high-product .ensures) (o .over .result) (o .over .ensures),
+      term-at (a .h) (a .n) (a .a) (m .mul-shift .result) (c .high-product .result) (s .pre .0) (s .pre .1) (s .pre .2) (m .mul-shift .ensures) (c .high-product .ensures) (o .over .result) (o .over .ensures),
     )
 
 pub arc-term-spec : {M : Type 1} → statement M
 arc-term-spec =
-    tie.close (tie.spec mul-d add-d div-t5 add-t6 mul-shift-requires mul-t8 add-t9 div-t10 returns)
+    tie.close
+    (tie.spec
+    add-share
+    div-share
+    mul-over
+    add-over
+    over-requires
+    add-t8
+    mul-shift-requires
+    sub-high-product
+    sub-high-product-2
+    high-product-requires
+    returns)

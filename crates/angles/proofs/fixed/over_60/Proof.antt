@@ -1,5 +1,4 @@
-use lib.Dec.{lit≤}
-use lib.Ieee.{binary64}
+-- `angles::fixed::over_60` meets its contract.
 use Rattle.angles.proofs.Rounding.{upper-in, lower-in, over-60-law}
 use Rattle.angles.proofs.fixed.over_60.Statement.{statement}
 use Rattle.angles.proofs.fixed.over_60.Tie as tie

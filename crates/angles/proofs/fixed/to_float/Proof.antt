@@ -1,5 +1,4 @@
-use mathlib.Core.Path.{_≡_, _∙_, sym, ap}
-use mathlib.Core.Bool.{Bool}
+-- `angles::fixed::to_float` meets its contract.
 use Rattle.angles.proofs.Rounding.{float-zero, float-neg, float-pos}
 use borrow.Author.Needs.{needs}
 use Rattle.angles.proofs.fixed.to_float.Statement.{statement}

@@ -1,7 +1,6 @@
--- `angles::ring::both_at` meets its contract: the next place of the ring has the other series.
-use native.Mathlib.Omega.{arith}
+-- `angles::ring::both_at` meets its contract.
 use borrow.Author.Needs.{needs}
-use Rattle.angles.proofs.Places.{even-place, odd-place, next-four, next-odd, next-even}
+use Rattle.angles.proofs.Places.{placed, next-four}
 use Rattle.angles.proofs.ring.both_at.Statement.{statement}
 use Rattle.angles.proofs.ring.both_at.Tie as tie
 
@@ -11,35 +10,40 @@ sine-size-requires c κs = search needs
 cosine-size-requires : tie.Need-cosine-size-requires
 cosine-size-requires c κs = search needs
 
+add-next : tie.Need-add-next
+add-next c = search needs
+
+size-of-requires : tie.Need-size-of-requires
+size-of-requires c κs = search needs
+
 negative-at-requires : tie.Need-negative-at-requires
 negative-at-requires c κs = search needs
 
-add-negative-at : tie.Need-add-negative-at
-add-negative-at c = search needs
+to-float-requires : tie.Need-to-float-requires
+to-float-requires c κs = search needs
+
+size-of-requires-2 : tie.Need-size-of-requires-2
+size-of-requires-2 c κs = search needs
 
 negative-at-requires-2 : tie.Need-negative-at-requires-2
 negative-at-requires-2 c κs = search needs
 
+to-float-requires-2 : tie.Need-to-float-requires-2
+to-float-requires-2 c κs = search needs
+
 returns : tie.Need-returns
 returns c =
-    let m = c .before in
-    let n = m .before in
-    let v = n .before in
-    let w = v .before in
-    let s = w .before in (
-      even-place _ _ _ (s .pre .0) (s .pre .1) (n .negative-at .ensures) (w .sine-size .ensures .0) (c .if1 .taken),
-      odd-place _ _ _ (next-four _) (s .pre .1) (m .negative-at2 .ensures) (v .cosine-size .ensures .0) (next-odd _ (c .if1 .taken)),
-    )
-
-returns-2 : tie.Need-returns-2
-returns-2 c =
-    let m = c .before in
-    let n = m .before in
-    let v = n .before in
-    let w = v .before in
-    let s = w .before in (
-      odd-place _ _ _ (s .pre .0) (s .pre .1) (n .negative-at .ensures) (v .cosine-size .ensures .0) (c .if1 .left),
-      even-place _ _ _ (next-four _) (s .pre .1) (m .negative-at2 .ensures) (w .sine-size .ensures .0) (next-even _ (c .if1 .left)),
+    let n2 = c .before in
+    let z2 = n2 .before in
+    let f = z2 .before in
+    let n = f .before in
+    let z = n .before in
+    let k = z .before in
+    let v = k .before in
+    let s = v .before in
+    let a = s .args in (
+      placed (a .q) (a .below) (a .u) (s .pre .0) (s .pre .1) (n .negative-at .ensures) (z .size-of .ensures (a .u) (v .sine-size .ensures .0) (k .cosine-size .ensures .0)) (f .to-float .ensures),
+      placed _ (a .below) (a .u) (next-four (a .q)) (s .pre .1) (n2 .negative-at2 .ensures) (z2 .size-of2 .ensures (a .u) (v .sine-size .ensures .0) (k .cosine-size .ensures .0)) (c .to-float2 .ensures),
     )
 
 pub both-at-spec : {M : Type 1} → statement M
@@ -48,8 +52,11 @@ both-at-spec =
     (tie.spec
     sine-size-requires
     cosine-size-requires
+    add-next
+    size-of-requires
     negative-at-requires
-    add-negative-at
+    to-float-requires
+    size-of-requires-2
     negative-at-requires-2
-    returns
-    returns-2)
+    to-float-requires-2
+    returns)

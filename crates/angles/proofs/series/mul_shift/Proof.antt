@@ -1,3 +1,4 @@
+-- `angles::series::mul_shift` meets its contract.
 use mathlib.Core.Path.{_∙_}
 use Rattle.angles.proofs.Division.{shift-16}
 use borrow.Author.Needs.{needs}

@@ -1,8 +1,9 @@
-use mathlib.Core.Path.{_∙_, ap, subst, sym, _≡_}
-use Prim.Native.Nat.{ℕ, _*_, _/_, _^_, _≤_}
-use Rattle.angles.specs.Series.{next-le}
-use Rattle.angles.specs.Sizes.{nextOf}
+-- `angles::series::next_term` meets its contract.
+use mathlib.Core.Path.{_≡_, _∙_, ap, subst, sym}
+use Prim.Native.Nat.{ℕ, _*_, _/_, _^_, _≤_, _<_}
 use borrow.Author.Needs.{needs}
+use Rattle.angles.specs.Sizes.{nextOf}
+use Rattle.angles.proofs.Division.{next-fits, next-within}
 use Rattle.angles.proofs.series.next_term.Statement.{statement}
 use Rattle.angles.proofs.series.next_term.Tie as tie
 
@@ -12,15 +13,22 @@ mul-shift-requires c κs = search needs
 mul-shift-requires-2 : tie.Need-mul-shift-requires-2
 mul-shift-requires-2 c κs = search needs
 
-div-result : tie.Need-div-result
-div-result c = search needs
+over-requires : tie.Need-over-requires
+over-requires c κs =
+    let s = c .before .before in
+    let a = s .args in (
+      s .pre .1,
+      subst (λ (q : ℕ). q * a .d < 2 ^ 64) (sym (c .mul-shift2 .ensures ∙ ap (λ (x : ℕ). x * a .u / 2 ^ 60) (c .before .mul-shift .ensures))) (next-fits (a .t) (a .u) (a .d) (s .pre .0) (s .pre .2)),
+    )
 
 returns : tie.Need-returns
 returns c =
-    let a = c .before .before .args in
-    let e : c .mul-shift2 .result / a .d ≡ nextOf (a .u) (a .d) (a .t) =
-    ap (λ (x : ℕ). x / a .d) (c .mul-shift2 .ensures ∙ ap (λ (x : ℕ). x * a .u / 2 ^ 60) (c .before .mul-shift .ensures)) in
-    (e, subst (λ (x : ℕ). x ≤ a .t) (sym e) (next-le (a .t) (a .u) (a .d) (c .before .before .pre .0)))
+    let m = c .before in
+    let s = m .before .before in
+    let a = s .args in
+    let e : c .over .result ≡ nextOf (a .u) (a .d) (a .t) =
+    c .over .ensures ∙ ap (λ (x : ℕ). x / a .d) (m .mul-shift2 .ensures ∙ ap (λ (x : ℕ). x * a .u / 2 ^ 60) (m .before .mul-shift .ensures)) in
+    (e, subst (λ (x : ℕ). x * a .d ≤ a .t) (sym e) (next-within (a .t) (a .u) (a .d) (s .pre .0)))
 
 pub next-term-spec : {M : Type 1} → statement M
-next-term-spec = tie.close (tie.spec mul-shift-requires mul-shift-requires-2 div-result returns)
+next-term-spec = tie.close (tie.spec mul-shift-requires mul-shift-requires-2 over-requires returns)

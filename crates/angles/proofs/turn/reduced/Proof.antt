@@ -2,7 +2,7 @@
 use lib.Ieee.{neg}
 use native.Mathlib.Omega.{arith}
 use Rattle.angles.specs.Angles.{sizeOf}
-use Rattle.angles.proofs.Reduction.{reduced-pos, reduced-neg}
+use Rattle.angles.specs.Reduction.{reduced-pos, reduced-neg}
 use Rattle.angles.proofs.Regions.{above, under-zero}
 use Rattle.angles.proofs.turn.reduced.Statement.{statement}
 use Rattle.angles.proofs.turn.reduced.Tie as tie

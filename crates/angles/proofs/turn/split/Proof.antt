@@ -1,10 +1,11 @@
-use mathlib.Core.Path.{_≡_, sym, ap, _∙_, subst}
-use Prim.Native.Nat.{ℕ, _+_, _-_, _*_, _/_, _%_, _^_, _<_, _≤_}
+-- `angles::turn::split` meets its contract.
+use mathlib.Core.Path.{sym, ap, _∙_, subst}
+use Prim.Native.Nat.{ℕ, _-_, _*_, _/_, _^_, _≤_}
 use native.Mathlib.Nat.{mul-one}
 use native.Mathlib.Omega.{arith}
 use lib.Dec.{T, lit≤}
-use lib.Ieee.{Float, binary64, fits, le, toBits}
-use Rattle.angles.proofs.Bits.{least, most, is-no-nan, field-low, field-high, cut-down, cut-up, no-loss, in-steps}
+use lib.Ieee.{Float, binary64, fits, toBits}
+use Rattle.angles.proofs.Bits.{is-no-nan, field-low, field-high, cut-down, cut-up, no-loss, in-steps}
 use borrow.Author.Needs.{needs}
 use Rattle.angles.proofs.turn.split.Statement.{statement}
 use Rattle.angles.proofs.turn.split.Tie as tie

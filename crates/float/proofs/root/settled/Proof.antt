@@ -1,52 +1,39 @@
 -- Assumes nothing.
-use mathlib.Core.Path.{sym, subst}
-use lib.Dec.{T, ltb→lt}
-use Rattle.float.proofs.Settled.{square-small, settled-law}
+use mathlib.Core.Path.{ap, _∙_}
+use Prim.Native.Nat.{ℕ, _+_}
+use mathlib.Core.Logic.{⊎-elim}
+use Rattle.float.proofs.Settled.{one-less, itself, one-more}
+use native.Mathlib.Omega.{arith}
 use borrow.Author.Needs.{needs}
 use Rattle.float.proofs.root.settled.Statement.{statement}
 use Rattle.float.proofs.root.settled.Tie as tie
 
-mul-t9 : tie.Need-mul-t9
-mul-t9 c = search needs
+mul-if1 : tie.Need-mul-if1
+mul-if1 c = search needs
 
-sub-raised : tie.Need-sub-raised
-sub-raised c = search needs
+sub-if1 : tie.Need-sub-if1
+sub-if1 c = search needs
 
-raised-requires : tie.Need-raised-requires
-raised-requires c κs = search needs
+sub-r : tie.Need-sub-r
+sub-r c = search needs
 
-high-product-requires : tie.Need-high-product-requires
-high-product-requires c κs = search needs
+mul-if2 : tie.Need-mul-if2
+mul-if2 c = search needs
 
-low-square-requires : tie.Need-low-square-requires
-low-square-requires c κs = search needs
+sub-if2 : tie.Need-sub-if2
+sub-if2 c = search needs
 
-wrapping-sub-u64-requires : tie.Need-wrapping-sub-u64-requires
-wrapping-sub-u64-requires c κs = search needs
-
-raised-requires-2 : tie.Need-raised-requires-2
-raised-requires-2 c κs = rw (c .before .before .high-product .ensures) (square-small _ (c .before .before .before .before .pre .1))
-
-mul-result : tie.Need-mul-result
-mul-result c = search needs
+add-result : tie.Need-add-result
+add-result c = ⊎-elim (λ w. omega arith) (λ w. omega arith) (c .before .before .if1 .came)
 
 returns : tie.Need-returns
-returns c t = settled-law _ _ _ _ _ _ _ _ _ _ (c .before .before .before .before .before .before .before .raised .ensures .0) (c .before .before .before .before .before .before .high-product .ensures) (c .before .before .before .before .before .low-square .ensures) (c .before .before .before .before .wrapping-sub-u64 .ensures) (c .before .before .before .raised2 .ensures .0) (c .before .before .before .raised2 .ensures .1) (c .if1 .taken) (ltb→lt _ _ (subst T (sym t) tt))
+returns c n h =
+    ⊎-elim (λ w. w .1 ∙ one-less _ _ n (omega arith) h (w .0 .taken)) (λ w. w .1 ∙ itself _ _ n (omega arith) h (omega arith) (c .if2 .taken)) (c .before .if1 .came)
 
 returns-2 : tie.Need-returns-2
-returns-2 c t = absurd (subst T (sym t) tt)
+returns-2 c n h =
+    ⊎-elim (λ w. absurd (omega arith)) (λ w. ap (λ (z : ℕ). z + 1) (w .1) ∙ one-more _ _ n (omega arith) h (c .before .if2 .left) (omega arith)) (c .before .before .if1 .came)
 
 pub settled-spec : {M : Type 1} → statement M
 settled-spec =
-    tie.close
-    (tie.spec
-    mul-t9
-    sub-raised
-    raised-requires
-    high-product-requires
-    low-square-requires
-    wrapping-sub-u64-requires
-    raised-requires-2
-    mul-result
-    returns
-    returns-2)
+    tie.close (tie.spec mul-if1 sub-if1 sub-r mul-if2 sub-if2 add-result returns returns-2)

@@ -1,63 +1,64 @@
--- Each turn halves what is left open of the root: 64 turns. Assumes nothing.
 use borrow.Author.Needs.{needs}
-use mathlib.Core.Path.{_≡_, sym, subst}
-use Prim.Native.Nat.{_+_, _-_, _*_, _^_, _≤_, _<_}
-use native.Mathlib.Omega.{arith}
-use Rattle.wide.proofs.Digits.{Open, all-open, digit-fits, shifted, next-open, closed}
 use Rattle.wide.proofs.isqrt.isqrt.Statement.{statement}
 use Rattle.wide.proofs.isqrt.isqrt.Tie as tie
 
-abbrev Inv-loop : tie.InvT-loop
-Inv-loop hi lo s₀ k₀ s k = (k ≤ 64) × Open (hi * 2 ^ 64 + lo) s k
+as-float-requires : tie.Need-as-float-requires
+as-float-requires c κs = search needs
 
-abbrev μ-loop : tie.MeasureT-loop
-μ-loop hi lo s₀ k₀ s k = k
+hint-requires : tie.Need-hint-requires
+hint-requires c κs = search needs
 
-loop-holds : tie.Need-loop-holds Inv-loop μ-loop
-loop-holds c = (omega arith, all-open (c .args .hi) (c .args .lo) (c .fits .hi .fits) (c .fits .lo .fits))
+word-requires : tie.Need-word-requires
+word-requires c κs = search needs
 
-sub-k : tie.Need-sub-k Inv-loop μ-loop
-sub-k c = search needs
+closer-requires : tie.Need-closer-requires
+closer-requires c κs = search needs
 
-cast-digit : tie.Need-cast-digit Inv-loop μ-loop
-cast-digit c = search needs
+is-root-requires : tie.Need-is-root-requires
+is-root-requires c κs = search needs
 
-shl-digit : tie.Need-shl-digit Inv-loop μ-loop
-shl-digit c = search needs
+returns : tie.Need-returns
+returns c = c .before .is-root .ensures (c .if1 .taken)
 
-digit-requires : tie.Need-digit-requires Inv-loop μ-loop
-digit-requires c κs =
-    let k = c .before .loop .k in
-    let e : k - 1 + 1 ≡ k = omega arith in
-    let l : k - 1 < 64 = omega arith in
-    rw (shifted (k - 1) l) (digit-fits _ _ (k - 1) (rw (← e) at (c .before .loop .inv .1)))
+wrapping-add-u64-requires : tie.Need-wrapping-add-u64-requires
+wrapping-add-u64-requires c κs = search needs
 
-loop-less : tie.Need-loop-less Inv-loop μ-loop
-loop-less c = search needs
+is-root-requires-2 : tie.Need-is-root-requires-2
+is-root-requires-2 c κs = search needs
 
-loop-again : tie.Need-loop-again Inv-loop μ-loop
-loop-again c =
-    let k = c .before .before .loop .k in
-    let e : k - 1 + 1 ≡ k = omega arith in
-    let l : k - 1 < 64 = omega arith in
-    (omega arith, next-open _ _ (k - 1) (subst (Open _ _) (sym e) (c .before .before .loop .inv .1)) _ (rw (shifted (k - 1) l) at (c .digit .ensures)))
+returns-2 : tie.Need-returns-2
+returns-2 c = c .before .is-root2 .ensures (c .if2 .taken)
 
-returns : tie.Need-returns Inv-loop μ-loop
-returns c =
-    let z : c .before .loop .k ≡ 0 = omega arith in
-    closed _ _ (rw z at (c .before .loop .inv .1))
+wrapping-sub-u64-requires : tie.Need-wrapping-sub-u64-requires
+wrapping-sub-u64-requires c κs = search needs
+
+is-root-requires-3 : tie.Need-is-root-requires-3
+is-root-requires-3 c κs = search needs
+
+by-digits-requires : tie.Need-by-digits-requires
+by-digits-requires c κs = search needs
+
+returns-3 : tie.Need-returns-3
+returns-3 c = c .before .is-root3 .ensures (c .if3 .taken)
+
+returns-4 : tie.Need-returns-4
+returns-4 c = search needs
 
 pub isqrt-spec : {M : Type 1} → statement M
 isqrt-spec =
     tie.close
     (tie.spec
-    Inv-loop
-    μ-loop
-    loop-holds
-    sub-k
-    cast-digit
-    shl-digit
-    digit-requires
-    loop-less
-    loop-again
-    returns)
+    as-float-requires
+    hint-requires
+    word-requires
+    closer-requires
+    is-root-requires
+    returns
+    wrapping-add-u64-requires
+    is-root-requires-2
+    returns-2
+    wrapping-sub-u64-requires
+    is-root-requires-3
+    by-digits-requires
+    returns-3
+    returns-4)

@@ -1,21 +1,23 @@
--- `root::wide::above` meets its contract. Assumes nothing.
-use borrow.Author.Needs.{needs}
-use Prim.Native.Nat.{_*_, _^_}
+use native.Mathlib.Omega.{arith}
+use Prim.Native.Nat.{_*_, _%_, _^_}
 use Rattle.wide.proofs.Products.{same-high, other-high}
+use borrow.Author.Needs.{needs}
 use Rattle.wide.proofs.product.above.Statement.{statement}
 use Rattle.wide.proofs.product.above.Tie as tie
 
-product-requires : tie.Need-product-requires
-product-requires c κs = search needs
+high-product-requires : tie.Need-high-product-requires
+high-product-requires c κs = search needs
+
+low-product-requires : tie.Need-low-product-requires
+low-product-requires c κs = search needs
 
 returns : tie.Need-returns
-returns c = same-high (2 ^ 64) _ _ _ _ _ (c .before .before .before .product .ensures) (c .before .if1 .taken)
+returns c = same-high (2 ^ 64) _ _ _ _ _ (omega (arith, c .before .before .high-product .ensures, c .low-product .ensures)) (c .before .if1 .taken)
 
 returns-2 : tie.Need-returns-2
 returns-2 c =
-    let a = c .before .before .before .before .args in
-    let p = c .before .before .before .product .result in
-    other-high (2 ^ 64) (a .hi) (a .lo) (p .hi) (p .lo) (a .s * a .s) (c .before .before .before .before .fits .lo .fits) (c .struct-known3 .given .1 .0 .fits) (c .before .before .before .product .ensures) (c .before .if1 .left)
+    let a = c .before .before .args in
+    other-high (2 ^ 64) (a .hi) (a .lo) _ (a .s * a .s % 2 ^ 64) (a .s * a .s) (c .before .before .fits .lo .fits) (omega arith) (omega (arith, c .before .high-product .ensures)) (c .if1 .left)
 
 pub above-spec : {M : Type 1} → statement M
-above-spec = tie.close (tie.spec product-requires returns returns-2)
+above-spec = tie.close (tie.spec high-product-requires low-product-requires returns returns-2)

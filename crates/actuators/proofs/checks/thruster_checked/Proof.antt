@@ -1,0 +1,65 @@
+-- `actuators::checks::thruster_checked` meets its contract. Assumes nothing.
+use Rattle.actuators.specs.Prepare as Prepare
+use borrow.Author.Needs.{needs}
+use Rattle.actuators.proofs.checks.thruster_checked.Statement.{statement}
+use Rattle.actuators.proofs.checks.thruster_checked.Tie as tie
+
+outside-requires : tie.Need-outside-requires
+outside-requires c κs = search needs
+
+add-refused : tie.Need-add-refused
+add-refused c = search needs
+
+refused-requires : tie.Need-refused-requires
+refused-requires c κs = search needs
+
+returns : tie.Need-returns
+unfolding Prepare.thrusterChecked
+returns c = rw (← c .before .before .outside .ensures, c .before .if1 .taken) (c .refused .ensures)
+
+unit3-requires : tie.Need-unit3-requires
+unit3-requires c κs = search needs
+
+enum-told : tie.Need-enum-told
+enum-told c = search needs
+
+add-refused-2 : tie.Need-add-refused-2
+add-refused-2 c = search needs
+
+refused-requires-2 : tie.Need-refused-requires-2
+refused-requires-2 c κs = search needs
+
+enum-known-unit : tie.Need-enum-known-unit
+enum-known-unit c = search needs
+
+with-thruster-requires : tie.Need-with-thruster-requires
+with-thruster-requires c κs = search needs
+
+going-requires : tie.Need-going-requires
+going-requires c κs = search needs
+
+returns-2 : tie.Need-returns-2
+unfolding Prepare.thrusterChecked
+returns-2 c = rw (← c .before .before .before .before .before .before .outside .ensures, c .before .before .before .before .before .if1 .left, ← c .before .before .before .unit3 .ensures, c .before .enum-told .given .1) (c .refused2 .ensures)
+
+returns-3 : tie.Need-returns-3
+unfolding Prepare.thrusterChecked
+returns-3 c = rw (← c .before .before .before .before .before .before .before .before .outside .ensures, c .before .before .before .before .before .before .before .if1 .left, ← c .before .before .before .before .before .unit3 .ensures, c .before .before .before .unit .given .1, ← c .before .with-thruster .ensures) (c .going .ensures)
+
+pub thruster-checked-spec : {M : Type 1} → statement M
+thruster-checked-spec =
+    tie.close
+    (tie.spec
+    outside-requires
+    add-refused
+    refused-requires
+    returns
+    unit3-requires
+    enum-told
+    add-refused-2
+    refused-requires-2
+    enum-known-unit
+    with-thruster-requires
+    going-requires
+    returns-2
+    returns-3)

@@ -1,0 +1,55 @@
+-- `actuators::checks::thrusters_checked` meets its contract. Assumes nothing.
+use Rattle.common.specs.Iter.{iter, iter-none, iter-next}
+use mathlib.Core.Path.{_≡_}
+use Prim.Native.Nat.{_≤_, _-_}
+use Rattle.actuators.specs.Prepare as Prepare
+use native.Mathlib.Omega.{arith}
+use borrow.Author.Needs.{needs}
+use Rattle.actuators.proofs.checks.thrusters_checked.Statement.{statement}
+use Rattle.actuators.proofs.checks.thrusters_checked.Tie as tie
+
+abbrev Inv-loop : tie.InvT-loop
+Inv-loop count thrusters prepared₀ k₀ prepared k = (k ≤ count) × (prepared ≡ iter (Prepare.thrusterTurn thrusters) prepared₀ k)
+
+abbrev μ-loop : tie.MeasureT-loop
+μ-loop count thrusters prepared₀ k₀ prepared k = count - k
+
+loop-holds : tie.Need-loop-holds Inv-loop μ-loop
+loop-holds c = (search needs, iter-none _ _)
+
+mul-thruster : tie.Need-mul-thruster Inv-loop μ-loop
+mul-thruster c = search needs
+
+array-copy-out-thruster : tie.Need-array-copy-out-thruster Inv-loop μ-loop
+array-copy-out-thruster c = search needs
+
+thruster-turn-requires : tie.Need-thruster-turn-requires Inv-loop μ-loop
+thruster-turn-requires c κs = search needs
+
+add-k : tie.Need-add-k Inv-loop μ-loop
+add-k c = search needs
+
+loop-less : tie.Need-loop-less Inv-loop μ-loop
+loop-less c = search needs
+
+loop-again : tie.Need-loop-again Inv-loop μ-loop
+loop-again c = (search needs, iter-next _ _ _ (c .before .before .before .loop .inv .1) (c .thruster-turn .ensures))
+
+returns : tie.Need-returns Inv-loop μ-loop
+unfolding Prepare.thrustersChecked
+returns c = let e : c .before .loop .k ≡ c .before .before .args .count = omega arith in rw (← e) (c .before .loop .inv .1)
+
+pub thrusters-checked-spec : {M : Type 1} → statement M
+thrusters-checked-spec =
+    tie.close
+    (tie.spec
+    Inv-loop
+    μ-loop
+    loop-holds
+    mul-thruster
+    array-copy-out-thruster
+    thruster-turn-requires
+    add-k
+    loop-less
+    loop-again
+    returns)

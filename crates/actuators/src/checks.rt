@@ -1,0 +1,296 @@
+// Carried over from quatopsy-plan/src/actuators.rs (Apache-2.0), changed: the prepared actuators go into flat tables, a refusal is a number and a place.
+// Preparing what a user declares: counts, then each actuator's numbers and its axis, in the order in which they are declared.
+ghost use mathlib.Core.Path.{_≡_};
+ghost use Prim.Native.Nat.{_≤_, _<_};
+ghost use Rattle.actuators.specs.Prepare as Prepare;
+use crate::ActuatorMap;
+use crate::Actuators;
+use crate::CmgPyramid;
+use crate::Cmgs;
+use crate::Power;
+use crate::Prepared;
+use crate::Thruster;
+use crate::Wheel;
+use crate::blank_map;
+use crate::unfilled;
+use common::Fate;
+use common::Limit;
+use float::is_finite;
+use geom::Axis;
+use geom::unit3;
+
+// Not finite, or not above 0.
+fn outside(x: f64) -> bool
+    ensures { λ r. ⌜ r ≡ Prepare.outside x ⌝ }
+{
+    if is_finite(x) { x <= 0.0 } else { true }
+}
+
+// A declared power that is not finite and above 0.
+fn power_outside(power: Limit) -> bool
+    ensures { λ r. ⌜ r ≡ Prepare.powerOutside power ⌝ }
+{
+    match power {
+        Limit::Nothing => false,
+        Limit::At(limit) => outside(limit),
+    }
+}
+
+// One of a wheel's numbers is outside its range.
+fn wheel_outside(wheel: Wheel) -> bool
+    ensures { λ r. ⌜ r ≡ Prepare.wheelOutside wheel ⌝ }
+{
+    if outside(wheel.max_torque_nm) {
+        return true;
+    }
+    if outside(wheel.max_momentum_nms) {
+        return true;
+    }
+    let power = wheel.max_power_w;
+    power_outside(power)
+}
+
+// One of a pyramid's numbers is outside its range.
+fn pyramid_outside(pyramid: CmgPyramid) -> bool
+    ensures { λ r. ⌜ r ≡ Prepare.pyramidOutside pyramid ⌝ }
+{
+    if outside(pyramid.skew_rad) {
+        return true;
+    }
+    if pyramid.skew_rad >= 1.6 {
+        return true;
+    }
+    if outside(pyramid.wheel_momentum_nms) {
+        return true;
+    }
+    if outside(pyramid.max_gimbal_rate_rad_s) {
+        return true;
+    }
+    outside(pyramid.singularity_eps)
+}
+
+// A refusal, with the blank map.
+fn refused(number: usize, place: usize) -> Prepared
+    ensures { λ r. ⌜ r ≡ Prepare.refused number place ⌝ }
+{
+    let map = blank_map();
+    Prepared {
+        fate: Fate::Refused(number, place),
+        map: map,
+    }
+}
+
+// The map so far.
+fn going(map: ActuatorMap) -> Prepared
+    ensures { λ r. ⌜ r ≡ Prepare.going map ⌝ }
+{
+    Prepared {
+        fate: Fate::Going,
+        map: map,
+    }
+}
+
+// Wheel k goes into the tables, with its unit axis.
+fn with_wheel(map: ActuatorMap, k: usize, wheel: Wheel, x: f64, y: f64, z: f64) -> ActuatorMap
+    requires { ⌜ k < 8 ⌝ }
+    ensures { λ r. ⌜ r ≡ Prepare.withWheel map k wheel x y z ⌝ }
+{
+    let cmgs = map.cmgs;
+    let mut wheel_axes = map.wheel_axes;
+    wheel_axes[3 * k] = x;
+    wheel_axes[3 * k + 1] = y;
+    wheel_axes[3 * k + 2] = z;
+    let mut wheel_torques = map.wheel_torques;
+    wheel_torques[k] = wheel.max_torque_nm;
+    let mut wheel_momenta = map.wheel_momenta;
+    wheel_momenta[k] = wheel.max_momentum_nms;
+    let limit = wheel.max_power_w;
+    let mut wheel_powers = map.wheel_powers;
+    wheel_powers[k] = Power { limit: limit };
+    let thruster_axes = map.thruster_axes;
+    let thruster_torques = map.thruster_torques;
+    ActuatorMap {
+        wheel_count: map.wheel_count,
+        thruster_count: map.thruster_count,
+        cmgs: cmgs,
+        wheel_axes: wheel_axes,
+        wheel_torques: wheel_torques,
+        wheel_momenta: wheel_momenta,
+        wheel_powers: wheel_powers,
+        thruster_axes: thruster_axes,
+        thruster_torques: thruster_torques,
+    }
+}
+
+// Wheel k is checked, its numbers before its axis, and goes into the tables.
+fn wheel_checked(map: ActuatorMap, k: usize, wheel: Wheel) -> Prepared
+    requires { ⌜ k < 8 ⌝ }
+    ensures { λ r. ⌜ r ≡ Prepare.wheelChecked map k wheel ⌝ }
+{
+    if wheel_outside(wheel) {
+        return refused(2, k);
+    }
+    let axis = wheel.axis;
+    let unit = unit3(axis);
+    match unit {
+        Axis::Not => refused(3, k),
+        Axis::Is(x, y, z) => going(with_wheel(map, k, wheel, x, y, z)),
+    }
+}
+
+// Wheel k, unless an actuator before it was refused.
+fn wheel_turn(prepared: Prepared, k: usize, wheel: Wheel) -> Prepared
+    requires { ⌜ k < 8 ⌝ }
+    ensures { λ r. ⌜ r ≡ Prepare.wheelNext k wheel prepared ⌝ }
+{
+    let fate = prepared.fate;
+    let map = prepared.map;
+    match fate {
+        Fate::Going => wheel_checked(map, k, wheel),
+        Fate::Refused(_, _) => prepared,
+    }
+}
+
+// The first `count` wheels.
+fn wheels_checked(wheels: [Wheel; 8], count: usize, start: Prepared) -> Prepared
+    requires { ⌜ count ≤ 8 ⌝ }
+    ensures { λ r. ⌜ r ≡ Prepare.wheelsChecked wheels start count ⌝ }
+{
+    let mut prepared = start;
+    let mut k: usize = 0;
+    while k < count {
+        let wheel = wheels[k];
+        prepared = wheel_turn(prepared, k, wheel);
+        k += 1;
+    }
+    prepared
+}
+
+// Thruster k goes into the tables, with its unit axis.
+fn with_thruster(
+    map: ActuatorMap,
+    k: usize,
+    thruster: Thruster,
+    x: f64,
+    y: f64,
+    z: f64,
+) -> ActuatorMap
+    requires { ⌜ k < 12 ⌝ }
+    ensures { λ r. ⌜ r ≡ Prepare.withThruster map k thruster x y z ⌝ }
+{
+    let cmgs = map.cmgs;
+    let wheel_axes = map.wheel_axes;
+    let wheel_torques = map.wheel_torques;
+    let wheel_momenta = map.wheel_momenta;
+    let wheel_powers = map.wheel_powers;
+    let mut thruster_axes = map.thruster_axes;
+    thruster_axes[3 * k] = x;
+    thruster_axes[3 * k + 1] = y;
+    thruster_axes[3 * k + 2] = z;
+    let mut thruster_torques = map.thruster_torques;
+    thruster_torques[k] = thruster.max_torque_nm;
+    ActuatorMap {
+        wheel_count: map.wheel_count,
+        thruster_count: map.thruster_count,
+        cmgs: cmgs,
+        wheel_axes: wheel_axes,
+        wheel_torques: wheel_torques,
+        wheel_momenta: wheel_momenta,
+        wheel_powers: wheel_powers,
+        thruster_axes: thruster_axes,
+        thruster_torques: thruster_torques,
+    }
+}
+
+// Thruster k is checked, its torque before its axis, and goes into the tables. Its place is 8 + k.
+fn thruster_checked(map: ActuatorMap, k: usize, thruster: Thruster) -> Prepared
+    requires { ⌜ k < 12 ⌝ }
+    ensures { λ r. ⌜ r ≡ Prepare.thrusterChecked map k thruster ⌝ }
+{
+    if outside(thruster.max_torque_nm) {
+        return refused(2, 8 + k);
+    }
+    let axis = thruster.torque_axis;
+    let unit = unit3(axis);
+    match unit {
+        Axis::Not => refused(3, 8 + k),
+        Axis::Is(x, y, z) => going(with_thruster(map, k, thruster, x, y, z)),
+    }
+}
+
+// Thruster k, unless an actuator before it was refused.
+fn thruster_turn(prepared: Prepared, k: usize, thruster: Thruster) -> Prepared
+    requires { ⌜ k < 12 ⌝ }
+    ensures { λ r. ⌜ r ≡ Prepare.thrusterNext k thruster prepared ⌝ }
+{
+    let fate = prepared.fate;
+    let map = prepared.map;
+    match fate {
+        Fate::Going => thruster_checked(map, k, thruster),
+        Fate::Refused(_, _) => prepared,
+    }
+}
+
+// The first `count` thrusters.
+fn thrusters_checked(thrusters: [Thruster; 12], count: usize, start: Prepared) -> Prepared
+    requires { ⌜ count ≤ 12 ⌝ }
+    ensures { λ r. ⌜ r ≡ Prepare.thrustersChecked thrusters start count ⌝ }
+{
+    let mut prepared = start;
+    let mut k: usize = 0;
+    while k < count {
+        let thruster = thrusters[k];
+        prepared = thruster_turn(prepared, k, thruster);
+        k += 1;
+    }
+    prepared
+}
+
+// The pyramid's numbers, at place 20.
+fn cmgs_checked(cmgs: Cmgs, map: ActuatorMap) -> Prepared
+    ensures { λ r. ⌜ r ≡ Prepare.cmgsChecked cmgs map ⌝ }
+{
+    match cmgs {
+        Cmgs::Without => going(map),
+        Cmgs::With(pyramid) => {
+            if pyramid_outside(pyramid) {
+                refused(2, 20)
+            } else {
+                going(map)
+            }
+        }
+    }
+}
+
+// The pyramid, unless an actuator before it was refused.
+fn cmgs_turn(prepared: Prepared, cmgs: Cmgs) -> Prepared
+    ensures { λ r. ⌜ r ≡ Prepare.cmgsNext cmgs prepared ⌝ }
+{
+    let fate = prepared.fate;
+    let map = prepared.map;
+    match fate {
+        Fate::Going => cmgs_checked(cmgs, map),
+        Fate::Refused(_, _) => prepared,
+    }
+}
+
+// The map of what a user declares: the counts (1), then wheel by wheel, thruster by thruster and the pyramid its numbers (2) and its axis (3).
+pub fn prepare(a: Actuators) -> Prepared
+    ensures { λ r. ⌜ r ≡ Prepare.prepare a ⌝ }
+{
+    let wheel_count = a.wheel_count;
+    let thruster_count = a.thruster_count;
+    if wheel_count > 8 {
+        return refused(1, 0);
+    }
+    if thruster_count > 12 {
+        return refused(1, 1);
+    }
+    let wheels = a.wheels;
+    let thrusters = a.thrusters;
+    let cmgs = a.cmgs;
+    let start = going(unfilled(wheel_count, thruster_count, cmgs));
+    let wheeled = wheels_checked(wheels, wheel_count, start);
+    let thrusting = thrusters_checked(thrusters, thruster_count, wheeled);
+    cmgs_turn(thrusting, cmgs)
+}

@@ -1,0 +1,25 @@
+-- `angles::ring::size_at` meets its contract.
+use mathlib.Core.Path.{_∙_}
+use borrow.Author.Needs.{needs}
+use Rattle.angles.proofs.Places.{even-size, odd-size}
+use Rattle.angles.proofs.ring.size_at.Statement.{statement}
+use Rattle.angles.proofs.ring.size_at.Tie as tie
+
+sine-size-requires : tie.Need-sine-size-requires
+sine-size-requires c κs = search needs
+
+cosine-size-requires : tie.Need-cosine-size-requires
+cosine-size-requires c κs = search needs
+
+returns : tie.Need-returns
+returns c =
+    let s = c .before .before in
+    c .sine-size .ensures .0 ∙ even-size (s .args .q) (s .args .u) (s .pre .0) (c .before .if1 .taken)
+
+returns-2 : tie.Need-returns-2
+returns-2 c =
+    let s = c .before .before in
+    c .cosine-size .ensures .0 ∙ odd-size (s .args .q) (s .args .u) (s .pre .0) (c .before .if1 .left)
+
+pub size-at-spec : {M : Type 1} → statement M
+size-at-spec = tie.close (tie.spec sine-size-requires cosine-size-requires returns returns-2)

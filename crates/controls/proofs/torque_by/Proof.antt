@@ -1,0 +1,20 @@
+-- `controls::torque_by` meets its contract. Assumes nothing.
+use borrow.Author.Needs.{needs}
+use Rattle.controls.proofs.torque_by.Statement.{statement}
+use Rattle.controls.proofs.torque_by.Tie as tie
+
+enum-told : tie.Need-enum-told
+enum-told c = search needs
+
+enum-known-fate : tie.Need-enum-known-fate
+enum-known-fate c = search needs
+
+returns : tie.Need-returns
+returns c = rw (c .enum-told .given .1)
+
+returns-2 : tie.Need-returns-2
+unfolding lib.Ieee.ofBits
+returns-2 c = rw (c .before .fate .given .1)
+
+pub torque-by-spec : {M : Type 1} → statement M
+torque-by-spec = tie.close (tie.spec enum-told enum-known-fate returns returns-2)

@@ -1,0 +1,100 @@
+-- What one column of the elimination does to each cell, and how its steps are carried out row by row. Assumes nothing.
+use Prim.Native.Nat.{ℕ, _<_}
+use native.Mathlib.Omega.{arith}
+use mathlib.Core.Bool.{Bool, true, false, cond}
+use mathlib.Core.Path.{_≡_, refl, ap, sym, subst, _∙_}
+use mathlib.Core.List.{List, []}
+use lib.Dec.{eqb, leb}
+use lib.ListN.{length, set, length-set}
+use lib.Ieee.{Float, nan, binary64, sub, mul, div}
+use borrow.Author.Tests.{eqb-true, eqb-false}
+use Rattle.common.specs.Lists.{at}
+use Rattle.dense.specs.Tab.{tab-same, tab-of, getD-tab}
+use Rattle.dense.specs.Rows.{row, rows, line-rows}
+use Rattle.dense.specs.Filled.{OneRow, one-set}
+use Rattle.dense.specs.Normal.{line, cell}
+use Rattle.dense.specs.Elimination.{exchanged, swapRows, swapRight, dividedAt, divided, divideRow, divideRight, lessAt, less, eliminatedRow, eliminate}
+
+-- what a swap does to each cell
+pub swap-cell : (n k p : ℕ) (a : List (List Float)) (i j : ℕ) → i < n → cell (swapRows n k p a) i j ≡ cell a (exchanged k p i) j
+unfolding swapRows
+swap-cell n k p a i j h = ap (λ r. at r j) (getD-tab n (λ x. line a (exchanged k p x)) [] i h)
+
+-- what the division does to each cell: row k from column k on is divided by its number in column k
+pub divide-cell : (n k : ℕ) (a : List (List Float)) (i j : ℕ) → i < n → j < n
+    → cell (divideRow n k a) i j ≡ cond (eqb i k) (cond (leb k j) (div binary64 (cell a i j) (cell a i k)) (cell a i j)) (cell a i j)
+unfolding divideRow divided
+divide-cell n k a i j hi hj =
+    ap (λ r. at r j) (getD-tab n (λ x. cond (eqb x k) (divided n k (line a x)) (line a x)) [] i hi) ∙ by (eqb i k)
+  where
+    by : (t : Bool) → at (cond t (divided n k (line a i)) (line a i)) j ≡ cond t (cond (leb k j) (div binary64 (cell a i j) (cell a i k)) (cell a i j)) (cell a i j)
+    by true = getD-tab n (dividedAt k (line a i)) nan j hj
+    by false = refl
+
+-- what elimination does to each cell: from column k on a row other than k loses its number in column k times row k
+pub eliminate-cell : (n k : ℕ) (a : List (List Float)) (i j : ℕ) → i < n → j < n
+    → cell (eliminate n k a) i j ≡ cond (eqb i k) (cell a i j) (cond (leb k j) (sub binary64 (cell a i j) (mul binary64 (cell a i k) (cell a k j))) (cell a i j))
+unfolding eliminate less
+eliminate-cell n k a i j hi hj =
+    ap (λ r. at r j) (getD-tab n (λ x. eliminatedRow n k (line a k) x (line a x)) [] i hi) ∙ by (eqb i k)
+  where
+    by : (t : Bool) → at (cond t (line a i) (less n k (cell a i k) (line a k) (line a i))) j ≡ cond t (cell a i j) (cond (leb k j) (sub binary64 (cell a i j) (mul binary64 (cell a i k) (cell a k j))) (cell a i j))
+    by true = refl
+    by false = getD-tab n (lessAt k (cell a i k) (line a k) (line a i)) nan j hj
+
+pub exchanged-inside : (n k p x : ℕ) → k < n → p < n → x < n → exchanged k p x < n
+exchanged-inside n k p x hk hp hx = by (eqb x k) (eqb x p)
+  where
+    by : (s t : Bool) → cond s p (cond t k x) < n
+    by true t = hp
+    by false true = hk
+    by false false = hx
+
+-- row k goes to p and row p, changed by D, to k: every row then
+pub swapped : {E : Type 0} (D : E → E) (k p : ℕ) (g h u : ℕ → E) → OneRow p (g k) g h → OneRow k (D (g p)) h u
+    → (x : ℕ) → u x ≡ cond (eqb x k) (D (g (exchanged k p x))) (g (exchanged k p x))
+swapped {E} D k p g h u f s x = by (eqb x k) refl
+  where
+    rest : (t : Bool) → eqb x p ≡ t → h x ≡ g (cond t k x)
+    rest true e = let q : x ≡ p = eqb-true x p e in subst (λ y. h y ≡ g k) (sym q) (f .own)
+    rest false e = f .others x (eqb-false x p e)
+
+    by : (t : Bool) → eqb x k ≡ t → u x ≡ cond t (D (g (cond t p (cond (eqb x p) k x)))) (g (cond t p (cond (eqb x p) k x)))
+    by true e = let q : x ≡ k = eqb-true x k e in subst (λ y. u y ≡ D (g p)) (sym q) (s .own)
+    by false e = s .others x (eqb-false x k e) ∙ rest (eqb x p) refl
+
+-- the right side, swapped and divided
+pub right-placed : (b : List Float) (k p : ℕ) (d : Float) → k < length b → p < length b
+    → set (set b p (at b k)) k (div binary64 (at b p) d) ≡ divideRight (length b) k d (swapRight (length b) k p b)
+unfolding divideRight swapRight
+right-placed b k p d hk hp =
+    let n : ℕ = length b in
+    let u : List Float = set b p (at b k) in
+    let lu : length u ≡ n = length-set b p (at b k) in
+    tab-of n _ nan (set u k (div binary64 (at b p) d)) (length-set u k (div binary64 (at b p) d) ∙ lu)
+    (λ x l. swapped (λ y. div binary64 y d) k p (at b) (at u) (at (set u k (div binary64 (at b p) d))) (one-set b p (at b k) hp) (one-set u k (div binary64 (at b p) d) (omega arith)) x
+    ∙ sym (ap (λ s. cond (eqb x k) (div binary64 s d) s) (getD-tab n (λ i. at b (exchanged k p i)) nan x l)))
+
+-- the rows, swapped and divided
+pub rows-placed : (n : ℕ) (v h u : List Float) (k p : ℕ) → k < n → p < n
+    → OneRow p (row n v k) (row n v) (row n h) → OneRow k (divided n k (row n v p)) (row n h) (row n u)
+    → rows n n u ≡ divideRow n k (swapRows n k p (rows n n v))
+unfolding divideRow swapRows
+rows-placed n v h u k p hk hp f s =
+    tab-same n _ _
+    (λ x l. swapped (divided n k) k p (row n v) (row n h) (row n u) f s x
+    ∙ sym (ap (λ r. cond (eqb x k) (divided n k r) r)
+    (getD-tab n (λ i. line (rows n n v) (exchanged k p i)) [] x l ∙ line-rows n n v (exchanged k p x) (exchanged-inside n k p x hk hp l))))
+
+-- a choice between two rows, and what goes with it
+pub choice : (t : Bool) (i p r : ℕ) (f : ℕ → Float) (s : Float) → r ≡ cond t i p → s ≡ cond t (f i) (f p) → s ≡ f r
+choice true i p r f s e g = g ∙ ap f (sym e)
+choice false i p r f s e g = g ∙ ap f (sym e)
+
+pub choice-inside : (t : Bool) (i p r n : ℕ) → r ≡ cond t i p → i < n → p < n → r < n
+choice-inside true i p r n e h l = omega arith
+choice-inside false i p r n e h l = omega arith
+
+-- a store into one row, the width and the row by other names
+pub one-row : (n w : ℕ) (x y v u : List Float) (i : ℕ) → w ≡ n → x ≡ y → OneRow i x (row w v) (row w u) → OneRow i y (row n v) (row n u)
+one-row n w x y v u i e f o = subst (λ k. OneRow i y (row k v) (row k u)) e (subst (λ z. OneRow i z (row w v) (row w u)) f o)

@@ -1,0 +1,54 @@
+use native.Mathlib.Omega.{arith}
+use mathlib.Core.Path.{sym, subst}
+use lib.Dec.{T, ltb→lt}
+use Rattle.float.proofs.Settled.{square-small, rest-law}
+use borrow.Author.Needs.{needs}
+use Rattle.float.proofs.root.rest.Statement.{statement}
+use Rattle.float.proofs.root.rest.Tie as tie
+
+mul-t9 : tie.Need-mul-t9
+mul-t9 c = search needs
+
+mul-raised : tie.Need-mul-raised
+mul-raised c = search needs
+
+sub-raised : tie.Need-sub-raised
+sub-raised c = search needs
+
+raised-requires : tie.Need-raised-requires
+raised-requires c κs = search needs
+
+product-requires : tie.Need-product-requires
+product-requires c κs = search needs
+
+wrapping-sub-u64-requires : tie.Need-wrapping-sub-u64-requires
+wrapping-sub-u64-requires c κs = search needs
+
+raised-requires-2 : tie.Need-raised-requires-2
+raised-requires-2 c κs = square-small _ _ _ (c .before .before .before .pre .1) (c .before .product .ensures)
+
+mul-t15 : tie.Need-mul-t15
+mul-t15 c = search needs
+
+returns : tie.Need-returns
+returns c t =
+    let w = c .before .before .before .before in
+    (rest-law _ _ _ _ _ _ _ _ _ _ (omega arith) (w .before .before .raised .ensures .0) (w .before .product .ensures) (w .wrapping-sub-u64 .ensures) (c .before .before .before .raised2 .ensures .0) (c .before .before .before .raised2 .ensures .1) (c .if1 .taken), ltb→lt _ _ (subst T (sym t) tt))
+
+returns-2 : tie.Need-returns-2
+returns-2 c t = absurd (subst T (sym t) tt)
+
+pub rest-spec : {M : Type 1} → statement M
+rest-spec =
+    tie.close
+    (tie.spec
+    mul-t9
+    mul-raised
+    sub-raised
+    raised-requires
+    product-requires
+    wrapping-sub-u64-requires
+    raised-requires-2
+    mul-t15
+    returns
+    returns-2)

@@ -1,0 +1,18 @@
+-- `Quat::norm` meets its contract. Assumes nothing.
+use borrow.Author.Needs.{needs}
+use Rattle.geom.specs.Quats.{normQ}
+use Rattle.geom.proofs.Quat.norm.Statement.{statement}
+use Rattle.geom.proofs.Quat.norm.Tie as tie
+
+dot-requires : tie.Need-dot-requires
+dot-requires c κs = search needs
+
+sqrt-requires : tie.Need-sqrt-requires
+sqrt-requires c κs = search needs
+
+returns : tie.Need-returns
+unfolding normQ
+returns c = rw (c .sqrt .ensures, c .before .dot .ensures)
+
+pub norm-spec : {M : Type 1} → statement M
+norm-spec = tie.close (tie.spec dot-requires sqrt-requires returns)

@@ -1,0 +1,260 @@
+// The problem as a user gives it, checks 1 to 6 of document 01 in their order, and the checked problem that every forward run reads.
+// Carried over from quatopsy-plan/src/scvx.rs (`SolverProblem`, `Weights`) and src/lib.rs (the checks of `plan`), Apache-2.0, changed: one record for
+// all inputs, the two tolerances as fields, refusals as numbers, both attitudes normalized and the inertia inverted once.
+ghost use mathlib.Core.Path.{_≡_};
+ghost use Rattle.problem.specs.Problems as Problems;
+use actuators::ActuatorMap;
+use actuators::Actuators;
+use actuators::blank_map;
+use actuators::prepare;
+use common::Fate;
+use common::Limit;
+use float::is_finite;
+use geom::Normal;
+use geom::Quat;
+use geom::invert_spd;
+use geom::tensor;
+
+// The six weights of the search's residuals.
+pub struct Weights {
+    pub time: f64,
+    pub control: f64,
+    pub energy: f64,
+    pub pointing: f64,
+    pub smoothness: f64,
+    pub momentum: f64,
+}
+
+// A rest-to-rest slew: from q0 to qf, with the body, its limits, the weights, the two tolerances and the actuators.
+pub struct Problem {
+    pub q0: Quat,
+    pub qf: Quat,
+    pub inertia: [f64; 9],
+    pub torque_limit: [f64; 3],
+    pub slew: Limit,
+    pub weights: Weights,
+    pub norm_tolerance: f64,
+    pub tie_tolerance: f64,
+    pub actuators: Actuators,
+}
+
+// A problem that passed checks 1 to 6: both attitudes normalized once, the inertia's inverse, the actuators' tables.
+pub struct CheckedProblem {
+    pub q0: Quat,
+    pub qf: Quat,
+    pub inertia: [f64; 9],
+    pub inverse: [f64; 9],
+    pub torque_limit: [f64; 3],
+    pub slew: Limit,
+    pub weights: Weights,
+    pub norm_tolerance: f64,
+    pub tie_tolerance: f64,
+    pub map: ActuatorMap,
+}
+
+// What the checks answer; the problem is blank where one refuses.
+pub struct Checked {
+    pub fate: Fate,
+    pub problem: CheckedProblem,
+}
+
+// Whether x is finite and above 0.
+pub fn is_positive(x: f64) -> bool
+    ensures { λ r. ⌜ r ≡ Problems.isPositive x ⌝ }
+{
+    if is_finite(x) { x > 0.0 } else { false }
+}
+
+// Whether an optional limit is absent, or finite and above 0.
+pub fn limit_fits(limit: Limit) -> bool
+    ensures { λ r. ⌜ r ≡ Problems.limitFits limit ⌝ }
+{
+    match limit {
+        Limit::Nothing => true,
+        Limit::At(x) => is_positive(x),
+    }
+}
+
+// Whether a weight is finite and not below 0.
+pub fn weight_fits(x: f64) -> bool
+    ensures { λ r. ⌜ r ≡ Problems.weightFits x ⌝ }
+{
+    if is_finite(x) { !(x < 0.0) } else { false }
+}
+
+// Whether every weight is finite and not below 0.
+pub fn weights_fit(w: Weights) -> bool
+    ensures { λ r. ⌜ r ≡ Problems.weightsFit w ⌝ }
+{
+    if !weight_fits(w.time) {
+        return false;
+    }
+    if !weight_fits(w.control) {
+        return false;
+    }
+    if !weight_fits(w.energy) {
+        return false;
+    }
+    if !weight_fits(w.pointing) {
+        return false;
+    }
+    if !weight_fits(w.smoothness) {
+        return false;
+    }
+    weight_fits(w.momentum)
+}
+
+// Whether a tolerance is above 0 and below 1.
+pub fn tolerance_fits(x: f64) -> bool
+    ensures { λ r. ⌜ r ≡ Problems.toleranceFits x ⌝ }
+{
+    if x > 0.0 { x < 1.0 } else { false }
+}
+
+// Whether the torque limits are finite and above 0.
+pub fn limits_fit(limit: [f64; 3]) -> bool
+    ensures { λ r. ⌜ r ≡ Problems.limitsFit limit ⌝ }
+{
+    if !is_positive(limit[0]) {
+        return false;
+    }
+    if !is_positive(limit[1]) {
+        return false;
+    }
+    is_positive(limit[2])
+}
+
+// Check 4: the torque limits, the slew limit, the weights and the tolerances.
+pub fn numbers_fit(p: Problem) -> bool
+    ensures { λ r. ⌜ r ≡ Problems.numbersFit p ⌝ }
+{
+    let limit = p.torque_limit;
+    let slew = p.slew;
+    let weights = p.weights;
+    if !limits_fit(limit) {
+        return false;
+    }
+    if !limit_fits(slew) {
+        return false;
+    }
+    if !weights_fit(weights) {
+        return false;
+    }
+    if !tolerance_fits(p.norm_tolerance) {
+        return false;
+    }
+    tolerance_fits(p.tie_tolerance)
+}
+
+// The problem of a refused check: zeros and no actuators.
+pub fn blank_problem() -> CheckedProblem
+    ensures { λ r. ⌜ r ≡ Problems.blankProblem ⌝ }
+{
+    CheckedProblem {
+        q0: Quat {
+            w: 0.0,
+            x: 0.0,
+            y: 0.0,
+            z: 0.0,
+        },
+        qf: Quat {
+            w: 0.0,
+            x: 0.0,
+            y: 0.0,
+            z: 0.0,
+        },
+        inertia: [0.0; 9],
+        inverse: [0.0; 9],
+        torque_limit: [0.0; 3],
+        slew: Limit::Nothing,
+        weights: Weights {
+            time: 0.0,
+            control: 0.0,
+            energy: 0.0,
+            pointing: 0.0,
+            smoothness: 0.0,
+            momentum: 0.0,
+        },
+        norm_tolerance: 0.0,
+        tie_tolerance: 0.0,
+        map: blank_map(),
+    }
+}
+
+// A refusal with its number and place.
+pub fn refused(number: usize, place: usize) -> Checked
+    ensures { λ r. ⌜ r ≡ Problems.refused number place ⌝ }
+{
+    Checked {
+        fate: Fate::Refused(number, place),
+        problem: blank_problem(),
+    }
+}
+
+// Check 6 at place 0, and the checked problem.
+pub fn with_attitudes(p: Problem, map: ActuatorMap, q0: Quat, qf: Quat) -> Checked
+    ensures { λ r. ⌜ r ≡ Problems.withAttitudes p map q0 qf ⌝ }
+{
+    let j = p.inertia;
+    let inverse = invert_spd(tensor(j));
+    let fate = inverse.fate;
+    match fate {
+        Fate::Refused(_, _) => refused(6, 0),
+        Fate::Going => {
+            let m = inverse.m;
+            let limit = p.torque_limit;
+            let weights = p.weights;
+            let slew = p.slew;
+            let problem = CheckedProblem {
+                q0: q0,
+                qf: qf,
+                inertia: j,
+                inverse: m,
+                torque_limit: limit,
+                slew: slew,
+                weights: weights,
+                norm_tolerance: p.norm_tolerance,
+                tie_tolerance: p.tie_tolerance,
+                map: map,
+            };
+            Checked {
+                fate: Fate::Going,
+                problem: problem,
+            }
+        }
+    }
+}
+
+// Checks 4 and 5, with the actuators prepared.
+pub fn with_map(p: Problem, map: ActuatorMap) -> Checked
+    ensures { λ r. ⌜ r ≡ Problems.withMap p map ⌝ }
+{
+    if !numbers_fit(p) {
+        return refused(4, 0);
+    }
+    let start = p.q0;
+    let end = p.qf;
+    let Normal::Is(q0) = start.normalized(p.norm_tolerance) else {
+        return refused(5, 0);
+    };
+    let Normal::Is(qf) = end.normalized(p.norm_tolerance) else {
+        return refused(5, 1);
+    };
+    with_attitudes(p, map, q0, qf)
+}
+
+// Checks 1 to 6 in document 01's order.
+pub fn check(p: Problem) -> Checked
+    ensures { λ r. ⌜ r ≡ Problems.check p ⌝ }
+{
+    let actuators = p.actuators;
+    let prepared = prepare(actuators);
+    let fate = prepared.fate;
+    match fate {
+        Fate::Refused(number, place) => refused(number, place),
+        Fate::Going => {
+            let map = prepared.map;
+            with_map(p, map)
+        }
+    }
+}

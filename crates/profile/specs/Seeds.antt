@@ -1,0 +1,25 @@
+-- The seed of our own entry: 17 nodes along a profile. Definitions only.
+use Prim.Native.Nat.{ℕ}
+use mathlib.Core.List.{List, [], _++_}
+use lib.IntN.{pos}
+use lib.Ieee.{Float, binary64, mul, div, ofBits, ofInt}
+use Rattle.common.specs.Iter.{iter}
+use Rattle.profile.specs.Profiles.{omegaVec, torqueVec}
+use Rattle.profile.specs.declared.Profile.{Profile}
+use Rattle.profile.specs.declared.Seed.{Seed}
+
+-- the time of node i: duration × i / 16
+unfoldable pub nodeTime : Float → ℕ → Float
+nodeTime duration i = div binary64 (mul binary64 duration (ofInt binary64 (pos i))) (ofBits binary64 0x4030_0000_0000_0000)
+
+-- the body rates at the first n nodes, three numbers a node, one after the other
+unfoldable pub ratesTo : Profile → ℕ → List Float
+ratesTo p n = iter (λ i v. v ++ omegaVec p (nodeTime (p .duration) i)) [] n
+
+-- the body torques likewise
+unfoldable pub torquesTo : Profile → ℕ → List Float
+torquesTo p n = iter (λ i v. v ++ torqueVec p (nodeTime (p .duration) i)) [] n
+
+-- the seed of a profile
+abbrev pub sampleSeed : Profile → Seed
+sampleSeed p = record { duration = p .duration; rates = ratesTo p 17; torques = torquesTo p 17 }

@@ -1,0 +1,31 @@
+use mathlib.Core.Path.{sym, subst}
+use lib.Dec.{T}
+use Rattle.wide.proofs.Digits.{between, top-root}
+use Rattle.wide.proofs.Products.{is-above, not-above}
+use borrow.Author.Needs.{needs}
+use Rattle.wide.proofs.isqrt.is_root.Statement.{statement}
+use Rattle.wide.proofs.isqrt.is_root.Tie as tie
+
+above-requires : tie.Need-above-requires
+above-requires c κs = search needs
+
+add-above : tie.Need-add-above
+add-above c = search needs
+
+above-requires-2 : tie.Need-above-requires-2
+above-requires-2 c κs = search needs
+
+returns : tie.Need-returns
+returns c t = absurd (subst T (sym t) tt)
+
+returns-2 : tie.Need-returns-2
+returns-2 c t =
+    let start = c .before .before .before in
+    top-root (start .args .hi) (start .args .lo) _ (start .fits .hi .fits) (start .fits .lo .fits) (c .if2 .taken) (not-above _ _ _ (c .before .before .above .ensures) (c .before .if1 .left))
+
+returns-3 : tie.Need-returns-3
+returns-3 c t = between _ _ (not-above _ _ _ (c .before .before .before .above .ensures) (c .before .before .if1 .left)) (is-above _ _ _ (c .above2 .ensures) t)
+
+pub is-root-spec : {M : Type 1} → statement M
+is-root-spec =
+    tie.close (tie.spec above-requires add-above above-requires-2 returns returns-2 returns-3)
