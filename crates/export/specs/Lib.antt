@@ -1,0 +1,4 @@
+-- What the contracts of the C interface cite besides the libraries' own definitions.
+pub mod Packed
+pub mod Outcomes
+pub mod Systems

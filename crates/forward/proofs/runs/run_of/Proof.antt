@@ -1,0 +1,68 @@
+use mathlib.Core.Path.{_∙_}
+use lib.Ieee as Ieee
+use Rattle.controls.specs.Sizes.{dim-sized}
+use Rattle.forward.specs.Runs as Runs
+use Rattle.forward.specs.Launch.{launch-goes, launch-refused}
+use native.Mathlib.Omega.{arith}
+use borrow.Author.Needs.{needs}
+use Rattle.forward.proofs.runs.run_of.Statement.{statement}
+use Rattle.forward.proofs.runs.run_of.Tie as tie
+
+control-dim-requires : tie.Need-control-dim-requires
+control-dim-requires c κs = search needs
+
+rig-of-requires : tie.Need-rig-of-requires
+rig-of-requires c κs = search needs
+
+array-read-frame-of : tie.Need-array-read-frame-of
+array-read-frame-of c = search needs
+
+frame-of-requires : tie.Need-frame-of-requires
+frame-of-requires c κs = search needs
+
+launch-requires : tie.Need-launch-requires
+launch-requires c κs = search needs
+
+enum-told : tie.Need-enum-told
+enum-told c = search needs
+
+refused-run-requires : tie.Need-refused-run-requires
+refused-run-requires c κs = search needs
+
+enum-told-2 : tie.Need-enum-told-2
+enum-told-2 c = search needs
+
+start-requires : tie.Need-start-requires
+start-requires c κs = search needs
+
+run-from-requires : tie.Need-run-from-requires
+unfolding Runs.start
+run-from-requires c κs = (
+  rw (c .before .before .before .before .before .before .before .before .before .before .before .before .rig-of .ensures, c .before .before .before .before .before .before .before .before .before .before .before .before .before .control-dim .ensures) (dim-sized _ (c .before .before .before .before .before .before .before .before .before .before .before .before .before .before .before .pre .0)),
+  (rw (c .before .before .before .before .before .before .before .before .before .before .before .before .before .control-dim .ensures) (c .before .before .before .before .before .before .before .before .before .before .before .before .before .before .before .pre .1), rw (c .before .before .before .before .before .before .before .before .before .before .before .before .rig-of .ensures, c .start .ensures) (launch-goes _ (c .before .before .before .before .before .before .before .launch .ensures) (c .before .before .before .before .before .enum-told2 .given .1))),
+)
+
+returns : tie.Need-returns
+unfolding Runs.runOf
+returns c = c .refused-run .ensures ∙ launch-refused _ _ _ _ (c .before .before .before .launch .ensures) (c .before .enum-told .given .1)
+
+returns-2 : tie.Need-returns-2
+unfolding Runs.runOf Ieee.ofBits
+returns-2 c = rw (c .run-from .ensures, c .before .before .before .before .before .before .before .before .before .before .before .before .before .rig-of .ensures, c .before .before .before .before .before .before .before .before .before .before .before .before .before .before .control-dim .ensures, c .before .before .before .before .before .before .before .before .before .frame-of .ensures, c .before .start .ensures)
+
+pub run-of-spec : {M : Type 1} → statement M
+run-of-spec =
+    tie.close
+    (tie.spec
+    control-dim-requires
+    rig-of-requires
+    array-read-frame-of
+    frame-of-requires
+    launch-requires
+    enum-told
+    refused-run-requires
+    enum-told-2
+    start-requires
+    run-from-requires
+    returns
+    returns-2)

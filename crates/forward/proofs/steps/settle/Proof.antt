@@ -1,0 +1,105 @@
+use lib.Ieee as Ieee
+use Rattle.forward.specs.StepLaws.{row-room, halted, ends-swung, ends-powered, ends-settled, hands-on}
+use native.Mathlib.Omega.{arith}
+use borrow.Author.Needs.{needs}
+use Rattle.forward.proofs.steps.settle.Statement.{statement}
+use Rattle.forward.proofs.steps.settle.Tie as tie
+
+add-at : tie.Need-add-at
+add-at c = search needs
+
+mul-swing : tie.Need-mul-swing
+mul-swing c = search needs
+
+sub-swing : tie.Need-sub-swing
+sub-swing c = omega (arith, row-room _ _ (c .before .before .before .before .before .pre .0))
+
+part-swing-start : tie.Need-part-swing-start
+part-swing-start c = omega (arith, row-room _ _ (c .before .before .before .before .before .pre .0))
+
+part-swing-end : tie.Need-part-swing-end
+part-swing-end c = search needs
+
+swing-requires : tie.Need-swing-requires
+swing-requires c κs = (omega (arith, row-room _ _ (c .before .before .before .before .before .before .pre .0)), c .before .before .before .before .before .before .pre .1)
+
+enum-known-fate : tie.Need-enum-known-fate
+enum-known-fate c = search needs
+
+halt-requires : tie.Need-halt-requires
+halt-requires c κs = search needs
+
+returns : tie.Need-returns
+returns c = (rw (c .halt .ensures) (ends-swung _ _ _ _ _ _ _ _ (c .before .before .before .before .swing .ensures) (c .before .before .fate .given .1)), halted (c .before .before .before .before .before .before .before .before .before .before .before .args .r .cmgs) (c .halt .ensures))
+
+enum-told : tie.Need-enum-told
+enum-told c = search needs
+
+sub-power-excess : tie.Need-sub-power-excess
+sub-power-excess c = search needs
+
+part-power-excess-start : tie.Need-part-power-excess-start
+part-power-excess-start c = search needs
+
+part-power-excess-end : tie.Need-part-power-excess-end
+part-power-excess-end c = omega (arith, row-room _ _ (c .before .before .before .before .before .before .before .before .before .pre .0))
+
+power-excess-requires : tie.Need-power-excess-requires
+power-excess-requires c κs = search needs
+
+halt-requires-2 : tie.Need-halt-requires-2
+halt-requires-2 c κs = search needs
+
+returns-2 : tie.Need-returns-2
+unfolding Ieee.ofBits
+returns-2 c = (rw (c .halt2 .ensures) (ends-powered _ _ _ _ _ _ _ _ (c .before .before .before .before .before .before .swing .ensures) (c .before .before .before .before .enum-told .given .1) (c .before .before .power-excess .ensures) (c .before .if1 .taken)), halted (c .before .before .before .before .before .before .before .before .before .before .before .before .before .args .r .cmgs) (c .halt2 .ensures))
+
+sub-momenta-next : tie.Need-sub-momenta-next
+sub-momenta-next c = search needs
+
+part-momenta-next-start : tie.Need-part-momenta-next-start
+part-momenta-next-start c = search needs
+
+part-momenta-next-end : tie.Need-part-momenta-next-end
+part-momenta-next-end c = omega (arith, row-room _ _ (c .before .before .before .before .before .before .before .before .before .before .before .before .pre .0))
+
+momenta-next-requires : tie.Need-momenta-next-requires
+momenta-next-requires c κs = search needs
+
+slice-aggregate-axis-sum : tie.Need-slice-aggregate-axis-sum
+slice-aggregate-axis-sum c = search needs
+
+axis-sum-requires : tie.Need-axis-sum-requires
+axis-sum-requires c κs = search needs
+
+returns-3 : tie.Need-returns-3
+unfolding Ieee.ofBits
+returns-3 c = (ends-settled _ _ _ _ _ _ _ _ (c .before .before .before .before .before .before .before .before .before .before .before .before .swing .ensures) (c .before .before .before .before .before .before .before .before .before .before .enum-told .given .1) (c .before .before .before .before .before .before .before .before .power-excess .ensures) (c .before .before .before .before .before .before .before .if1 .left) (c .before .before .before .before .before .momenta-next .ensures) (c .before .before .axis-sum .ensures), λ h. hands-on _ _ _ _ _ (c .before .before .before .before .before .before .before .before .before .before .before .before .swing .ensures) (c .before .before .before .before .before .before .before .before .before .before .enum-told .given .1))
+
+pub settle-spec : {M : Type 1} → statement M
+settle-spec =
+    tie.close
+    (tie.spec
+    add-at
+    mul-swing
+    sub-swing
+    part-swing-start
+    part-swing-end
+    swing-requires
+    enum-known-fate
+    halt-requires
+    returns
+    enum-told
+    sub-power-excess
+    part-power-excess-start
+    part-power-excess-end
+    power-excess-requires
+    halt-requires-2
+    returns-2
+    sub-momenta-next
+    part-momenta-next-start
+    part-momenta-next-end
+    momenta-next-requires
+    slice-aggregate-axis-sum
+    axis-sum-requires
+    returns-3)

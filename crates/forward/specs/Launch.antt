@@ -1,0 +1,83 @@
+-- What a run makes once: the skew's sine and cosine and the pyramid's matrix at the start. Assumes nothing.
+use Prim.Native.Nat.{ℕ}
+use mathlib.Core.Path.{_≡_, refl, sym, ap, _∙_}
+use mathlib.Core.List.{List}
+use lib.ListN.{replicate}
+use lib.Ieee.{Float}
+use Rattle.common.specs.declared.Fate.{Fate}
+use Rattle.common.specs.declared.Fate.the-variants.{Going, Refused}
+use Rattle.angles.specs.Both.{bothOf}
+use Rattle.angles.specs.declared.Both.{Both}
+use Rattle.angles.specs.declared.Both.the-variants as Both
+use Rattle.geom.specs.Vec as Vec
+use Rattle.geom.specs.declared.Quat.{Quat}
+use Rattle.actuators.specs.Pyramid.{pyramidA, pyramidFrom, pyramid-once, skewed}
+use Rattle.actuators.specs.declared.CmgPyramid.{CmgPyramid}
+use Rattle.actuators.specs.declared.Cmgs.{Cmgs}
+use Rattle.actuators.specs.declared.Cmgs.the-variants.{Without, With}
+use Rattle.actuators.specs.declared.Jacobian.{Jacobian}
+use Rattle.forward.specs.Decisions.{rowOf}
+use Rattle.forward.specs.Steps.{Body, matrixAt, matrixStep, step, stop}
+use Rattle.forward.specs.StepLaws.{SkewOf, Made, made, refused-going}
+use Rattle.forward.specs.Runs.{start, startCourse, courseTurn, advance, runFrom, refusedRun}
+use Rattle.forward.specs.RunLaws.{ends-refused, refused-turn, going}
+use Rattle.common.specs.Iter.{iter-none}
+use Rattle.forward.specs.declared.State.{State}
+use Rattle.forward.specs.declared.Skew.{Skew}
+use Rattle.forward.specs.declared.Launched.{Launched}
+use Rattle.forward.specs.declared.Run.{Run}
+use native.Mathlib.Omega.{arith}
+
+-- the gimbals at the start
+abbrev pub level : List Float
+level = replicate 4 Vec.zero
+
+abbrev pub noSkew : Skew
+noSkew = record { sine = Vec.zero; cosine = Vec.zero }
+
+abbrev pub matrixFrom : Float → Float → Jacobian → Launched
+matrixFrom s c m = record { fate = m .fate; skew = record { sine = s; cosine = c }; a = m .a }
+
+abbrev pub skewBy : Both → Launched
+skewBy Both.Outside = record { fate = Refused 11 0; skew = noSkew; a = replicate 12 Vec.zero }
+skewBy (Both.Are s c) = matrixFrom s c (pyramidFrom s c level)
+
+abbrev pub launchBy : Cmgs → Launched
+launchBy Without = record { fate = Going; skew = noSkew; a = replicate 12 Vec.zero }
+launchBy (With p) = skewBy (bothOf (p .«skew_rad»))
+
+unfoldable pub launch : Cmgs → Launched
+launch c = launchBy c
+
+-- ---- it is the matrix at the start
+record At (c : Cmgs) (l : Launched) : Type 0 where
+  fates : matrixAt c level .fate ≡ l .fate
+  goes : l .fate ≡ Going → SkewOf c (l .skew) × Made c level (l .a)
+
+at-by : (p : CmgPyramid) (b : Both) → bothOf (p .«skew_rad») ≡ b → At (With p) (skewBy b)
+unfolding pyramidA
+at-by p Both.Outside e = record { fates = ap (λ (b : Both). skewed b level .fate) e; goes = λ h. absurd (refused-going h) }
+at-by p (Both.Are s c) e = record {
+  fates = ap (λ (b : Both). skewed b level .fate) e;
+  goes = λ h. (e, ap (λ (b : Both). skewed b level) e ∙ made (pyramidFrom s c level) h refl);
+}
+
+at : (c : Cmgs) → At c (launchBy c)
+at Without = record { fates = refl; goes = λ h. (tt, refl) }
+at (With p) = at-by p (bothOf (p .«skew_rad»)) refl
+
+-- a launch that goes on has what the first step asks for
+pub launch-goes : (c : Cmgs) {l : Launched} → l ≡ launch c → l .fate ≡ Going → SkewOf c (l .skew) × Made c level (l .a)
+unfolding launch
+launch-goes c e h = rw e (at c .goes (rw e at h))
+
+-- one that is refused ends the run at step 0
+halts : (b : Body) (u : List Float) (k : ℕ) (s : State) {i j : ℕ} → matrixAt (b .rig .cmgs) (s .delta) .fate ≡ Refused i j → stop 11 k s ≡ step b u k s
+unfolding step
+halts b u k s h = rw h refl
+
+pub launch-refused : (b : Body) (n : ℕ) (z : List Float) (q0 : Quat) {l : Launched} {i j : ℕ} → l ≡ launch (b .rig .cmgs) → l .fate ≡ Refused i j → refusedRun 11 0 ≡ runFrom b n z (start q0)
+unfolding launch start
+launch-refused b n z q0 e h =
+    ends-refused b n z (start q0) 0 (startCourse (start q0)) (omega arith) (iter-none _ _)
+    (refused-turn b n z 0 (start q0) Vec.zero _ (halts b (rowOf n z 0) 0 (start q0) (at (b .rig .cmgs) .fates ∙ (rw e at h))) refl)

@@ -1,0 +1,55 @@
+-- Laws of the step law that the loop of a run leans on. Assumes nothing.
+use Prim.Native.Nat.{ℕ, _+_, _≤_, _<_}
+use mathlib.Core.Path.{_≡_, refl, sym, ap, _∙_}
+use mathlib.Core.Bool.{Bool, true, false, cond}
+use mathlib.Core.List.{List}
+use native.Mathlib.Omega.{arith}
+use lib.ListN.{set, replicate}
+use lib.Ieee.{Float, lt}
+use Rattle.common.specs.Iter.{iter, iter-none, iter-next, iter-stays}
+use Rattle.common.specs.declared.Fate.{Fate}
+use Rattle.common.specs.declared.Fate.the-variants.{Going, Refused}
+use Rattle.float.specs.Ops.{max}
+use Rattle.geom.specs.Vec as Vec
+use Rattle.forward.specs.Decisions.{rowOf}
+use Rattle.forward.specs.Steps.{Body, step}
+use Rattle.forward.specs.Runs.{Course, advance, courseBy, courseTurn, startCourse, course, endBy, endOf, ended, runFrom, refusedRun, nodeOf}
+use Rattle.forward.specs.declared.State.{State}
+use Rattle.forward.specs.declared.Stepped.{Stepped}
+use Rattle.forward.specs.declared.Node.{Node}
+use Rattle.forward.specs.declared.Run.{Run}
+
+-- ---- the course
+-- a course that goes on, by its parts, as the loop has them in its locals
+abbrev pub going : State → Float → List Node → Course
+going s d ns = record { fate = Going; s = s; defect = d; nodes = ns }
+
+turn-refused : (b : Body) (n : ℕ) (z : List Float) (k : ℕ) (c : Course) {i j : ℕ} → c .fate ≡ Refused i j → courseTurn b n z k c ≡ c
+unfolding courseTurn
+turn-refused b n z k c h = ap (λ (e : Fate). courseBy e b n z k c) h
+
+-- one turn of the loop, by the parts
+pub one-turn : (b : Body) (n : ℕ) (z : List Float) (k : ℕ) (s : State) (d : Float) (ns : List Node) {g : Stepped} {node : Node} {d2 : Float}
+    → g ≡ step b (rowOf n z k) k s → node ≡ nodeOf (b .frame .dt) k s (g .tau) → d2 ≡ max d (g .defect) → g .fate ≡ Going
+    → going (g .s) d2 (set ns k node) ≡ courseTurn b n z k (going s d ns)
+unfolding courseTurn advance
+one-turn b n z k s d ns {g} p q r t = rw (← t, r, q, p) refl
+
+-- a step that is refused, as the next course
+pub refused-turn : (b : Body) (n : ℕ) (z : List Float) (k : ℕ) (s : State) (d : Float) (ns : List Node) {g : Stepped} {i j : ℕ}
+    → g ≡ step b (rowOf n z k) k s → g .fate ≡ Refused i j → courseTurn b n z k (going s d ns) .fate ≡ Refused i j
+unfolding courseTurn advance
+refused-turn b n z k s d ns p t = rw (← p) t
+
+-- a refused step ends the run
+module _ (b : Body) (n : ℕ) (z : List Float) (from : State) where
+  pub ends-refused : (k : ℕ) {i j : ℕ} (c : Course) → k < 16 → c ≡ iter (courseTurn b n z) (startCourse from) k → courseTurn b n z k c .fate ≡ Refused i j → refusedRun i j ≡ runFrom b n z from
+  unfolding runFrom endOf course
+  ends-refused k {i} {j} c h p q =
+      let c2 : Course = courseTurn b n z k c in
+      let e : c2 ≡ iter (courseTurn b n z) (startCourse from) 16 = iter-stays _ _ (k + 1) 16 (omega arith) (iter-next _ _ k p refl) (λ x. turn-refused b n z x c2 q) in
+      rw (← e, q) refl
+
+  pub ends-going : (c : Course) → c ≡ iter (courseTurn b n z) (startCourse from) 16 → c .fate ≡ Going → ended b c ≡ runFrom b n z from
+  unfolding runFrom endOf course
+  ends-going c p q = rw (← p, q) refl

@@ -1,0 +1,92 @@
+-- A forward run, document 01's term: one `reconstruct`, 16 steps and 17 nodes. Definitions only.
+use Prim.Native.Nat.{ℕ, _+_}
+use mathlib.Core.List.{List, []}
+use lib.ListN.{getD, set, replicate}
+use lib.IntN.{pos}
+use lib.Ieee.{Float, nan, binary64, mul, ofInt}
+use Rattle.common.specs.Iter.{iter}
+use Rattle.common.specs.declared.Fate.{Fate}
+use Rattle.common.specs.declared.Fate.the-variants.{Going, Refused}
+use Rattle.float.specs.Ops.{max}
+use Rattle.geom.specs.Vec as Vec
+use Rattle.geom.specs.declared.Quat.{Quat}
+use Rattle.actuators.specs.Maps.{controlDim}
+use Rattle.controls.specs.Operations.{rigOf}
+use Rattle.problem.specs.declared.CheckedProblem.{CheckedProblem}
+use Rattle.forward.specs.Decisions.{rowOf, stepTime}
+use Rattle.forward.specs.Steps.{Body, bodyWith, step}
+use Rattle.forward.specs.declared.Frame.{Frame}
+use Rattle.forward.specs.declared.State.{State}
+use Rattle.forward.specs.declared.Stepped.{Stepped}
+use Rattle.forward.specs.declared.Node.{Node}
+use Rattle.forward.specs.declared.Run.{Run}
+
+-- The start of every run: at q0, at rest, the wheels and gimbals at +0.
+unfoldable pub start : Quat → State
+start q0 = record { q = q0; w = Vec.zero3; h = Vec.zero3; hw = replicate 8 Vec.zero; delta = replicate 4 Vec.zero }
+
+-- node k: the state at its time k × dt, with the torque tau
+unfoldable pub nodeOf : Float → ℕ → State → List Float → Node
+nodeOf dt k s tau = record { t = mul binary64 (ofInt binary64 (pos k)) dt; q = s .q; w = s .w; tau = tau; h = s .h; hw = s .hw }
+
+abbrev pub blankNode : Node
+blankNode = record { t = Vec.zero; q = record { w = Vec.zero; x = Vec.zero; y = Vec.zero; z = Vec.zero }; w = Vec.zero3; tau = Vec.zero3; h = Vec.zero3; hw = replicate 8 Vec.zero }
+
+-- no node: what stands past the end of a list of nodes
+abbrev pub noNode : Node
+noNode = record { t = nan; q = record { w = nan; x = nan; y = nan; z = nan }; w = []; tau = []; h = []; hw = [] }
+
+-- a run on its way: how it stands, the state after the steps so far, the largest defect, the nodes
+pub record Course : Type 0 where
+  pub fate : Fate
+  pub s : State
+  pub defect : Float
+  pub nodes : List Node
+
+-- the course after step k, which gave g; `max` drops a NaN defect
+unfoldable pub advance : Float → ℕ → Course → Stepped → Course
+advance dt k c g = record { fate = g .fate; s = g .s; defect = max (c .defect) (g .defect); nodes = set (c .nodes) k (nodeOf dt k (c .s) (g .tau)) }
+
+-- a course that was refused stays as it is
+abbrev pub courseBy : Fate → Body → ℕ → List Float → ℕ → Course → Course
+courseBy Going b n z k c = advance (b .frame .dt) k c (step b (rowOf n z k) k (c .s))
+courseBy (Refused i j) b n z k c = c
+
+unfoldable pub courseTurn : Body → ℕ → List Float → ℕ → Course → Course
+courseTurn b n z k c = courseBy (c .fate) b n z k c
+
+abbrev pub startCourse : State → Course
+startCourse s = record { fate = Going; s = s; defect = Vec.zero; nodes = replicate 17 blankNode }
+
+-- the 16 steps, with n controls a row
+unfoldable pub course : Body → ℕ → List Float → State → Course
+course b n z s = iter (courseTurn b n z) (startCourse s) 16
+
+-- a refused run has no nodes: they are blank
+abbrev pub refusedRun : ℕ → ℕ → Run
+refusedRun n place = record { fate = Refused n place; defect = Vec.zero; nodes = replicate 17 blankNode }
+
+-- node 16 repeats node 15's torque
+abbrev pub ended : Body → Course → Run
+ended b c = record { fate = Going; defect = c .defect; nodes = set (c .nodes) 16 (nodeOf (b .frame .dt) 16 (c .s) (getD (c .nodes) 15 noNode .tau)) }
+
+abbrev pub endBy : Fate → Body → Course → Run
+endBy Going b c = ended b c
+endBy (Refused i j) b c = refusedRun i j
+
+unfoldable pub endOf : Body → Course → Run
+endOf b c = endBy (c .fate) b c
+
+unfoldable pub runFrom : Body → ℕ → List Float → State → Run
+runFrom b n z s = endOf b (course b n z s)
+
+-- ---- of a checked problem and a decision
+abbrev pub frameOf : CheckedProblem → Float → Frame
+frameOf p dt = record { j = p .inertia; jinv = p .inverse; tolerance = p .«norm_tolerance»; dt = dt }
+
+abbrev pub bodyOf : CheckedProblem → Float → Body
+bodyOf p dt = bodyWith (rigOf (p .map)) (p .map .«wheel_axes») (p .map .«wheel_powers») (p .map .«thruster_axes») (frameOf p dt)
+
+-- one forward run: the problem and a decision, its duration as it stands, and nothing else
+unfoldable pub runOf : CheckedProblem → List Float → Run
+runOf p z = runFrom (bodyOf p (stepTime z)) (controlDim (p .map)) z (start (p .q0))

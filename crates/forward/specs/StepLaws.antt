@@ -1,0 +1,141 @@
+-- What a step needs of the pyramid's skew and matrix, and what it hands on. Assumes nothing.
+use Prim.Native.Nat.{ℕ, zero, suc, _+_, _≤_}
+use mathlib.Core.Path.{_≡_, refl, sym, ap, _∙_}
+use mathlib.Core.Bool.{Bool, true, false, cond, _&&_}
+use lib.Dec.{eqb, eqb·suc-zero}
+use mathlib.Core.List.{List}
+use native.Mathlib.Omega.{arith}
+use lib.Ieee.{Float, lt}
+use Rattle.common.specs.declared.Fate.{Fate}
+use Rattle.common.specs.declared.Fate.the-variants.{Going, Refused}
+use Rattle.angles.specs.Both.{bothOf}
+use Rattle.angles.specs.declared.Both.the-variants as Both
+use Rattle.actuators.specs.Pyramid.{pyramidA, pyramidFrom, pyramid-once, singularityOf}
+use Rattle.actuators.specs.declared.CmgPyramid.{CmgPyramid}
+use Rattle.actuators.specs.declared.Cmgs.{Cmgs}
+use Rattle.actuators.specs.declared.Cmgs.the-variants.{Without, With}
+use Rattle.actuators.specs.declared.Jacobian.{Jacobian}
+use Rattle.actuators.specs.Maps.{gimbals, noCmgs}
+use Rattle.common.specs.Lists.{slice}
+use Rattle.geom.specs.Vec as Vec
+use Rattle.geom.specs.Quats.{quatMul, expSo3, normalized}
+use Rattle.geom.specs.declared.Quat.{Quat}
+use Rattle.geom.specs.declared.Normal.{Normal}
+use Rattle.geom.specs.declared.Normal.the-variants as Normal
+use Rattle.geom.specs.declared.Turned.{Turned}
+use Rattle.geom.specs.declared.Turned.the-variants as Turned
+use Rattle.controls.specs.Limits.{powerExcess}
+use Rattle.controls.specs.Parts.{Sized, width, axes, rowTorque, momentaNext}
+use Rattle.controls.specs.declared.Rig.{Rig}
+use Rattle.forward.specs.Steps.{Body, matrixAt, swing, swingBy, swungBy, noSwing, gimbalsNext, gimbalRow, stop, halt, slack, attitudeStep, powered, wheelMomenta, bodyMomentum, rateDot, rateNext, defectOf, turnOf, turnedStep, normedStep, ratedStep, torquedStep, step}
+use Rattle.forward.specs.declared.Skew.{Skew}
+use Rattle.forward.specs.declared.Swung.{Swung}
+use Rattle.forward.specs.declared.State.{State}
+use Rattle.forward.specs.declared.Stepped.{Stepped}
+use Rattle.forward.specs.declared.Moved.{Moved}
+
+-- the sine and the cosine of the pyramid's skew
+abbrev pub SkewOf : Cmgs → Skew → Type 0
+SkewOf Without k = Unit {0}
+SkewOf (With p) k = bothOf (p .«skew_rad») ≡ Both.Are (k .sine) (k .cosine)
+
+-- a pyramid's matrix that is there
+abbrev pub Made : Cmgs → List Float → List Float → Type 0
+Made c d a = matrixAt c d ≡ record { fate = Going; a = a }
+
+-- a step that goes on hands the matrix at its end to the next
+abbrev pub Handed : Cmgs → Moved → Type 0
+Handed c m = m .step .fate ≡ Going → Made c (m .step .s .delta) (m .a)
+
+-- ---- the gimbals' swing hands on the matrix at its angles
+pub refused-going : {n i : ℕ} → Refused n i ≡ Going → ⊥
+refused-going h = let z : _≡_ {A = ℕ} 0 1 = cc in omega arith
+
+pub made : (m : Jacobian) {e : Fate} {a : List Float} → m .fate ≡ e → m .a ≡ a → m ≡ record { fate = e; a = a }
+made m f g = rw (← f, ← g) refl
+
+swung-matrix : (p : CmgPyramid) (d : List Float) (k : ℕ) (e : Fate) (a : List Float) → pyramidA (p .«skew_rad») d .fate ≡ e → pyramidA (p .«skew_rad») d .a ≡ a → swungBy e a p d k .fate ≡ Going
+    → Made (With p) (swungBy e a p d k .delta) (swungBy e a p d k .a)
+swung-matrix p d k (Refused n i) a f g h = absurd (refused-going h)
+swung-matrix p d k Going a f g h = go (lt (singularityOf a) (p .«singularity_eps»)) h
+  where
+    out : Swung
+    out = record { fate = Going; delta = d; a = a }
+
+    go : (b : Bool) → cond b (noSwing 12 k) out .fate ≡ Going → Made (With p) (cond b (noSwing 12 k) out .delta) (cond b (noSwing 12 k) out .a)
+    go true h = absurd (refused-going h)
+    go false h = made (pyramidA (p .«skew_rad») d) f g
+
+swing-matrix-by : (c : Cmgs) (u d : List Float) (dt : Float) (k : ℕ) → swingBy c u d dt k .fate ≡ Going → Made c (swingBy c u d dt k .delta) (swingBy c u d dt k .a)
+swing-matrix-by Without u d dt k h = refl
+swing-matrix-by (With p) u d dt k h = swung-matrix p (gimbalsNext u d dt) k _ _ refl refl h
+
+pub swing-matrix : (c : Cmgs) (u d : List Float) (dt : Float) (k : ℕ) → swing c u d dt k .fate ≡ Going → Made c (swing c u d dt k .delta) (swing c u d dt k .a)
+unfolding swing
+swing-matrix c u d dt k h = swing-matrix-by c u d dt k h
+
+-- what the code works out is the swing: the angles e, and the matrix m there from the skew's sine and cosine
+pub swung-is : (p : CmgPyramid) (u d : List Float) (dt : Float) (k : ℕ) (skew : Skew) {e : List Float} {m : Jacobian}
+    → SkewOf (With p) skew → e ≡ gimbalsNext u d dt → m ≡ pyramidFrom (skew .sine) (skew .cosine) e → swungBy (m .fate) (m .a) p e k ≡ swing (With p) u d dt k
+unfolding swing
+swung-is p u d dt k skew h q r = rw (r, q, pyramid-once (p .«skew_rad») (skew .sine) (skew .cosine) (gimbalsNext u d dt) h) refl
+
+-- ---- a row that has its three parts
+room-by : (nw nt : ℕ) (c : Cmgs) (n : ℕ) → cond (eqb nw 0 && eqb nt 0 && noCmgs c) 3 (nw + nt + gimbals c) ≤ n → nw + nt + gimbals c ≤ n
+room-by zero zero Without n h = omega arith
+room-by zero zero (With p) n h = h
+room-by zero (suc t) c n h = rw (eqb·suc-zero t) at h
+room-by (suc w) t c n h = rw (eqb·suc-zero w) at h
+
+-- the wheel part, the thruster part and the gimbal part stand in the row
+pub row-room : (r : Rig) (n : ℕ) → Sized r (gimbals (r .cmgs)) n → r .«wheel_count» + r .«thruster_count» + gimbals (r .cmgs) ≤ n
+unfolding width
+row-room r n s = room-by (r .«wheel_count») (r .«thruster_count») (r .cmgs) n (s .row)
+
+-- ---- the end of a step, by the parts that the code works out
+
+-- a step that halts hands nothing on
+pub halted : (c : Cmgs) {m : Moved} {n i : ℕ} {s : State} → m ≡ halt n i s → Handed c m
+halted c e h = absurd (refused-going (rw e at h))
+
+module _ (b : Body) (u : List Float) (k : ℕ) (s : State) (tau : List Float) (defect : Float) (w2 : List Float) (q2 : Quat) {g : Swung}
+    (is : g ≡ swing (b .rig .cmgs) (gimbalRow (b .rig) u) (s .delta) (b .frame .dt) k) where
+  pub ends-swung : {n i : ℕ} → g .fate ≡ Refused n i → stop n i s ≡ attitudeStep b u k s tau defect w2 q2
+  unfolding attitudeStep
+  ends-swung t = rw (← is, t) refl
+
+  pub ends-powered : {e : Float} → g .fate ≡ Going → e ≡ powerExcess (b .wheels) (b .powers) (b .rig .«wheel_count») (slice 0 (b .rig .«wheel_count») u) (s .w) → lt slack e ≡ true
+      → stop 13 k s ≡ attitudeStep b u k s tau defect w2 q2
+  unfolding attitudeStep powered
+  ends-powered t p o = rw (← is, t, ← p, o) refl
+
+  pub ends-settled : {e : Float} {hw h : List Float} → g .fate ≡ Going → e ≡ powerExcess (b .wheels) (b .powers) (b .rig .«wheel_count») (slice 0 (b .rig .«wheel_count») u) (s .w) → lt slack e ≡ false
+      → hw ≡ momentaNext (b .rig .«wheel_count») (s .hw) (slice 0 (b .rig .«wheel_count») u) (b .frame .dt) → h ≡ axes (b .wheels) hw Vec.zero3 (b .rig .«wheel_count»)
+      → _≡_ {A = Stepped} (record { fate = Going; s = record { q = q2; w = w2; h = h; hw = hw; delta = g .delta }; tau = tau; defect = defect }) (attitudeStep b u k s tau defect w2 q2)
+  unfolding attitudeStep powered wheelMomenta bodyMomentum
+  ends-settled t p o m n = rw (← is, t, ← p, o, n, m) refl
+
+-- the matrix at its end
+pub hands-on : (c : Cmgs) (u d : List Float) (dt : Float) (k : ℕ) {g : Swung} → g ≡ swing c u d dt k → g .fate ≡ Going → Made c (g .delta) (g .a)
+hands-on c u d dt k is t = rw is (swing-matrix c u d dt k (rw is at t))
+
+-- ---- the start of a step, by the parts that the code works out
+module _ (b : Body) (u : List Float) (k : ℕ) (s : State) {a tau wd w2 v : List Float} {defect : Float} {x : Turned} (m : Made (b .rig .cmgs) (s .delta) a)
+    (t : tau ≡ rowTorque (b .rig) (b .wheels) (b .thrusters) u (s .w) (s .h) a) (d : wd ≡ rateDot (b .frame .j) (b .frame .jinv) (s .w) (s .h) tau)
+    (n : w2 ≡ rateNext (s .w) wd (b .frame .dt)) (f : defect ≡ defectOf (b .frame .j) (s .w) (s .h) tau wd) (g : v ≡ turnOf (s .w) w2 (b .frame .dt)) (e : x ≡ expSo3 v) where
+  turned-is : turnedStep x b u k s tau defect w2 ≡ step b u k s
+  unfolding step torquedStep ratedStep
+  turned-is = rw (m, e, g, f, n, d, t) refl
+
+  pub stops-outside : x ≡ Turned.Outside → stop 11 k s ≡ step b u k s
+  stops-outside o = ap (λ (y : Turned). turnedStep y b u k s tau defect w2) (sym o) ∙ turned-is
+
+  module _ {r p : Quat} {y : Normal} (o : x ≡ Turned.Is r) (q : p ≡ quatMul (s .q) r) (l : y ≡ normalized (b .frame .tolerance) p) where
+    normed-is : normedStep y b u k s tau defect w2 ≡ step b u k s
+    normed-is = ap (λ (i : Normal). normedStep i b u k s tau defect w2) (l ∙ ap (normalized (b .frame .tolerance)) q) ∙ (ap (λ (i : Turned). turnedStep i b u k s tau defect w2) (sym o) ∙ turned-is)
+
+    pub stops-off : y ≡ Normal.Not → stop 5 2 s ≡ step b u k s
+    stops-off z = ap (λ (i : Normal). normedStep i b u k s tau defect w2) (sym z) ∙ normed-is
+
+    pub goes-on : {q2 : Quat} → y ≡ Normal.Is q2 → attitudeStep b u k s tau defect w2 q2 ≡ step b u k s
+    goes-on z = ap (λ (i : Normal). normedStep i b u k s tau defect w2) (sym z) ∙ normed-is

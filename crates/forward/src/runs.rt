@@ -1,0 +1,265 @@
+// Forward runs: 16 steps from the problem's start, and their 17 nodes. Carried over from `reconstruct` of quatopsy-plan/src/scvx.rs (Apache-2.0), changed:
+// the state and the nodes are locals of one loop, and a refused run answers blank nodes.
+ghost use mathlib.Core.Path.{_≡_};
+ghost use Prim.Native.Nat.{_+_, _*_, _≤_, _<_};
+ghost use lib.ListN.{length};
+ghost use mathlib.Core.Bool.{true};
+ghost use Rattle.actuators.specs.Maps.{gimbals, isSized, controlDim};
+ghost use Rattle.actuators.specs.declared.Cmgs.the-variants.{With};
+ghost use Rattle.controls.specs.Parts.{Sized};
+ghost use Rattle.float.specs.Ops.{max};
+ghost use Rattle.forward.specs.Steps as Steps;
+ghost use Rattle.forward.specs.StepLaws.{SkewOf, Made};
+ghost use Rattle.forward.specs.Launch as Launch;
+ghost use Rattle.forward.specs.Runs as Runs;
+use super::Frame;
+use super::Launched;
+use super::Node;
+use super::Run;
+use super::Skew;
+use super::State;
+use super::steps::step;
+use actuators::CmgPyramid;
+use actuators::Cmgs;
+use actuators::Power;
+use actuators::control_dim;
+use actuators::pyramid::pyramid_from;
+use angles::Both;
+use angles::sin_cos;
+use common::Fate;
+use controls::Rig;
+use controls::rig_of;
+use geom::Quat;
+use problem::CheckedProblem;
+
+// The start of every run: at q0, at rest, the wheels and gimbals at +0.
+pub fn start(q0: Quat) -> State
+    ensures { λ r. ⌜ r ≡ Runs.start q0 ⌝ }
+{
+    let three = [0.0; 3];
+    let eight = [0.0; 8];
+    let four = [0.0; 4];
+    State {
+        q: q0,
+        w: three,
+        h: three,
+        hw: eight,
+        delta: four,
+    }
+}
+
+// Node k: the state at its time, with the torque tau.
+pub fn node_of(dt: f64, k: usize, s: State, tau: [f64; 3]) -> Node
+    requires { ⌜ k < 17 ⌝ }
+    ensures { λ r. ⌜ r ≡ Runs.nodeOf dt k s tau ⌝ }
+{
+    let w = s.w;
+    let h = s.h;
+    let hw = s.hw;
+    let q = s.q;
+    let i = k as u32;
+    Node {
+        t: (i as f64) * dt,
+        q: q,
+        w: w,
+        tau: tau,
+        h: h,
+        hw: hw,
+    }
+}
+
+// A node of zeros.
+pub fn blank_node() -> Node
+    ensures { λ r. ⌜ r ≡ Runs.blankNode ⌝ }
+{
+    let three = [0.0; 3];
+    let eight = [0.0; 8];
+    let q = Quat {
+        w: 0.0,
+        x: 0.0,
+        y: 0.0,
+        z: 0.0,
+    };
+    Node {
+        t: 0.0,
+        q: q,
+        w: three,
+        tau: three,
+        h: three,
+        hw: eight,
+    }
+}
+
+// A run that was refused: no nodes.
+pub fn refused_run(number: usize, place: usize) -> Run
+    ensures { λ r. ⌜ r ≡ Runs.refusedRun number place ⌝ }
+{
+    let blank = blank_node();
+    let nodes = [blank; 17];
+    Run {
+        fate: Fate::Refused(number, place),
+        defect: 0.0,
+        nodes: nodes,
+    }
+}
+
+// The larger of two defects; a NaN gives way.
+pub fn larger(a: f64, b: f64) -> f64
+    ensures { λ r. ⌜ r ≡ max a b ⌝ }
+{
+    float::max(a, b)
+}
+
+// The run from a state whose pyramid matrix is a, n controls a row.
+pub fn run_from(
+    r: Rig,
+    wheels: &[f64; 24],
+    powers: [Power; 8],
+    thrusters: &[f64; 36],
+    f: Frame,
+    skew: Skew,
+    n: usize,
+    z: [f64; 193],
+    from: State,
+    a: [f64; 12],
+) -> Run
+    requires { ⌜ (Sized r (gimbals (r .cmgs)) n) × ((n ≤ 12) × (SkewOf (r .cmgs) skew × Made (r .cmgs) (from .delta) a)) ⌝ }
+    ensures { λ x. ⌜ x ≡ Runs.runFrom (Steps.bodyWith r (now (wheels .entry)) powers (now (thrusters .entry)) f) n z from ⌝ }
+{
+    let dt = f.dt;
+    let mut s = from;
+    let mut m = a;
+    let blank = blank_node();
+    let mut nodes = [blank; 17];
+    let mut defect = 0.0;
+    let mut k: usize = 0;
+    while k < 16 {
+        let at = 1 + k * n;
+        let end = at + n;
+        let moved = step(r, wheels, powers, thrusters, f, skew, &z[at..end], k, s, m);
+        let g = moved.step;
+        let fate = g.fate;
+        match fate {
+            Fate::Refused(number, place) => return refused_run(number, place),
+            Fate::Going => {}
+        }
+        let s2 = g.s;
+        let tau = g.tau;
+        let node = node_of(dt, k, s, tau);
+        nodes[k] = node;
+        defect = larger(defect, g.defect);
+        s = s2;
+        let m2 = moved.a;
+        m = m2;
+        k += 1;
+    }
+    let before = nodes[15];
+    let tau = before.tau;
+    let last = node_of(dt, 16, s, tau);
+    nodes[16] = last;
+    Run {
+        fate: Fate::Going,
+        defect: defect,
+        nodes: nodes,
+    }
+}
+
+// The skew's sine and cosine and the pyramid's matrix at the start, from the pyramid's skew.
+fn launch_pyramid(p: CmgPyramid) -> Launched
+    ensures { λ l. ⌜ l ≡ Launch.launch (With p) ⌝ }
+{
+    let pair = sin_cos(p.skew_rad);
+    match pair {
+        Both::Outside => {
+            let a = [0.0; 12];
+            Launched {
+                fate: Fate::Refused(11, 0),
+                skew: Skew {
+                    sine: 0.0,
+                    cosine: 0.0,
+                },
+                a: a,
+            }
+        }
+        Both::Are(s, c) => {
+            let m = pyramid_from(s, c, [0.0; 4]);
+            let a = m.a;
+            let fate = m.fate;
+            Launched {
+                fate: fate,
+                skew: Skew { sine: s, cosine: c },
+                a: a,
+            }
+        }
+    }
+}
+
+// What a run makes once, before its steps.
+pub fn launch(c: Cmgs) -> Launched
+    ensures { λ l. ⌜ l ≡ Launch.launch c ⌝ }
+{
+    match c {
+        Cmgs::Without => {
+            let a = [0.0; 12];
+            Launched {
+                fate: Fate::Going,
+                skew: Skew {
+                    sine: 0.0,
+                    cosine: 0.0,
+                },
+                a: a,
+            }
+        }
+        Cmgs::With(p) => launch_pyramid(p),
+    }
+}
+
+// What no step of this problem's runs changes, with steps of dt.
+pub fn frame_of(p: CheckedProblem, dt: f64) -> Frame
+    ensures { λ f. ⌜ f ≡ Runs.frameOf p dt ⌝ }
+{
+    let j = p.inertia;
+    let jinv = p.inverse;
+    Frame {
+        j: j,
+        jinv: jinv,
+        tolerance: p.norm_tolerance,
+        dt: dt,
+    }
+}
+
+// One forward run of a checked problem and a decision.
+pub fn run_of(p: CheckedProblem, z: [f64; 193]) -> Run
+    requires { ⌜ (isSized (p .map) ≡ true) × (controlDim (p .map) ≤ 12) ⌝ }
+    ensures { λ r. ⌜ r ≡ Runs.runOf p z ⌝ }
+{
+    let map = p.map;
+    let n = control_dim(map);
+    let rig = rig_of(map);
+    let wheels = map.wheel_axes;
+    let powers = map.wheel_powers;
+    let thrusters = map.thruster_axes;
+    let f = frame_of(p, z[0] / 16.0);
+    let cmgs = map.cmgs;
+    let l = launch(cmgs);
+    let fate = l.fate;
+    match fate {
+        Fate::Refused(_, _) => refused_run(11, 0),
+        Fate::Going => {
+            let skew = l.skew;
+            let a = l.a;
+            run_from(
+                rig,
+                &wheels,
+                powers,
+                &thrusters,
+                f,
+                skew,
+                n,
+                z,
+                start(p.q0),
+                a,
+            )
+        }
+    }
+}

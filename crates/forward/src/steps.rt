@@ -1,0 +1,250 @@
+// One step of a forward run, in stages. Carried over from `reconstruct` of quatopsy-plan/src/scvx.rs (Apache-2.0), changed: the actuators' tables are
+// lent, and the pyramid's matrix that the singularity test makes is handed to the next step's torque.
+ghost use mathlib.Core.Path.{_≡_};
+ghost use Prim.Native.Nat.{_+_, _≤_};
+ghost use lib.ListN.{length};
+ghost use Rattle.actuators.specs.Maps.{gimbals};
+ghost use Rattle.controls.specs.Parts.{Sized};
+ghost use Rattle.actuators.specs.declared.Cmgs.the-variants.{With};
+ghost use Rattle.forward.specs.Steps as Steps;
+ghost use Rattle.forward.specs.StepLaws.{SkewOf, Made, Handed};
+use super::Frame;
+use super::Moved;
+use super::Skew;
+use super::State;
+use super::Stepped;
+use super::Swung;
+use actuators::CmgPyramid;
+use actuators::Cmgs;
+use actuators::Power;
+use common::Fate;
+use controls::Rig;
+use geom::Normal;
+use geom::Quat;
+use geom::Turned;
+
+// A step that ends the run.
+pub fn stop(number: usize, place: usize, s: State) -> Stepped
+    ensures { λ r. ⌜ r ≡ Steps.stop number place s ⌝ }
+{
+    let tau = [0.0; 3];
+    Stepped {
+        fate: Fate::Refused(number, place),
+        s: s,
+        tau: tau,
+        defect: 0.0,
+    }
+}
+
+// The same, with no matrix.
+pub fn halt(number: usize, place: usize, s: State) -> Moved
+    ensures { λ r. ⌜ r ≡ Steps.halt number place s ⌝ }
+{
+    let a = [0.0; 12];
+    Moved {
+        step: stop(number, place, s),
+        a: a,
+    }
+}
+
+// The rate's change by Euler's equations.
+pub fn rate_dot(j: [f64; 9], jinv: [f64; 9], w: [f64; 3], h: [f64; 3], tau: [f64; 3]) -> [f64; 3]
+    ensures { λ r. ⌜ r ≡ Steps.rateDot j jinv w h tau ⌝ }
+{
+    let gyro = geom::euler_lhs(geom::tensor(j), [0.0; 3], w, h);
+    geom::apply_tensor(geom::tensor(jinv), geom::sub3(tau, gyro))
+}
+
+// The rate at the step's end.
+pub fn rate_next(w: [f64; 3], wd: [f64; 3], dt: f64) -> [f64; 3]
+    ensures { λ r. ⌜ r ≡ Steps.rateNext w wd dt ⌝ }
+{
+    geom::add3(w, geom::scale3(wd, dt))
+}
+
+// The length of what Euler's equations miss.
+pub fn defect_of(j: [f64; 9], w: [f64; 3], h: [f64; 3], tau: [f64; 3], wd: [f64; 3]) -> f64
+    ensures { λ r. ⌜ r ≡ Steps.defectOf j w h tau wd ⌝ }
+{
+    geom::norm3(geom::sub3(geom::euler_lhs(geom::tensor(j), wd, w, h), tau))
+}
+
+// The mean of both rates, times the time.
+pub fn turn_of(w: [f64; 3], w2: [f64; 3], dt: f64) -> [f64; 3]
+    ensures { λ r. ⌜ r ≡ Steps.turnOf w w2 dt ⌝ }
+{
+    geom::scale3(geom::scale3(geom::add3(w, w2), 0.5), dt)
+}
+
+// The gimbals after a time dt at the rates u.
+pub fn gimbals_next(u: &[f64], d: [f64; 4], dt: f64) -> [f64; 4]
+    requires { ⌜ 4 ≤ length (now u) ⌝ }
+    ensures { λ r. ⌜ r ≡ Steps.gimbalsNext (now (u .entry)) d dt ⌝ }
+{
+    [
+        d[0] + u[0] * dt,
+        d[1] + u[1] * dt,
+        d[2] + u[2] * dt,
+        d[3] + u[3] * dt,
+    ]
+}
+
+// Gimbals that refuse the step.
+pub fn no_swing(number: usize, k: usize) -> Swung
+    ensures { λ r. ⌜ r ≡ Steps.noSwing number k ⌝ }
+{
+    let d = [0.0; 4];
+    let a = [0.0; 12];
+    Swung {
+        fate: Fate::Refused(number, k),
+        delta: d,
+        a: a,
+    }
+}
+
+// The pyramid's gimbals after step k, its matrix there, and whether it is singular.
+pub fn swing_pyramid(p: CmgPyramid, skew: Skew, u: &[f64], d: [f64; 4], dt: f64, k: usize) -> Swung
+    requires { ⌜ (4 ≤ length (now u)) × SkewOf (With p) skew ⌝ }
+    ensures { λ r. ⌜ r ≡ Steps.swing (With p) (now (u .entry)) d dt k ⌝ }
+{
+    let e = gimbals_next(u, d, dt);
+    let m = actuators::pyramid::pyramid_from(skew.sine, skew.cosine, e);
+    let fate = m.fate;
+    match fate {
+        Fate::Refused(_, _) => no_swing(11, k),
+        Fate::Going => {
+            let a = m.a;
+            if actuators::pyramid::singularity_of(a) < p.singularity_eps {
+                return no_swing(12, k);
+            }
+            Swung {
+                fate: Fate::Going,
+                delta: e,
+                a: a,
+            }
+        }
+    }
+}
+
+// The gimbals after step k; with no pyramid they stay.
+pub fn swing(c: Cmgs, skew: Skew, u: &[f64], d: [f64; 4], dt: f64, k: usize) -> Swung
+    requires { ⌜ (gimbals c ≤ length (now u)) × SkewOf c skew ⌝ }
+    ensures { λ r. ⌜ r ≡ Steps.swing c (now (u .entry)) d dt k ⌝ }
+{
+    match c {
+        Cmgs::Without => {
+            let a = [0.0; 12];
+            Swung {
+                fate: Fate::Going,
+                delta: d,
+                a: a,
+            }
+        }
+        Cmgs::With(p) => swing_pyramid(p, skew, u, d, dt, k),
+    }
+}
+
+// The end of a step whose torque, defect, rate and attitude are known: momenta, gimbals and power.
+pub fn settle(
+    r: Rig,
+    wheels: &[f64; 24],
+    powers: [Power; 8],
+    thrusters: &[f64; 36],
+    f: Frame,
+    skew: Skew,
+    u: &[f64],
+    k: usize,
+    s: State,
+    tau: [f64; 3],
+    defect: f64,
+    w2: [f64; 3],
+    q2: Quat,
+) -> Moved
+    requires { ⌜ (Sized r (gimbals (r .cmgs)) (length (now u))) × SkewOf (r .cmgs) skew ⌝ }
+    ensures { λ m. ⌜ (m .step ≡ Steps.attitudeStep (Steps.bodyWith r (now (wheels .entry)) powers (now (thrusters .entry)) f) (now (u .entry)) k s tau defect w2 q2) × Handed (r .cmgs) m ⌝ }
+{
+    let dt = f.dt;
+    let nw = r.wheel_count;
+    let at = nw + r.thruster_count;
+    let end = u.len();
+    let cmgs = r.cmgs;
+    let hw = s.hw;
+    let w = s.w;
+    let d = s.delta;
+    let g = swing(cmgs, skew, &u[at..end], d, dt, k);
+    let fate = g.fate;
+    match fate {
+        Fate::Refused(number, place) => return halt(number, place, s),
+        Fate::Going => {}
+    }
+    if controls::inner::power_excess(wheels, powers, nw, &u[0..nw], w) > 1.0e-9 {
+        return halt(13, k, s);
+    }
+    let hw2 = controls::inner::momenta_next(nw, hw, &u[0..nw], dt);
+    let h2 = controls::inner::axis_sum(wheels, nw, &hw2, [0.0; 3]);
+    let d2 = g.delta;
+    let a2 = g.a;
+    let s2 = State {
+        q: q2,
+        w: w2,
+        h: h2,
+        hw: hw2,
+        delta: d2,
+    };
+    let step = Stepped {
+        fate: Fate::Going,
+        s: s2,
+        tau: tau,
+        defect: defect,
+    };
+    Moved { step: step, a: a2 }
+}
+
+// Step k with the control row u, from the state s whose pyramid matrix is a.
+pub fn step(
+    r: Rig,
+    wheels: &[f64; 24],
+    powers: [Power; 8],
+    thrusters: &[f64; 36],
+    f: Frame,
+    skew: Skew,
+    u: &[f64],
+    k: usize,
+    s: State,
+    a: [f64; 12],
+) -> Moved
+    requires { ⌜ (Sized r (gimbals (r .cmgs)) (length (now u))) × (SkewOf (r .cmgs) skew × Made (r .cmgs) (s .delta) a) ⌝ }
+    ensures { λ m. ⌜ (m .step ≡ Steps.step (Steps.bodyWith r (now (wheels .entry)) powers (now (thrusters .entry)) f) (now (u .entry)) k s) × Handed (r .cmgs) m ⌝ }
+{
+    let w = s.w;
+    let h = s.h;
+    let q = s.q;
+    let j = f.j;
+    let jinv = f.jinv;
+    let dt = f.dt;
+    let tau = controls::inner::row_torque(r, wheels, thrusters, u, w, h, a);
+    let wd = rate_dot(j, jinv, w, h, tau);
+    let w2 = rate_next(w, wd, dt);
+    let defect = defect_of(j, w, h, tau, wd);
+    let Turned::Is(e) = geom::exp_so3(turn_of(w, w2, dt)) else {
+        return halt(11, k, s);
+    };
+    let Normal::Is(q2) = q.mul(e).normalized(f.tolerance) else {
+        return halt(5, 2, s);
+    };
+    settle(
+        r,
+        wheels,
+        powers,
+        thrusters,
+        f,
+        skew,
+        u,
+        k,
+        s,
+        tau,
+        defect,
+        w2,
+        q2,
+    )
+}

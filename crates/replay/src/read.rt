@@ -1,0 +1,226 @@
+// The stored cases' text: words in hexadecimal, one blank or line feed after each.
+
+ghost use mathlib.Core.Path.{_≡_};
+ghost use Prim.Native.Nat.{_<_};
+
+// A word and where the next one starts; `open` while its digits go on.
+pub struct Word {
+    pub value: u64,
+    pub next: usize,
+    pub open: bool,
+}
+
+// A line's head: the function's number, how many words follow, and where they start.
+pub struct Case {
+    pub number: u64,
+    pub count: u64,
+    pub next: usize,
+}
+
+// A digit's value; 16 for any other byte.
+fn digit(b: u8) -> u64 {
+    match b {
+        48..=57 => wide(b) - 48,
+        97..=102 => wide(b) - 87,
+        _ => 16,
+    }
+}
+
+fn wide(b: u8) -> u64
+    ensures { λ r. ⌜ r ≡ b ⌝ }
+{
+    b as u64
+}
+
+// One byte more of a word. A byte that is no digit ends it and is passed over.
+fn taken(s: &[u8], w: Word) -> Word {
+    let at = w.next;
+    if !w.open {
+        return w;
+    }
+    if at >= s.len() {
+        return w;
+    }
+    let d = digit(s[at]);
+    if d < 16 {
+        return Word {
+            value: (w.value << 4) | d,
+            next: at + 1,
+            open: true,
+        };
+    }
+    Word {
+        value: w.value,
+        next: at + 1,
+        open: false,
+    }
+}
+
+// The word at a position: at most sixteen digits and what ends them.
+pub fn word_at(s: &[u8], at: usize) -> Word {
+    let mut w = Word {
+        value: 0,
+        next: at,
+        open: true,
+    };
+    let mut k: usize = 0;
+    while k < 17 {
+        w = taken(s, w);
+        k += 1;
+    }
+    w
+}
+
+// The head of the line at a position.
+pub fn head(s: &[u8], at: usize) -> Case {
+    let number = word_at(s, at);
+    let ins = word_at(s, number.next);
+    let outs = word_at(s, ins.next);
+    Case {
+        number: number.value,
+        count: ins.value % 1024 + outs.value % 1024,
+        next: outs.next,
+    }
+}
+
+// The next `count` words, as many as there is room for, and where they end.
+pub fn words(s: &[u8], at: usize, count: u64, out: &mut [u64; 1024]) -> usize {
+    let mut i = 0;
+    let mut next = at;
+    while i < 1024 {
+        if (i as u64) < count {
+            let w = word_at(s, next);
+            out[i] = w.value;
+            next = w.next;
+        }
+        i += 1;
+    }
+    next
+}
+
+// The word at k; past the end stands 0.
+pub fn at(v: &[u64; 1024], k: usize) -> u64 {
+    if k < 1024 { v[k] } else { 0 }
+}
+
+// The float of a word's bits; every NaN is one.
+fn float(w: u64) -> f64 {
+    if w % 0x8000_0000_0000_0000 > 0x7ff0_0000_0000_0000 {
+        return 0.0 / 0.0;
+    }
+    f64::from_bits(w)
+}
+
+// The float at k.
+pub fn real(v: &[u64; 1024], k: usize) -> f64 {
+    float(at(v, k))
+}
+
+// The three floats from k on.
+pub fn three(v: &[u64; 1024], k: usize) -> [f64; 3]
+    requires { ⌜ k < 2000 ⌝ }
+{
+    [real(v, k), real(v, k + 1), real(v, k + 2)]
+}
+
+// The four floats from k on.
+pub fn four(v: &[u64; 1024], k: usize) -> [f64; 4]
+    requires { ⌜ k < 2000 ⌝ }
+{
+    [real(v, k), real(v, k + 1), real(v, k + 2), real(v, k + 3)]
+}
+
+// The nine floats from k on.
+pub fn nine(v: &[u64; 1024], k: usize) -> [f64; 9]
+    requires { ⌜ k < 900 ⌝ }
+{
+    [
+        real(v, k),
+        real(v, k + 1),
+        real(v, k + 2),
+        real(v, k + 3),
+        real(v, k + 4),
+        real(v, k + 5),
+        real(v, k + 6),
+        real(v, k + 7),
+        real(v, k + 8),
+    ]
+}
+
+// Whether x is the float at k, bit for bit, or both are NaN.
+pub fn same(v: &[u64; 1024], k: usize, x: f64) -> bool {
+    let w = at(v, k);
+    if x == x {
+        return f64::to_bits(x) == w;
+    }
+    w % 0x8000_0000_0000_0000 > 0x7ff0_0000_0000_0000
+}
+
+// Whether the three floats from k on are these.
+pub fn same3(v: &[u64; 1024], k: usize, x: [f64; 3]) -> bool
+    requires { ⌜ k < 2000 ⌝ }
+{
+    same(v, k, x[0]) && same(v, k + 1, x[1]) && same(v, k + 2, x[2])
+}
+
+// Whether the four floats from k on are these.
+pub fn same4(v: &[u64; 1024], k: usize, x: [f64; 4]) -> bool
+    requires { ⌜ k < 2000 ⌝ }
+{
+    same(v, k, x[0]) && same(v, k + 1, x[1]) && same(v, k + 2, x[2]) && same(v, k + 3, x[3])
+}
+
+// Whether the 9 floats from k on are these.
+pub fn same9(v: &[u64; 1024], k: usize, x: &[f64; 9]) -> bool
+    requires { ⌜ k < 900 ⌝ }
+{
+    let mut all = true;
+    let mut i: usize = 0;
+    while i < 9 {
+        all = all & same(v, k + i, x[i]);
+        i += 1;
+    }
+    all
+}
+
+// Whether the 22 floats from k on are these.
+pub fn same22(v: &[u64; 1024], k: usize, x: &[f64; 22]) -> bool
+    requires { ⌜ k < 900 ⌝ }
+{
+    let mut all = true;
+    let mut i: usize = 0;
+    while i < 22 {
+        all = all & same(v, k + i, x[i]);
+        i += 1;
+    }
+    all
+}
+
+// Whether the 51 floats from k on are these.
+pub fn same51(v: &[u64; 1024], k: usize, x: &[f64; 51]) -> bool
+    requires { ⌜ k < 900 ⌝ }
+{
+    let mut all = true;
+    let mut i: usize = 0;
+    while i < 51 {
+        all = all & same(v, k + i, x[i]);
+        i += 1;
+    }
+    all
+}
+
+// The 22 floats of a profile.
+pub fn profile(v: &[u64; 1024]) -> [f64; 22] {
+    let mut p = [0.0; 22];
+    let mut i: usize = 0;
+    while i < 22 {
+        p[i] = real(v, i);
+        i += 1;
+    }
+    p
+}
+
+// Whether the word at k says this.
+pub fn said(v: &[u64; 1024], k: usize, b: bool) -> bool {
+    if b { at(v, k) == 1 } else { at(v, k) == 0 }
+}

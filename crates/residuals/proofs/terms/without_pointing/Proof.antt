@@ -1,0 +1,12 @@
+-- `residuals::terms::without_pointing` meets its contract. Assumes nothing.
+use Rattle.residuals.specs.Residuals as Residuals
+use borrow.Author.Needs.{needs}
+use Rattle.residuals.proofs.terms.without_pointing.Statement.{statement}
+use Rattle.residuals.proofs.terms.without_pointing.Tie as tie
+
+returns : tie.Need-returns
+unfolding Residuals.withoutPointing
+returns c = rw (c .closing .ensures)
+
+pub without-pointing-spec : {M : Type 1} → statement M
+without-pointing-spec = tie.close (tie.spec (λ c κs. search needs) returns)
