@@ -1,0 +1,1 @@
+// Document 01, "Proved examples": one list, one fact over all of it, in specs/Examples.antt. No code of its own.
