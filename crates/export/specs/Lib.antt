@@ -2,3 +2,5 @@
 pub mod Packed
 pub mod Outcomes
 pub mod Systems
+pub mod Declared
+pub mod Paths

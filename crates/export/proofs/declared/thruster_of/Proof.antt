@@ -1,0 +1,12 @@
+-- `export::declared::thruster_of` meets its contract, by the contracts of what it calls. Assumes nothing.
+use Rattle.export.specs.Declared.{thrusterOf}
+use mathlib.Core.Path.{refl}
+use Rattle.export.proofs.declared.thruster_of.Statement.{statement}
+use Rattle.export.proofs.declared.thruster_of.Tie as tie
+
+returns : tie.Need-returns
+unfolding thrusterOf
+returns c = refl
+
+pub thruster-of-spec : {M : Type 1} → statement M
+thruster-of-spec = tie.close (tie.spec returns)
