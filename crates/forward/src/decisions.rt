@@ -1,5 +1,5 @@
 // Decisions: a duration and 16 rows of controls, packed in 193 numbers. Carried over from quatopsy-plan/src/scvx.rs (Apache-2.0), changed: a decision is
-// kept packed, so `pack` fills the array and `unpack` only holds the duration.
+// kept packed, so `unpack` only holds the duration.
 ghost use mathlib.Core.Path.{_≡_};
 ghost use Prim.Native.Nat.{_+_, _*_, _≤_, _<_};
 ghost use lib.ListN.{length};

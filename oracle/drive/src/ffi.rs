@@ -1,0 +1,151 @@
+//! The C interface of the crate export: numbers, references to arrays of a fixed length (a pointer), slices (a pointer and a length).
+
+pub type A3 = [f64; 3];
+pub type A4 = [f64; 4];
+pub type A9 = [f64; 9];
+
+unsafe extern "C" {
+    pub safe fn slew_isqrt(hi: u64, lo: u64) -> u64;
+    pub safe fn slew_abs(x: f64) -> f64;
+    pub safe fn slew_max(a: f64, b: f64) -> f64;
+    pub safe fn slew_min(a: f64, b: f64) -> f64;
+    pub safe fn slew_clamp(x: f64, low: f64, high: f64) -> f64;
+    pub safe fn slew_is_finite(x: f64) -> bool;
+    pub safe fn slew_ceil(x: f64) -> f64;
+    pub safe fn slew_sqrt(x: f64) -> f64;
+    pub safe fn slew_sin(x: f64, answer: &mut f64) -> bool;
+    pub safe fn slew_cos(x: f64, answer: &mut f64) -> bool;
+    pub safe fn slew_sin_cos(x: f64, answer: &mut [f64; 2]) -> bool;
+    pub safe fn slew_acos(x: f64, answer: &mut f64) -> bool;
+
+    pub safe fn slew_quat_is_finite(q: &A4) -> bool;
+    pub safe fn slew_quat_norm(q: &A4) -> f64;
+    pub safe fn slew_quat_dot(a: &A4, b: &A4) -> f64;
+    pub safe fn slew_quat_scale(q: &A4, factor: f64, out: &mut A4);
+    pub safe fn slew_quat_negate(q: &A4, out: &mut A4);
+    pub safe fn slew_quat_conjugate(q: &A4, out: &mut A4);
+    pub safe fn slew_quat_mul(a: &A4, b: &A4, out: &mut A4);
+    pub safe fn slew_quat_normalized(q: &A4, tolerance: f64, out: &mut A4) -> usize;
+    pub safe fn slew_exp_so3(phi: &A3, out: &mut A4) -> usize;
+    pub safe fn slew_log_so3(q: &A4, out: &mut A3) -> usize;
+    pub safe fn slew_apply_tensor(j: &A9, w: &A3, out: &mut A3);
+    pub safe fn slew_invert3(j: &A9, out: &mut A9) -> usize;
+    pub safe fn slew_invert_spd(j: &A9, out: &mut A9) -> usize;
+    pub safe fn slew_det3(j: &A9) -> f64;
+    pub safe fn slew_is_spd(j: &A9) -> bool;
+    pub safe fn slew_euler_lhs(j: &A9, w_dot: &A3, w: &A3, h: &A3, out: &mut A3);
+    pub safe fn slew_cross(a: &A3, b: &A3, out: &mut A3);
+    pub safe fn slew_add3(a: &A3, b: &A3, out: &mut A3);
+    pub safe fn slew_sub3(a: &A3, b: &A3, out: &mut A3);
+    pub safe fn slew_scale3(v: &A3, s: f64, out: &mut A3);
+    pub safe fn slew_dot3(a: &A3, b: &A3) -> f64;
+    pub safe fn slew_norm3(v: &A3) -> f64;
+    pub safe fn slew_unit3(v: &A3, out: &mut A3) -> usize;
+    pub safe fn slew_torque_excess(torque: &A3, limit: &A3) -> f64;
+    pub safe fn slew_rest(omega: &A3, bound: f64) -> bool;
+    pub safe fn slew_body_euler_torque(j: &A9, axis: &A3, alpha: f64, omega: f64, h: &A3, out: &mut A3);
+
+    pub safe fn slew_switch_times(theta: f64, alpha: f64, limited: bool, slew: f64, out: &mut A3) -> usize;
+    pub safe fn slew_alpha_from_box(j: &A9, axis: &A3, limit: &A3, out: &mut f64) -> usize;
+    pub safe fn slew_bang_coast_bang(
+        q0: &A4,
+        qf: &A4,
+        j: &A9,
+        limit: &A3,
+        limited: bool,
+        slew: f64,
+        tie: f64,
+        out: &mut [f64; 22],
+        place: &mut usize,
+    ) -> usize;
+    pub safe fn slew_profile_angle(p: &[f64; 22], t: f64) -> f64;
+    pub safe fn slew_profile_rate(p: &[f64; 22], t: f64) -> f64;
+    pub safe fn slew_profile_alpha_signed(p: &[f64; 22], t: f64) -> f64;
+    pub safe fn slew_profile_omega_vec(p: &[f64; 22], t: f64, out: &mut A3);
+    pub safe fn slew_profile_torque_vec(p: &[f64; 22], t: f64, out: &mut A3);
+    pub safe fn slew_profile_quaternion(p: &[f64; 22], t: f64, out: &mut A4) -> usize;
+    pub safe fn slew_sample_seed(p: &[f64; 22], rates: &mut [f64; 51], torques: &mut [f64; 51]);
+}
+
+/// Actuators as a user declares them: counts and numbers (maps.rs).
+pub type Counts = [usize; 11];
+pub type Numbers = [f64; 100];
+
+unsafe extern "C" {
+    pub safe fn slew_prepare(c: &Counts, v: &Numbers, wheel_axes: &mut [f64; 24], thruster_axes: &mut [f64; 36], place: &mut usize) -> usize;
+    pub safe fn slew_allocate_body_torque(c: &Counts, v: &Numbers, tau: &A3, out: &mut [f64; 20], place: &mut usize) -> usize;
+    pub safe fn slew_singularity(c: &Counts, v: &Numbers, delta: &A4, out: &mut f64) -> usize;
+    pub safe fn slew_reconstruct(
+        c: &Counts,
+        v: &Numbers,
+        b: &[f64; 29],
+        limited: bool,
+        z: &[f64; 193],
+        nodes: &mut [[f64; 22]; 17],
+        defect: &mut f64,
+        place: &mut usize,
+        runs: &mut usize,
+    ) -> usize;
+}
+
+mod rows {
+    use super::{A3, A4, Counts, Numbers};
+    unsafe extern "C" {
+        pub fn slew_body_torque(c: &Counts, v: &Numbers, u: *const f64, n: usize, w: &A3, h: &A3, d: &A4, out: &mut A3) -> usize;
+        pub fn slew_project_controls(c: &Counts, v: &Numbers, u: *mut f64, n: usize, limit: &A3);
+        pub fn slew_power_excess(c: &Counts, v: &Numbers, u: *const f64, n: usize, w: &A3) -> f64;
+        pub fn slew_momentum_excess(c: &Counts, v: &Numbers, hw: *const f64, n: usize) -> f64;
+        pub fn slew_body_momentum(c: &Counts, v: &Numbers, hw: *const f64, n: usize, out: &mut A3);
+    }
+}
+
+// Each slice goes with its own length.
+pub fn slew_body_torque(c: &Counts, v: &Numbers, u: &[f64], w: &A3, h: &A3, d: &A4, out: &mut A3) -> usize {
+    unsafe { rows::slew_body_torque(c, v, u.as_ptr(), u.len(), w, h, d, out) }
+}
+
+pub fn slew_project_controls(c: &Counts, v: &Numbers, u: &mut [f64], limit: &A3) {
+    unsafe { rows::slew_project_controls(c, v, u.as_mut_ptr(), u.len(), limit) }
+}
+
+pub fn slew_power_excess(c: &Counts, v: &Numbers, u: &[f64], w: &A3) -> f64 {
+    unsafe { rows::slew_power_excess(c, v, u.as_ptr(), u.len(), w) }
+}
+
+pub fn slew_momentum_excess(c: &Counts, v: &Numbers, hw: &[f64]) -> f64 {
+    unsafe { rows::slew_momentum_excess(c, v, hw.as_ptr(), hw.len()) }
+}
+
+pub fn slew_body_momentum(c: &Counts, v: &Numbers, hw: &[f64], out: &mut A3) {
+    unsafe { rows::slew_body_momentum(c, v, hw.as_ptr(), hw.len(), out) }
+}
+
+/// Functions over slices: a slice is a pointer and a length there.
+#[cfg(feature = "systems")]
+mod slices {
+    unsafe extern "C" {
+        pub fn slew_solve_dense(a: *mut f64, a_len: usize, b: *mut f64, b_len: usize) -> bool;
+        pub fn slew_damped_step(
+            v: *mut f64,
+            v_len: usize,
+            m: usize,
+            r: *const f64,
+            r_len: usize,
+            lambda: f64,
+            g: *mut f64,
+            g_len: usize,
+        ) -> bool;
+    }
+}
+
+#[cfg(feature = "systems")]
+pub fn slew_solve_dense(a: &mut [f64], b: &mut [f64]) -> bool {
+    // two slices that do not overlap, each with its own length
+    unsafe { slices::slew_solve_dense(a.as_mut_ptr(), a.len(), b.as_mut_ptr(), b.len()) }
+}
+
+#[cfg(feature = "systems")]
+pub fn slew_damped_step(v: &mut [f64], m: usize, r: &[f64], lambda: f64, g: &mut [f64]) -> bool {
+    // three slices that do not overlap, each with its own length
+    unsafe { slices::slew_damped_step(v.as_mut_ptr(), v.len(), m, r.as_ptr(), r.len(), lambda, g.as_mut_ptr(), g.len()) }
+}

@@ -1,0 +1,385 @@
+//! Actuators, control rows and forward runs: actuators.rs, and `reconstruct` of scvx.rs.
+
+use crate::ffi::*;
+use crate::maps::{self, Flat};
+use crate::random::Random;
+use crate::words::{Entry, Reader, Words, refusal};
+use quatopsy_plan::PlanError;
+use quatopsy_plan::probe::{self as rust, Given, Map, Task};
+use quatopsy_plan::scvx::probe as scvx;
+
+/// The number and place of a refusal by `prepare`: the Rust's words name no actuator, so each is prepared alone to find the first that is refused.
+fn refused_place(given: &Given, err: PlanError) -> (u64, u64) {
+    let (number, place) = refusal(&rust::words(err));
+    if number == 1 {
+        return (number, place);
+    }
+    let wheels = given.wheels.iter().enumerate().map(|(k, w)| (k, Given { wheels: vec![w.clone()], ..Given::default() }));
+    let thrusters = given.thrusters.iter().enumerate().map(|(k, t)| (8 + k, Given { thrusters: vec![t.clone()], ..Given::default() }));
+    let cmgs = given.cmgs.iter().map(|c| (20, Given { cmgs: Some(*c), ..Given::default() }));
+    let first = wheels.chain(thrusters).chain(cmgs).find(|(_, alone)| rust::prepare(alone).is_err());
+    (number, first.map_or(99, |(k, _)| k as u64))
+}
+
+fn prepared(flat: &Flat) -> Result<Map, (u64, u64)> {
+    let given = flat.given();
+    rust::prepare(&given).map_err(|err| refused_place(&given, err))
+}
+
+/// A row as wide as the actuators want it: within a few times their limits, or hostile.
+fn row(r: &mut Random, w: &mut Words, width: usize) {
+    let hostile = r.one_in(6);
+    w.n(width as u64);
+    (0..width).for_each(|_| w.f(if hostile { r.hostile() } else { r.tame() }));
+}
+
+fn three(r: &mut Random) -> [f64; 3] {
+    if r.one_in(6) { r.numbers() } else { std::array::from_fn(|_| r.tame()) }
+}
+
+fn four(r: &mut Random) -> [f64; 4] {
+    match r.below(6) {
+        0 => r.numbers(),
+        1 => std::array::from_fn(|_| r.tame() * 600.0),
+        _ => std::array::from_fn(|_| r.tame()),
+    }
+}
+
+/// A list from the inputs: its length, then its numbers.
+fn list(r: &mut Reader<'_>) -> Vec<f64> {
+    let n = r.n() as usize;
+    r.list(n)
+}
+
+/// The Rust's value on the map of sound actuators, 11 where an angle was outside; no answer where `prepare` refuses.
+fn by_map(i: &[u64], o: &mut Words, of: impl FnOnce(&Map, &mut Reader<'_>) -> Result<Vec<f64>, PlanError>) -> bool {
+    let mut r = Reader(i);
+    let Ok(map) = prepared(&Flat::take(&mut r)) else {
+        return false;
+    };
+    libm::was_outside();
+    let answer = of(&map, &mut r);
+    match answer {
+        _ if libm::was_outside() => o.given(11, &[]),
+        Ok(v) => o.given(0, &v),
+        Err(err) => o.given(refusal(&rust::words(err)).0, &[]),
+    }
+    true
+}
+
+/// A problem's other numbers: q0, qf, inertia, limits, slew, weights, tolerances.
+fn body(r: &mut Random) -> [f64; 29] {
+    let mut b = [0.0; 29];
+    b[..4].copy_from_slice(&r.attitude());
+    b[4..8].copy_from_slice(&r.attitude());
+    let tensor = if r.one_in(4) { r.tensor() } else { [2.0 + r.unit(), 0.1, -0.2, 0.1, 3.0 + r.unit(), 0.05, -0.2, 0.05, 4.0 + r.unit()] };
+    b[8..17].copy_from_slice(&tensor);
+    b[17..21].copy_from_slice(&[0.1 + r.unit(), 0.1 + r.unit(), 0.1 + r.unit(), 0.1 + r.unit()]);
+    (21..27).for_each(|k| b[k] = r.unit());
+    b[27..].copy_from_slice(if r.one_in(4) { &[1.0e-12, 1.0e-9] } else { &[1.0e-5, 1.0e-6] });
+    b
+}
+
+/// A packed decision: a plain duration or a hostile one, 16 rows.
+fn decision(r: &mut Random) -> [f64; 193] {
+    let mut z = [0.0; 193];
+    let scale = [0.01, 0.1, 1.0][r.below(3) as usize];
+    z.iter_mut().for_each(|x| *x = r.tame() * scale);
+    z[0] = match r.below(8) {
+        0 => r.hostile(),
+        1 => [0.0, -0.0, -1.0, f64::NAN, f64::INFINITY, 1.0e-3, 1.0e4, 1.0e-300][r.below(8) as usize],
+        _ => 0.5 + 60.0 * r.unit(),
+    };
+    if r.one_in(6) {
+        for _ in 0..=r.below(3) {
+            let at = 1 + r.below(192) as usize;
+            z[at] = r.hostile();
+        }
+    }
+    z
+}
+
+/// Actuators with a row of at most 12 controls in most cases.
+fn narrow(r: &mut Random) -> Flat {
+    loop {
+        let flat = if r.one_in(8) { maps::hostile(r) } else { maps::sound(r) };
+        if flat.width() <= 12 || r.one_in(20) {
+            return flat;
+        }
+    }
+}
+
+/// The step in which the gimbals' angles are first outside, if they are: the sums as `reconstruct` forms them.
+fn outside_gimbals(task: &Task, z: &[f64]) -> Option<u64> {
+    let width = task.map.control_dim();
+    let dt = z[0] / 16.0;
+    let mut delta = [0.0; 4];
+    (0..16).find(|k| {
+        let at = 1 + (*k as usize + 1) * width - 4;
+        (0..4).for_each(|g| delta[g] += z[at + g] * dt);
+        delta.iter().any(|d: &f64| !(d.abs() <= 1024.0))
+    })
+}
+
+/// Number and place of a run that did not end well.
+fn stopped(task: &Task, z: &[f64], outside: Option<u64>, steps: u64, err: Option<PlanError>) -> (u64, u64) {
+    if let Some(after) = outside {
+        let swung = task.map.given().cmgs.and_then(|_| outside_gimbals(task, z));
+        return (11, if swung.is_some_and(|k| k + 1 == after) { after - 1 } else { after });
+    }
+    let (number, _) = refusal(&rust::words(err.expect("a refusal")));
+    (number, if number == 5 { 2 } else { steps.wrapping_sub(1) })
+}
+
+/// Checks 1 to 6 in document 01's order, then 8 for a row of more than 12.
+fn checked(flat: &Flat, b: &[f64; 29], limited: bool) -> Result<Task, (u64, u64)> {
+    quatopsy_schema::set_tolerances(b[27], b[28]);
+    let map = prepared(flat)?;
+    let (mut start, mut end) = ([0.0; 4], [0.0; 4]);
+    start.copy_from_slice(&b[..4]);
+    end.copy_from_slice(&b[4..8]);
+    let q0 = rust::q_normalized(start).map_err(|_| (5, 0))?;
+    let qf = rust::q_normalized(end).map_err(|_| (5, 1))?;
+    let inertia = std::array::from_fn(|i| std::array::from_fn(|k| b[8 + 3 * i + k]));
+    rust::invert_spd(inertia).map_err(|_| (6, 0))?;
+    if map.control_dim() > 12 {
+        return Err((8, 0));
+    }
+    let weights = std::array::from_fn(|k| b[21 + k]);
+    Ok(Task { q0, qf, inertia, limit: [b[17], b[18], b[19]], slew: limited.then_some(b[20]), weights, map })
+}
+
+fn run_by_rust(i: &[u64], o: &mut Words) -> bool {
+    let mut r = Reader(i);
+    let (flat, b, limited, z) = (Flat::take(&mut r), r.a::<29>(), r.n() != 0, r.a::<193>());
+    let task = match checked(&flat, &b, limited) {
+        Ok(task) => task,
+        Err((number, place)) => {
+            [number, place, 0].iter().for_each(|n| o.n(*n));
+            return true;
+        }
+    };
+    libm::outside_after();
+    libm::steps();
+    let answer = scvx::run(&task, &z[..1 + 16 * task.map.control_dim()]);
+    let (outside, steps) = (libm::outside_after(), libm::steps());
+    match answer {
+        Ok(nodes) if outside.is_none() => {
+            [0, 0, 1].iter().for_each(|n| o.n(*n));
+            o.f(nodes.defect);
+            for k in 0..17 {
+                o.f(nodes.times[k]);
+                o.all(&nodes.quats[k]);
+                o.all(&nodes.omegas[k]);
+                o.all(&nodes.torques[k]);
+                o.all(&nodes.momenta[k]);
+                (0..8).for_each(|j| o.f(nodes.wheels[k].get(j).copied().unwrap_or(0.0)));
+            }
+        }
+        other => {
+            let (number, place) = stopped(&task, &z, outside, steps, other.err());
+            [number, place, 1].iter().for_each(|n| o.n(*n));
+        }
+    }
+    true
+}
+
+fn run_by_port(i: &[u64], o: &mut Words) {
+    let mut r = Reader(i);
+    let (flat, b, limited, z) = (Flat::take(&mut r), r.a::<29>(), r.n() != 0, r.a::<193>());
+    let (mut nodes, mut defect, mut place, mut runs) = ([[1.0; 22]; 17], 1.0, 77, 77);
+    let number = slew_reconstruct(&flat.counts, &flat.numbers, &b, limited, &z, &mut nodes, &mut defect, &mut place, &mut runs);
+    [number, place, runs].iter().for_each(|n| o.n(*n as u64));
+    if number == 0 {
+        o.f(defect);
+        nodes.iter().for_each(|node| o.all(node));
+    } else {
+        assert!(defect == 0.0 && nodes.iter().flatten().all(|x| x.to_bits() == 0), "a refused run leaves zeros");
+    }
+}
+
+pub const RUNS: [Entry; 8] = [
+    Entry {
+        number: 300,
+        name: "prepare",
+        quick: 100_000,
+        full: 2_000_000,
+        kept: 0,
+        make: |r, w| maps::hostile(r).put(w),
+        ours: |i, o| {
+            let flat = Flat::take(&mut Reader(i));
+            let (mut wheels, mut thrusters, mut place) = ([1.0; 24], [1.0; 36], 77);
+            let number = slew_prepare(&flat.counts, &flat.numbers, &mut wheels, &mut thrusters, &mut place);
+            o.n(number as u64);
+            o.n(place as u64);
+            o.all(&wheels);
+            o.all(&thrusters);
+        },
+        rust: |i, o| {
+            let answer = prepared(&Flat::take(&mut Reader(i)));
+            let (number, place) = answer.as_ref().err().copied().unwrap_or((0, 0));
+            let flat = answer.map_or(Flat::of(&Given::default()), |map| Flat::of(&map.given()));
+            o.n(number);
+            o.n(place);
+            o.all(&flat.numbers[..24]);
+            o.all(&flat.numbers[48..84]);
+            true
+        },
+    },
+    Entry {
+        number: 301,
+        name: "body_torque",
+        quick: 100_000,
+        full: 2_000_000,
+        kept: 0,
+        make: |r, w| {
+            let flat = maps::sound(r);
+            flat.put(w);
+            row(r, w, flat.width());
+            w.all(&three(r));
+            w.all(&three(r));
+            w.all(&four(r));
+        },
+        ours: |i, o| {
+            let mut r = Reader(i);
+            let (flat, u, omega, h, delta) = (Flat::take(&mut r), list(&mut r), r.a(), r.a(), r.a());
+            let mut out = [1.0; 3];
+            let number = slew_body_torque(&flat.counts, &flat.numbers, &u, &omega, &h, &delta, &mut out);
+            o.given(number as u64, &out);
+        },
+        rust: |i, o| by_map(i, o, |map, r| map.body_torque(&list(r), r.a(), r.a(), r.a()).map(|v| v.to_vec())),
+    },
+    Entry {
+        number: 302,
+        name: "project_controls",
+        quick: 100_000,
+        full: 2_000_000,
+        kept: 0,
+        make: |r, w| {
+            let flat = maps::sound(r);
+            flat.put(w);
+            row(r, w, flat.width());
+            w.all(&[r.unit(), r.unit(), r.unit()]);
+        },
+        ours: |i, o| {
+            let mut r = Reader(i);
+            let (flat, mut u, limit) = (Flat::take(&mut r), list(&mut r), r.a());
+            slew_project_controls(&flat.counts, &flat.numbers, &mut u, &limit);
+            o.given(0, &u);
+        },
+        rust: |i, o| {
+            by_map(i, o, |map, r| {
+                let (mut u, limit) = (list(r), r.a());
+                map.project_controls(&mut u, limit);
+                Ok(u)
+            })
+        },
+    },
+    Entry {
+        number: 303,
+        name: "allocate_body_torque",
+        quick: 100_000,
+        full: 2_000_000,
+        kept: 0,
+        make: |r, w| {
+            let mut flat = maps::sound(r);
+            if r.one_in(4) {
+                flat.numbers.copy_within(0..3, 3);
+                flat.numbers.copy_within(48..51, 51);
+            }
+            if r.one_in(4) {
+                flat.numbers[96] = [1.0e-9, 1.0e-300, 1.5999999999999999, 1.5707963267948966][r.below(4) as usize];
+            }
+            flat.put(w);
+            w.all(&three(r));
+        },
+        ours: |i, o| {
+            let mut r = Reader(i);
+            let (flat, tau) = (Flat::take(&mut r), r.a());
+            let (mut out, mut place) = ([1.0; 20], 77);
+            let number = slew_allocate_body_torque(&flat.counts, &flat.numbers, &tau, &mut out, &mut place);
+            assert_eq!(place, usize::from(number == 6), "an allocation's place");
+            o.given(number as u64, &out[..flat.width().min(20)]);
+        },
+        rust: |i, o| by_map(i, o, |map, r| map.allocate(r.a())),
+    },
+    Entry {
+        number: 304,
+        name: "singularity",
+        quick: 100_000,
+        full: 2_000_000,
+        kept: 0,
+        make: |r, w| {
+            maps::sound(r).put(w);
+            w.all(&four(r));
+        },
+        ours: |i, o| {
+            let mut r = Reader(i);
+            let (flat, delta) = (Flat::take(&mut r), r.a());
+            let mut out = 1.0;
+            let number = slew_singularity(&flat.counts, &flat.numbers, &delta, &mut out);
+            o.given(number as u64, &[out]);
+        },
+        rust: |i, o| by_map(i, o, |map, r| Ok(vec![map.singularity(r.a())])),
+    },
+    Entry {
+        number: 305,
+        name: "power_excess",
+        quick: 100_000,
+        full: 2_000_000,
+        kept: 0,
+        make: |r, w| {
+            let flat = maps::sound(r);
+            flat.put(w);
+            row(r, w, flat.width());
+            w.all(&three(r));
+        },
+        ours: |i, o| {
+            let mut r = Reader(i);
+            let (flat, u, omega) = (Flat::take(&mut r), list(&mut r), r.a());
+            o.given(0, &[slew_power_excess(&flat.counts, &flat.numbers, &u, &omega)]);
+        },
+        rust: |i, o| by_map(i, o, |map, r| Ok(vec![map.power_excess(&list(r), r.a())])),
+    },
+    Entry {
+        number: 306,
+        name: "wheel momenta",
+        quick: 100_000,
+        full: 2_000_000,
+        kept: 0,
+        make: |r, w| {
+            maps::sound(r).put(w);
+            let n = r.below(10) as usize;
+            row(r, w, n);
+        },
+        ours: |i, o| {
+            let mut r = Reader(i);
+            let (flat, momenta) = (Flat::take(&mut r), list(&mut r));
+            let mut out = [1.0; 3];
+            slew_body_momentum(&flat.counts, &flat.numbers, &momenta, &mut out);
+            o.given(0, &[slew_momentum_excess(&flat.counts, &flat.numbers, &momenta), out[0], out[1], out[2]]);
+        },
+        rust: |i, o| {
+            by_map(i, o, |map, r| {
+                let momenta = list(r);
+                let sum = map.body_momentum(&momenta);
+                Ok(vec![map.momentum_excess(&momenta), sum[0], sum[1], sum[2]])
+            })
+        },
+    },
+    Entry {
+        number: 307,
+        name: "reconstruct",
+        quick: 100_000,
+        full: 2_000_000,
+        kept: 0,
+        make: |r, w| {
+            narrow(r).put(w);
+            w.all(&body(r));
+            w.n(r.below(2));
+            w.all(&decision(r));
+        },
+        ours: run_by_port,
+        rust: run_by_rust,
+    },
+];

@@ -1,0 +1,99 @@
+//! A case as words: what goes in and what comes out, floats by their bits. A NaN has one pattern here, so that any matches any.
+
+pub const NAN: u64 = 0x7FF8_0000_0000_0000;
+
+pub fn bits(x: f64) -> u64 {
+    if x.is_nan() { NAN } else { x.to_bits() }
+}
+
+#[derive(Default, Clone, Debug)]
+pub struct Words(pub Vec<u64>);
+
+impl Words {
+    pub fn clear(&mut self) {
+        self.0.clear();
+    }
+    pub fn n(&mut self, x: u64) {
+        self.0.push(x);
+    }
+    pub fn f(&mut self, x: f64) {
+        self.0.push(bits(x));
+    }
+    pub fn all(&mut self, v: &[f64]) {
+        v.iter().for_each(|x| self.f(*x));
+    }
+    /// A refusal's number, or 0 and what was given.
+    pub fn given(&mut self, number: u64, v: &[f64]) {
+        self.n(number);
+        if number == 0 {
+            self.all(v);
+        }
+    }
+}
+
+/// Reads a case's inputs in turn.
+pub struct Reader<'a>(pub &'a [u64]);
+
+impl Reader<'_> {
+    pub fn n(&mut self) -> u64 {
+        let (first, rest) = self.0.split_first().expect("an input");
+        self.0 = rest;
+        *first
+    }
+    pub fn f(&mut self) -> f64 {
+        f64::from_bits(self.n())
+    }
+    pub fn a<const N: usize>(&mut self) -> [f64; N] {
+        std::array::from_fn(|_| self.f())
+    }
+    pub fn list(&mut self, n: usize) -> Vec<f64> {
+        (0..n).map(|_| self.f()).collect()
+    }
+}
+
+/// One function compared. `rust` answers false where the Rust has no answer: the case does not count.
+pub struct Entry {
+    pub number: u32,
+    pub name: &'static str,
+    pub quick: u64,
+    pub full: u64,
+    /// Cases that are stored for the test program.
+    pub kept: u64,
+    pub make: fn(&mut crate::random::Random, &mut Words),
+    pub ours: fn(&[u64], &mut Words),
+    pub rust: fn(&[u64], &mut Words) -> bool,
+}
+
+/// The number and place that document 01 gives to a refusal of the Rust.
+pub fn refusal(text: &str) -> (u64, u64) {
+    const TABLE: [(&str, u64, u64); 26] = [
+        ("planner quaternion", 5, 0),
+        ("3x3 matrix is not invertible", 6, 0),
+        ("inertia tensor is not symmetric", 6, 0),
+        ("planner axis must be", 3, 0),
+        ("planner supports at most 8", 1, 0),
+        ("planner supports at most 12", 1, 1),
+        ("wheel max_", 2, 0),
+        ("thruster max_", 2, 0),
+        ("CMG skew_rad", 2, 0),
+        ("CMG wheel_momentum_nms", 2, 0),
+        ("CMG max_gimbal_rate_rad_s", 2, 0),
+        ("CMG singularity_eps", 2, 0),
+        ("planner refuses a zero-angle", 7, 0),
+        ("planner could not form a positive", 7, 0),
+        ("planner refuses a near-pi", 7, 1),
+        ("torque box cannot accelerate", 7, 2),
+        ("slew-rate limit produced an invalid", 7, 2),
+        ("slew_rate_limit_rad_s must be", 4, 0),
+        ("planner needs three independent", 8, 0),
+        ("collocation seed", 10, 0),
+        ("CMG pyramid is singular", 12, 0),
+        ("wheel power exceeds", 13, 0),
+        ("collocation did not meet the terminal attitude", 14, 0),
+        ("collocation did not meet the rest", 15, 0),
+        ("collocation dynamics defects", 16, 0),
+        ("collocation net body torque", 17, 0),
+    ];
+    let found = TABLE.iter().find(|(head, _, _)| text.starts_with(head));
+    found.map_or((99, 0), |(_, number, place)| (*number, *place))
+}

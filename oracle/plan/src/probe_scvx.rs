@@ -1,0 +1,90 @@
+//! Doors to what is private in scvx.rs. This module stands inside a copy of it, so it sees all of it. Nothing is computed here, but for `normal`:
+//! the forming of the normal equations stands in the middle of `solve`, and its loops are repeated here word for word.
+
+use super::*;
+use crate::probe::{Nodes, Task, nodes};
+
+fn with<T>(task: &Task, of: impl FnOnce(&SolverProblem<'_>) -> T) -> T {
+    let weights = task.weights;
+    let quat = |q: [f64; 4]| Quat::new(q[0], q[1], q[2], q[3]);
+    of(&SolverProblem {
+        q0: quat(task.q0),
+        qf: quat(task.qf),
+        inertia: task.inertia,
+        torque_limit: task.limit,
+        slew: task.slew,
+        weights: Weights {
+            time: weights[0],
+            control: weights[1],
+            energy: weights[2],
+            pointing: weights[3],
+            smoothness: weights[4],
+            momentum: weights[5],
+        },
+        actuators: &task.map.0,
+        keep_out: &[],
+    })
+}
+
+fn decision(task: &Task, packed: &[f64]) -> Decision {
+    let width = task.map.control_dim();
+    Decision { duration: packed[0], u: packed[1..].chunks(width).map(<[f64]>::to_vec).collect() }
+}
+
+/// One run of the step law on a packed decision: a duration and 16 rows.
+pub fn run(task: &Task, packed: &[f64]) -> Result<Nodes, PlanError> {
+    with(task, |problem| reconstruct(problem, &decision(task, packed)).map(nodes))
+}
+
+/// The residuals of a packed decision.
+pub fn residual_list(task: &Task, packed: &[f64]) -> Result<Vec<f64>, PlanError> {
+    with(task, |problem| residuals(problem, &decision(task, packed)))
+}
+
+pub fn length(values: &[f64]) -> f64 {
+    norm_slice(values)
+}
+
+/// A decision kept over many runs, so that a benchmark times the run alone.
+pub struct Kept(Decision);
+
+pub fn keep(task: &Task, packed: &[f64]) -> Kept {
+    Kept(decision(task, packed))
+}
+
+pub fn run_kept(task: &Task, kept: &Kept) -> Result<Nodes, PlanError> {
+    with(task, |problem| reconstruct(problem, &kept.0).map(nodes))
+}
+
+/// The last rate of a run alone: what a benchmark reads.
+pub fn run_end(task: &Task, kept: &Kept) -> f64 {
+    with(task, |problem| reconstruct(problem, &kept.0).map_or(f64::NAN, |path| path.omegas[16][0]))
+}
+
+/// The normal matrix and the right side, as `solve` forms them.
+pub fn normal(jac: &[Vec<f64>], r: &[f64], n_z: usize, lambda: f64) -> (Vec<Vec<f64>>, Vec<f64>) {
+    let mut a = vec![vec![0.0; n_z]; n_z];
+    let mut g = vec![0.0; n_z];
+    for i in 0..r.len() {
+        for c in 0..n_z {
+            g[c] += jac[i][c] * r[i];
+            for d in 0..n_z {
+                a[c][d] += jac[i][c] * jac[i][d];
+            }
+        }
+    }
+    for k in 0..n_z {
+        a[k][k] += lambda;
+        g[k] = -g[k];
+    }
+    (a, g)
+}
+
+/// Whether the elimination went through; the solution is left in b.
+pub fn eliminate(a: &mut [Vec<f64>], b: &mut [f64]) -> bool {
+    solve_dense(a, b).is_ok()
+}
+
+pub fn seeded(task: &Task, duration: f64, omegas: &[[f64; 3]], torques: &[[f64; 3]]) -> Result<Nodes, PlanError> {
+    with(task, |problem| solve(problem, duration, omegas, torques, None).map(nodes))
+}
