@@ -1,7 +1,7 @@
 // sin, cos and acos by whole numbers scaled by 2^60, as document 01 has them: the same bits on every machine.
 // An argument outside the range, or a NaN, is answered `Outside`.
 ghost use mathlib.Core.Path.{_≡_};
-ghost use Rattle.angles.specs.Angles.{inRange, tiny, regionOf, sinOf, cosOf};
+ghost use Rattle.angles.specs.Angles.{inRange, tiny, sinOf, cosOf};
 ghost use Rattle.angles.specs.Arcs.{acosOf};
 ghost use Rattle.angles.specs.Both.{bothOf};
 use arc::arc_cosine;
@@ -52,29 +52,18 @@ fn is_tiny(x: f64) -> bool
     }
 }
 
-// Which of the three it is.
-pub fn region(x: f64) -> Zone
-    ensures { λ r. ⌜ r ≡ regionOf x ⌝ }
-{
-    if in_range(x) {
-        if is_tiny(x) { Zone::Tiny } else { Zone::Inside }
-    } else {
-        Zone::Outside
-    }
-}
-
 // The sine; the ring's place at the argument's quarters.
 pub fn sin(x: f64) -> Angle
     ensures { λ r. ⌜ r ≡ sinOf x ⌝ }
 {
-    let g = region(x);
-    match g {
-        Zone::Outside => Angle::Outside,
-        Zone::Tiny => Angle::Is(x),
-        Zone::Inside => {
-            let t = reduced(x);
-            Angle::Is(ring_at(t.quarter, t.below, t.size))
+    if in_range(x) {
+        if is_tiny(x) {
+            return Angle::Is(x);
         }
+        let t = reduced(x);
+        Angle::Is(ring_at(t.quarter, t.below, t.size))
+    } else {
+        Angle::Outside
     }
 }
 
@@ -82,14 +71,14 @@ pub fn sin(x: f64) -> Angle
 pub fn cos(x: f64) -> Angle
     ensures { λ r. ⌜ r ≡ cosOf x ⌝ }
 {
-    let g = region(x);
-    match g {
-        Zone::Outside => Angle::Outside,
-        Zone::Tiny => Angle::Is(1.0),
-        Zone::Inside => {
-            let t = reduced(x);
-            Angle::Is(ring_at((t.quarter + 1) % 4, t.below, t.size))
+    if in_range(x) {
+        if is_tiny(x) {
+            return Angle::Is(1.0);
         }
+        let t = reduced(x);
+        Angle::Is(ring_at((t.quarter + 1) % 4, t.below, t.size))
+    } else {
+        Angle::Outside
     }
 }
 
@@ -97,15 +86,15 @@ pub fn cos(x: f64) -> Angle
 pub fn sin_cos(x: f64) -> Both
     ensures { λ r. ⌜ r ≡ bothOf x ⌝ }
 {
-    let g = region(x);
-    match g {
-        Zone::Outside => Both::Outside,
-        Zone::Tiny => Both::Are(x, 1.0),
-        Zone::Inside => {
-            let t = reduced(x);
-            let b = both_at(t.quarter, t.below, t.size);
-            Both::Are(b.sine, b.cosine)
+    if in_range(x) {
+        if is_tiny(x) {
+            return Both::Are(x, 1.0);
         }
+        let t = reduced(x);
+        let b = both_at(t.quarter, t.below, t.size);
+        Both::Are(b.sine, b.cosine)
+    } else {
+        Both::Outside
     }
 }
 

@@ -4,6 +4,7 @@ ghost use Prim.Native.Nat.{ℕ, _+_, _%_, _^_, _<_};
 ghost use Rattle.angles.specs.Angles.{signed, ring, toFloat};
 ghost use Rattle.angles.specs.Sizes.{negativeAt, sizeAt};
 use super::fixed::to_float;
+use super::series::both_sizes;
 use super::series::cosine_size;
 use super::series::sine_size;
 
@@ -55,8 +56,9 @@ pub fn both_at(q: u64, below: bool, u: u64) -> Places
     requires { ⌜ (q < 4) × (u < 2 ^ 60) ⌝ }
     ensures { λ r. ⌜ (r .sine ≡ toFloat (ring q (signed below u))) × (r .cosine ≡ toFloat (ring ((q + 1) % 4) (signed below u))) ⌝ }
 {
-    let s = sine_size(u);
-    let c = cosine_size(u);
+    let sums = both_sizes(u);
+    let s = sums.sine;
+    let c = sums.cosine;
     let next = (q + 1) % 4;
     Places {
         sine: to_float(size_of(q, s, c), negative_at(q, below)),

@@ -79,3 +79,37 @@ pub fn cosine_size(u: u64) -> u64
     let d = pair(c, u, 182, 240);
     d.sum
 }
+
+// The sums of both series.
+pub struct Sums {
+    pub sine: u64,
+    pub cosine: u64,
+}
+
+// Both series, pair by pair, so that neither waits for the other.
+pub fn both_sizes(u: u64) -> Sums
+    requires { ⌜ u < 2 ^ 60 ⌝ }
+    ensures { λ r. ⌜ (r .sine ≡ pairs 1 u u 4 .sum) × (r .cosine ≡ pairs 0 u (2 ^ 60) 4 .sum) ⌝ }
+{
+    let one = 0x1000_0000_0000_0000;
+    let s1 = pair(Partial { sum: u, term: u }, u, 6, 20);
+    let c1 = pair(
+        Partial {
+            sum: one,
+            term: one,
+        },
+        u,
+        2,
+        12,
+    );
+    let s2 = pair(s1, u, 42, 72);
+    let c2 = pair(c1, u, 30, 56);
+    let s3 = pair(s2, u, 110, 156);
+    let c3 = pair(c2, u, 90, 132);
+    let s4 = pair(s3, u, 210, 272);
+    let c4 = pair(c3, u, 182, 240);
+    Sums {
+        sine: s4.sum,
+        cosine: c4.sum,
+    }
+}

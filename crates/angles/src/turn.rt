@@ -1,12 +1,12 @@
 // The argument of sin and cos as quarter turns and a rest.
 ghost use mathlib.Core.Path.{_≡_};
-ghost use Prim.Native.Nat.{_+_, _*_, _^_, _≤_, _<_};
+ghost use Prim.Native.Nat.{ℕ, _+_, _*_, _^_, _≤_, _<_};
 ghost use lib.Dec.{T};
 ghost use lib.IntN.{pos, negsuc};
-ghost use lib.Ieee.{le, fin};
+ghost use lib.Ieee.{Float, binary64, ofBits, lt, le, fin};
 ghost use mathlib.Core.Bool.{false};
 ghost use Rattle.angles.specs.declared.Zone.the-variants as Zone;
-ghost use Rattle.angles.specs.Angles.{Q, sizeOf, regionOf};
+ghost use Rattle.angles.specs.Angles.{Q, signed, scaled, sizeOf, regionOf};
 ghost use Rattle.angles.specs.Sizes.{TurnOf, Reduced};
 
 // A quarter turn, times 2^60, and its half, rounded down.
@@ -97,24 +97,38 @@ pub fn place(a: f64) -> Turn
     nearest_turn(s.quarters, s.rest)
 }
 
-// The argument's quarters, modulo 4, and its rest.
-pub fn reduced(x: f64) -> Turn
+// The size of an argument.
+fn magnitude(x: f64) -> f64
     requires { ⌜ regionOf x ≡ Zone.Inside ⌝ }
-    ensures { λ t. ⌜ Reduced x (t .quarter) (t .below) (t .size) ⌝ }
+    ensures { λ r. ⌜ T (le (fin false 1 (negsuc 25)) r) × T (le r (fin false 1 (pos 10))) × (scaled x ≡ signed (lt x (ofBits binary64 0)) (sizeOf r)) ⌝ }
 {
-    if x < 0.0 {
-        let t = place(-x);
+    if x < 0.0 { -x } else { x }
+}
+
+// The quarters, modulo 4, and the rest of an argument whose size is t's; a negative one's are negated.
+fn mirrored(t: Turn, negative: bool) -> Turn
+    ensures { λ r. ⌜ ((x : Float) (y : ℕ) → scaled x ≡ signed negative y → TurnOf y (t .quarter) (t .size) (t .below) → Reduced x (r .quarter) (r .below) (r .size)) ⌝ }
+{
+    if negative {
         Turn {
             quarter: (4 - t.quarter % 4) % 4,
             size: t.size,
             below: !t.below,
         }
     } else {
-        let t = place(x);
         Turn {
             quarter: t.quarter % 4,
             size: t.size,
             below: t.below,
         }
     }
+}
+
+// The argument's quarters, modulo 4, and its rest: one way for either sign, since a sign is as often one as the other.
+pub fn reduced(x: f64) -> Turn
+    requires { ⌜ regionOf x ≡ Zone.Inside ⌝ }
+    ensures { λ t. ⌜ Reduced x (t .quarter) (t .below) (t .size) ⌝ }
+{
+    let t = place(magnitude(x));
+    mirrored(t, x < 0.0)
 }

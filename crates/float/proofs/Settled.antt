@@ -23,7 +23,7 @@ pub rest-law : (s e R nh nl ph pl d qh ql : ℕ) → 1 ≤ s → nh * 2 ^ 64 + n
 rest-law s e R nh nl ph pl d qh ql l e1 e2 e3 e4 e5 e6 = omega arith
 
 -- between the squares of the odd numbers beside 2 r
-settled-root : (n r : ℕ) → 1 ≤ r → r * r + 1 ≤ n + r → n ≤ r * r + r → r ≡ rounded n
+pub settled-root : (n r : ℕ) → 1 ≤ r → r * r + 1 ≤ n + r → n ≤ r * r + r → r ≡ rounded n
 settled-root n (suc p) l h k = pinned n p (omega (arith, half-square p, square-next p)) (omega (arith, half-square (suc p)))
 
 module _ (s d n : ℕ) (l : 2 ≤ s) (h : s * s + d + 3 ≡ n + 3 * s) where

@@ -5,6 +5,7 @@ ghost use lib.Ieee.{binary64, ofBits, lt, neg};
 ghost use lib.Ieee.Scale.{finite};
 ghost use Rattle.float.specs.Ops as Ops;
 ghost use Rattle.float.specs.Sqrt as Sqrt;
+use self::root::near_root_bits;
 use self::root::root_bits;
 use std::num::nearest_u64_to_f64;
 use std::num::truncating_f64_to_u64;
@@ -122,4 +123,19 @@ pub fn sqrt(x: f64) -> f64
     } else {
         0.0 / 0.0
     }
+}
+
+// The same, sooner where x is within 2^-27 of 1, as the squared length of an attitude is.
+pub fn sqrt_near_one(x: f64) -> f64
+    ensures { λ r. ⌜ r ≡ Sqrt.sqrt binary64 x ⌝ }
+{
+    if x > 0.0 {
+        let b = f64::to_bits(x);
+        if 0x3fef_ffff_fc00_0000 <= b {
+            if b < 0x3ff0_0000_0400_0000 {
+                return f64::from_bits(near_root_bits(b));
+            }
+        }
+    }
+    sqrt(x)
 }

@@ -142,3 +142,11 @@ pub fn root_bits(b: u64) -> u64
     let n = normal(b);
     n.k * 0x10_0000_0000_0000 + root_digits(n.g)
 }
+
+// The same for a pattern at most 2^26 away from that of 1: halfway between the two, rounded down. What the root's series has after that is below half a unit.
+pub fn near_root_bits(b: u64) -> u64
+    requires { ⌜ (0x3fef_ffff_fc00_0000 ≤ b) × (b < 0x3ff0_0000_0400_0000) ⌝ }
+    ensures { λ r. ⌜ (ofBits binary64 r ≡ Sqrt.sqrt binary64 (ofBits binary64 b)) × (r < 0x7ff0_0000_0000_0000) ⌝ }
+{
+    (b + 0x3ff0_0000_0000_0000) / 2
+}

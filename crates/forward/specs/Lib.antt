@@ -1,5 +1,6 @@
 -- The forward run: decisions, the step law, runs.
 pub mod Decisions
+pub mod Defects
 pub mod Steps
 pub mod StepLaws
 pub mod Runs

@@ -5,9 +5,10 @@ use mathlib.Core.Bool.{Bool, true, false, cond, _&&_}
 use lib.Dec.{eqb, eqb·suc-zero}
 use mathlib.Core.List.{List}
 use native.Mathlib.Omega.{arith}
-use lib.Ieee.{Float, lt}
+use lib.Ieee.{Float, binary64, ofBits, lt}
 use Rattle.common.specs.declared.Fate.{Fate}
 use Rattle.common.specs.declared.Fate.the-variants.{Going, Refused}
+use Rattle.float.specs.Sqrt.{sqrt}
 use Rattle.angles.specs.Both.{bothOf}
 use Rattle.angles.specs.declared.Both.the-variants as Both
 use Rattle.actuators.specs.Pyramid.{pyramidA, pyramidFrom, pyramid-once, singularityOf}
@@ -46,6 +47,14 @@ Made c d a = matrixAt c d ≡ record { fate = Going; a = a }
 -- a step that goes on hands the matrix at its end to the next
 abbrev pub Handed : Cmgs → Moved → Type 0
 Handed c m = m .step .fate ≡ Going → Made c (m .step .s .delta) (m .a)
+
+-- a step whose defect is squared, with its root
+abbrev pub rooted : Stepped → Stepped
+rooted g = record { fate = g .fate; s = g .s; tau = g .tau; defect = sqrt binary64 (g .defect) }
+
+pub rooted-stop : (n i : ℕ) (s : State) → rooted (stop n i s) ≡ stop n i s
+unfolding sqrt ofBits
+rooted-stop n i s = refl
 
 -- ---- the gimbals' swing hands on the matrix at its angles
 pub refused-going : {n i : ℕ} → Refused n i ≡ Going → ⊥

@@ -20,7 +20,7 @@ pub fn unpack(values: [f64; 193]) -> [f64; 193]
 }
 
 // Every control of the 16 rows held to its limit, n to a row.
-fn project_rows(map: ActuatorMap, n: usize, torque_limit: [f64; 3], z: [f64; 193]) -> [f64; 193]
+pub fn project_rows(map: ActuatorMap, n: usize, torque_limit: [f64; 3], z: [f64; 193]) -> [f64; 193]
     requires { ⌜ (n ≡ controlDim map) × (n ≤ 12) ⌝ }
     ensures { λ r. ⌜ r ≡ iter (Decisions.projectTurn map «torque_limit») z 16 ⌝ }
 {

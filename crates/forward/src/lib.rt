@@ -46,7 +46,7 @@ pub struct Stepped {
     pub defect: f64,
 }
 
-// A step with the pyramid's matrix at its end, for the next step's torque.
+// A step, its defect squared, with the pyramid's matrix at its end for the next step's torque.
 pub struct Moved {
     pub step: Stepped,
     pub a: [f64; 12],

@@ -1,5 +1,5 @@
 // Forward runs: 16 steps from the problem's start, and their 17 nodes. Carried over from `reconstruct` of quatopsy-plan/src/scvx.rs (Apache-2.0), changed:
-// the state and the nodes are locals of one loop, and a refused run answers blank nodes.
+// the state and the nodes are locals of one loop, the largest defect is found by squares, and a refused run answers blank nodes.
 ghost use mathlib.Core.Path.{_≡_};
 ghost use Prim.Native.Nat.{_+_, _*_, _≤_, _<_};
 ghost use lib.ListN.{length};
@@ -7,7 +7,11 @@ ghost use mathlib.Core.Bool.{true};
 ghost use Rattle.actuators.specs.Maps.{gimbals, isSized, controlDim};
 ghost use Rattle.actuators.specs.declared.Cmgs.the-variants.{With};
 ghost use Rattle.controls.specs.Parts.{Sized};
+ghost use lib.Dec.{T};
+ghost use lib.Ieee.{binary64};
 ghost use Rattle.float.specs.Ops.{max};
+ghost use Rattle.float.specs.Sqrt.{sqrt};
+ghost use Rattle.forward.specs.Defects.{upright};
 ghost use Rattle.forward.specs.Steps as Steps;
 ghost use Rattle.forward.specs.StepLaws.{SkewOf, Made};
 ghost use Rattle.forward.specs.Launch as Launch;
@@ -103,11 +107,12 @@ pub fn refused_run(number: usize, place: usize) -> Run
     }
 }
 
-// The larger of two defects; a NaN gives way.
-pub fn larger(a: f64, b: f64) -> f64
-    ensures { λ r. ⌜ r ≡ max a b ⌝ }
+// The larger of two squared defects, of which a is no NaN and x gives way if it is one: its root is the larger of the roots.
+pub fn larger_square(a: f64, x: f64) -> f64
+    requires { ⌜ T (upright a) ⌝ }
+    ensures { λ r. ⌜ T (upright r) × (sqrt binary64 r ≡ max (sqrt binary64 a) (sqrt binary64 x)) ⌝ }
 {
-    float::max(a, b)
+    if a < x { x } else { a }
 }
 
 // The run from a state whose pyramid matrix is a, n controls a row.
@@ -131,7 +136,7 @@ pub fn run_from(
     let mut m = a;
     let blank = blank_node();
     let mut nodes = [blank; 17];
-    let mut defect = 0.0;
+    let mut square = 0.0;
     let mut k: usize = 0;
     while k < 16 {
         let at = 1 + k * n;
@@ -147,7 +152,7 @@ pub fn run_from(
         let tau = g.tau;
         let node = node_of(dt, k, s, tau);
         nodes[k] = node;
-        defect = larger(defect, g.defect);
+        square = larger_square(square, g.defect);
         s = s2;
         let m2 = moved.a;
         m = m2;
@@ -159,7 +164,7 @@ pub fn run_from(
     nodes[16] = last;
     Run {
         fate: Fate::Going,
-        defect: defect,
+        defect: float::sqrt(square),
         nodes: nodes,
     }
 }

@@ -5,9 +5,12 @@ ghost use Prim.Native.Nat.{_+_, _≤_};
 ghost use lib.ListN.{length};
 ghost use Rattle.actuators.specs.Maps.{gimbals};
 ghost use Rattle.controls.specs.Parts.{Sized};
+ghost use Rattle.controls.specs.Limits.{powerExcess};
 ghost use Rattle.actuators.specs.declared.Cmgs.the-variants.{With};
 ghost use Rattle.forward.specs.Steps as Steps;
-ghost use Rattle.forward.specs.StepLaws.{SkewOf, Made, Handed};
+ghost use Rattle.forward.specs.StepLaws.{SkewOf, Made, Handed, rooted};
+ghost use lib.Ieee.{binary64, lt};
+ghost use Rattle.float.specs.Sqrt.{sqrt};
 use super::Frame;
 use super::Moved;
 use super::Skew;
@@ -62,11 +65,12 @@ pub fn rate_next(w: [f64; 3], wd: [f64; 3], dt: f64) -> [f64; 3]
     geom::add3(w, geom::scale3(wd, dt))
 }
 
-// The length of what Euler's equations miss.
-pub fn defect_of(j: [f64; 9], w: [f64; 3], h: [f64; 3], tau: [f64; 3], wd: [f64; 3]) -> f64
-    ensures { λ r. ⌜ r ≡ Steps.defectOf j w h tau wd ⌝ }
+// What Euler's equations miss, its length squared: a run takes one root, of the largest.
+pub fn defect_square(j: [f64; 9], w: [f64; 3], h: [f64; 3], tau: [f64; 3], wd: [f64; 3]) -> f64
+    ensures { λ r. ⌜ sqrt binary64 r ≡ Steps.defectOf j w h tau wd ⌝ }
 {
-    geom::norm3(geom::sub3(geom::euler_lhs(geom::tensor(j), wd, w, h), tau))
+    let missed = geom::sub3(geom::euler_lhs(geom::tensor(j), wd, w, h), tau);
+    geom::dot3(missed, missed)
 }
 
 // The mean of both rates, times the time.
@@ -144,7 +148,18 @@ pub fn swing(c: Cmgs, skew: Skew, u: &[f64], d: [f64; 4], dt: f64, k: usize) -> 
     }
 }
 
-// The end of a step whose torque, defect, rate and attitude are known: momenta, gimbals and power.
+// Whether a wheel's power is over its limit by more than 1e-9. Without wheels none is, and no limit is looked at.
+fn over_power(wheels: &[f64; 24], powers: [Power; 8], n: usize, u: &[f64], w: [f64; 3]) -> bool
+    requires { ⌜ (n ≤ 8) × (n ≤ length (now u)) ⌝ }
+    ensures { λ r. ⌜ r ≡ lt Steps.slack (powerExcess (now (wheels .entry)) powers n (now (u .entry)) w) ⌝ }
+{
+    if n == 0 {
+        return false;
+    }
+    controls::inner::power_excess(wheels, powers, n, u, w) > 1.0e-9
+}
+
+// The end of a step whose torque, defect (squared), rate and attitude are known: momenta, gimbals and power.
 pub fn settle(
     r: Rig,
     wheels: &[f64; 24],
@@ -156,12 +171,12 @@ pub fn settle(
     k: usize,
     s: State,
     tau: [f64; 3],
-    defect: f64,
+    square: f64,
     w2: [f64; 3],
     q2: Quat,
 ) -> Moved
     requires { ⌜ (Sized r (gimbals (r .cmgs)) (length (now u))) × SkewOf (r .cmgs) skew ⌝ }
-    ensures { λ m. ⌜ (m .step ≡ Steps.attitudeStep (Steps.bodyWith r (now (wheels .entry)) powers (now (thrusters .entry)) f) (now (u .entry)) k s tau defect w2 q2) × Handed (r .cmgs) m ⌝ }
+    ensures { λ m. ⌜ (rooted (m .step) ≡ Steps.attitudeStep (Steps.bodyWith r (now (wheels .entry)) powers (now (thrusters .entry)) f) (now (u .entry)) k s tau (sqrt binary64 square) w2 q2) × Handed (r .cmgs) m ⌝ }
 {
     let dt = f.dt;
     let nw = r.wheel_count;
@@ -177,7 +192,7 @@ pub fn settle(
         Fate::Refused(number, place) => return halt(number, place, s),
         Fate::Going => {}
     }
-    if controls::inner::power_excess(wheels, powers, nw, &u[0..nw], w) > 1.0e-9 {
+    if over_power(wheels, powers, nw, &u[0..nw], w) {
         return halt(13, k, s);
     }
     let hw2 = controls::inner::momenta_next(nw, hw, &u[0..nw], dt);
@@ -195,12 +210,12 @@ pub fn settle(
         fate: Fate::Going,
         s: s2,
         tau: tau,
-        defect: defect,
+        defect: square,
     };
     Moved { step: step, a: a2 }
 }
 
-// Step k with the control row u, from the state s whose pyramid matrix is a.
+// Step k with the control row u, from the state s whose pyramid matrix is a; its defect stays squared.
 pub fn step(
     r: Rig,
     wheels: &[f64; 24],
@@ -214,7 +229,7 @@ pub fn step(
     a: [f64; 12],
 ) -> Moved
     requires { ⌜ (Sized r (gimbals (r .cmgs)) (length (now u))) × (SkewOf (r .cmgs) skew × Made (r .cmgs) (s .delta) a) ⌝ }
-    ensures { λ m. ⌜ (m .step ≡ Steps.step (Steps.bodyWith r (now (wheels .entry)) powers (now (thrusters .entry)) f) (now (u .entry)) k s) × Handed (r .cmgs) m ⌝ }
+    ensures { λ m. ⌜ (rooted (m .step) ≡ Steps.step (Steps.bodyWith r (now (wheels .entry)) powers (now (thrusters .entry)) f) (now (u .entry)) k s) × Handed (r .cmgs) m ⌝ }
 {
     let w = s.w;
     let h = s.h;
@@ -225,7 +240,7 @@ pub fn step(
     let tau = controls::inner::row_torque(r, wheels, thrusters, u, w, h, a);
     let wd = rate_dot(j, jinv, w, h, tau);
     let w2 = rate_next(w, wd, dt);
-    let defect = defect_of(j, w, h, tau, wd);
+    let square = defect_square(j, w, h, tau, wd);
     let Turned::Is(e) = geom::exp_so3(turn_of(w, w2, dt)) else {
         return halt(11, k, s);
     };
@@ -243,7 +258,7 @@ pub fn step(
         k,
         s,
         tau,
-        defect,
+        square,
         w2,
         q2,
     )

@@ -117,7 +117,7 @@ impl Quat {
     pub fn norm(self) -> f64
         ensures { λ r. ⌜ r ≡ Quats.normQ self ⌝ }
     {
-        float::sqrt(self.dot(self))
+        float::sqrt_near_one(self.dot(self))
     }
 
     pub fn normalized(self, tolerance: f64) -> Normal

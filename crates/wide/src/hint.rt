@@ -2,7 +2,7 @@
 ghost use Prim.Native.Nat.{_<_};
 
 // About the root of the number whose pattern is b, within 2 units in the last place in every case tried: 1 over the root by half of the pattern and a cubic, then two
-// terms of the series of what is left.
+// terms of the series of what is left, each ready as soon as what is left is.
 pub fn root_hint(b: u64) -> f64
     requires { ⌜ b < 0x7ff0_0000_0000_0000 ⌝ }
 {
@@ -14,6 +14,6 @@ pub fn root_hint(b: u64) -> f64
         + (h * h) * (2.2629175349557507 - 0.6692806640504173 * h);
     let s = t * p;
     let i = y * p;
-    let u = (f - s * s) * i;
-    s + u * (0.5 + 0.375 * (u * i))
+    let e = f - s * s;
+    (s + e * (0.5 * i)) + (e * e) * ((0.375 * i) * (i * i))
 }

@@ -4,11 +4,8 @@ use Rattle.angles.proofs.Places.{placed, next-four}
 use Rattle.angles.proofs.ring.both_at.Statement.{statement}
 use Rattle.angles.proofs.ring.both_at.Tie as tie
 
-sine-size-requires : tie.Need-sine-size-requires
-sine-size-requires c κs = search needs
-
-cosine-size-requires : tie.Need-cosine-size-requires
-cosine-size-requires c κs = search needs
+both-sizes-requires : tie.Need-both-sizes-requires
+both-sizes-requires c κs = search needs
 
 add-next : tie.Need-add-next
 add-next c = search needs
@@ -38,20 +35,18 @@ returns c =
     let f = z2 .before in
     let n = f .before in
     let z = n .before in
-    let k = z .before in
-    let v = k .before in
+    let v = z .before in
     let s = v .before in
     let a = s .args in (
-      placed (a .q) (a .below) (a .u) (s .pre .0) (s .pre .1) (n .negative-at .ensures) (z .size-of .ensures (a .u) (v .sine-size .ensures .0) (k .cosine-size .ensures .0)) (f .to-float .ensures),
-      placed _ (a .below) (a .u) (next-four (a .q)) (s .pre .1) (n2 .negative-at2 .ensures) (z2 .size-of2 .ensures (a .u) (v .sine-size .ensures .0) (k .cosine-size .ensures .0)) (c .to-float2 .ensures),
+      placed (a .q) (a .below) (a .u) (s .pre .0) (s .pre .1) (n .negative-at .ensures) (z .size-of .ensures (a .u) (v .both-sizes .ensures .0) (v .both-sizes .ensures .1)) (f .to-float .ensures),
+      placed _ (a .below) (a .u) (next-four (a .q)) (s .pre .1) (n2 .negative-at2 .ensures) (z2 .size-of2 .ensures (a .u) (v .both-sizes .ensures .0) (v .both-sizes .ensures .1)) (c .to-float2 .ensures),
     )
 
 pub both-at-spec : {M : Type 1} → statement M
 both-at-spec =
     tie.close
     (tie.spec
-    sine-size-requires
-    cosine-size-requires
+    both-sizes-requires
     add-next
     size-of-requires
     negative-at-requires

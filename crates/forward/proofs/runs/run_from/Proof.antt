@@ -1,4 +1,7 @@
 use lib.Ieee as Ieee
+use lib.Dec.{T}
+use Rattle.float.specs.Sqrt as Sqrt
+use Rattle.forward.specs.Defects.{upright}
 use Prim.Native.Nat.{ℕ, _≤_, _-_}
 use mathlib.Core.Path.{_≡_, refl, sym, ap, _∙_}
 use lib.ListN.{length}
@@ -13,17 +16,18 @@ use Rattle.forward.proofs.runs.run_from.Statement.{statement}
 use Rattle.forward.proofs.runs.run_from.Tie as tie
 
 abbrev Inv-loop : tie.InvT-loop
-Inv-loop r wheels powers thrusters f skew n z dt s₀ m₀ nodes₀ defect₀ k₀ s m nodes defect k =
-    (k ≤ 16) × ((length nodes ≡ 17) × ((going s defect nodes ≡ iter (Runs.courseTurn (Steps.bodyWith r wheels powers thrusters f) n z) (going s₀ defect₀ nodes₀) k) × Made (r .cmgs) (s .delta) m))
+Inv-loop r wheels powers thrusters f skew n z dt s₀ m₀ nodes₀ square₀ k₀ s m nodes square k =
+    (k ≤ 16) × ((length nodes ≡ 17) × ((going s (Sqrt.sqrt Ieee.binary64 square) nodes ≡ iter (Runs.courseTurn (Steps.bodyWith r wheels powers thrusters f) n z) (going s₀ square₀ nodes₀) k) × (T (upright square) × Made (r .cmgs) (s .delta) m)))
 
 abbrev μ-loop : tie.MeasureT-loop
-μ-loop r wheels powers thrusters f skew n z dt s₀ m₀ nodes₀ defect₀ k₀ s m nodes defect k = 16 - k
+μ-loop r wheels powers thrusters f skew n z dt s₀ m₀ nodes₀ square₀ k₀ s m nodes square k = 16 - k
 
 blank-node-requires : tie.Need-blank-node-requires Inv-loop μ-loop
 blank-node-requires c κs = search needs
 
 loop-holds : tie.Need-loop-holds Inv-loop μ-loop
-loop-holds c = (search needs, (search needs, (iter-none _ _, c .before .pre .1 .1 .1)))
+unfolding Sqrt.sqrt Ieee.ofBits
+loop-holds c = (search needs, (search needs, (iter-none _ _, (tt, c .before .pre .1 .1 .1))))
 
 mul-at : tie.Need-mul-at Inv-loop μ-loop
 mul-at c = omega (arith, row-end (c .before .loop .k) 16 (c .before .before .before .args .n) (search needs), c .before .before .before .pre .1 .0)
@@ -71,8 +75,8 @@ mul-nodes c = search needs
 array-set-from-nodes : tie.Need-array-set-from-nodes Inv-loop μ-loop
 array-set-from-nodes c = search needs
 
-larger-requires : tie.Need-larger-requires Inv-loop μ-loop
-larger-requires c κs = search needs
+larger-square-requires : tie.Need-larger-square-requires Inv-loop μ-loop
+larger-square-requires c κs = c .before .before .before .before .before .before .before .before .before .before .loop .inv .1 .1 .1 .0
 
 add-k : tie.Need-add-k Inv-loop μ-loop
 add-k c = search needs
@@ -81,7 +85,7 @@ loop-less : tie.Need-loop-less Inv-loop μ-loop
 loop-less c = search needs
 
 loop-again : tie.Need-loop-again Inv-loop μ-loop
-loop-again c = (search needs, (search needs, (iter-next _ _ _ (c .before .before .before .before .before .before .before .before .before .before .before .before .loop .inv .1 .1 .0) (one-turn _ _ _ _ _ _ _ (c .before .before .before .before .before .before .before .before .step .ensures .0) (c .before .before .node-of .ensures) (c .before .larger .ensures) (c .before .before .before .before .before .enum-told .given .1)), c .before .before .before .before .before .before .before .before .step .ensures .1 (c .before .before .before .before .before .enum-told .given .1))))
+loop-again c = (search needs, (search needs, (iter-next _ _ _ (c .before .before .before .before .before .before .before .before .before .before .before .before .loop .inv .1 .1 .0) (one-turn _ _ _ _ _ _ _ (c .before .before .before .before .before .before .before .before .step .ensures .0) (c .before .before .node-of .ensures) (c .before .larger-square .ensures .1) (c .before .before .before .before .before .enum-told .given .1)), (c .before .larger-square .ensures .0, c .before .before .before .before .before .before .before .before .step .ensures .1 (c .before .before .before .before .before .enum-told .given .1)))))
 
 array-copy-out-before : tie.Need-array-copy-out-before Inv-loop μ-loop
 array-copy-out-before c = search needs
@@ -92,9 +96,16 @@ node-of-requires-2 c κs = search needs
 array-set-from-nodes-2 : tie.Need-array-set-from-nodes-2 Inv-loop μ-loop
 array-set-from-nodes-2 c = search needs
 
+sqrt-requires : tie.Need-sqrt-requires Inv-loop μ-loop
+sqrt-requires c κs = search needs
+
 returns-2 : tie.Need-returns-2 Inv-loop μ-loop
 unfolding Ieee.ofBits
-returns-2 c = let e : c .before .before .before .before .loop .k ≡ 16 = omega arith in rw (c .node-of2 .ensures) (ends-going _ _ _ _ (going (c .before .before .before .before .loop .s) (c .before .before .before .before .loop .defect) (c .before .before .before .before .loop .nodes)) (rw (← e) (rw (c .before .before .before .before .before .blank-node .ensures) at (c .before .before .before .before .loop .inv .1 .1 .0))) refl)
+returns-2 c =
+    let l = c .before .before .before .before .before in
+    let e : l .loop .k ≡ 16 = omega arith in
+    rw (c .sqrt .ensures, c .before .node-of2 .ensures)
+    (ends-going _ _ _ _ (going (l .loop .s) (Sqrt.sqrt Ieee.binary64 (l .loop .square)) (l .loop .nodes)) (rw (← e) (rw (l .before .blank-node .ensures) at (l .loop .inv .1 .1 .0))) refl)
 
 pub run-from-spec : {M : Type 1} → statement M
 run-from-spec =
@@ -119,11 +130,12 @@ run-from-spec =
     node-of-requires
     mul-nodes
     array-set-from-nodes
-    larger-requires
+    larger-square-requires
     add-k
     loop-less
     loop-again
     array-copy-out-before
     node-of-requires-2
     array-set-from-nodes-2
+    sqrt-requires
     returns-2)

@@ -1,5 +1,6 @@
+use mathlib.Core.Path.{refl, sym, _∙_}
 use lib.Ieee as Ieee
-use Rattle.forward.specs.StepLaws.{row-room, halted, ends-swung, ends-powered, ends-settled, hands-on}
+use Rattle.forward.specs.StepLaws.{rooted-stop, row-room, halted, ends-swung, ends-powered, ends-settled, hands-on}
 use native.Mathlib.Omega.{arith}
 use borrow.Author.Needs.{needs}
 use Rattle.forward.proofs.steps.settle.Statement.{statement}
@@ -30,29 +31,29 @@ halt-requires : tie.Need-halt-requires
 halt-requires c κs = search needs
 
 returns : tie.Need-returns
-returns c = (rw (c .halt .ensures) (ends-swung _ _ _ _ _ _ _ _ (c .before .before .before .before .swing .ensures) (c .before .before .fate .given .1)), halted (c .before .before .before .before .before .before .before .before .before .before .before .args .r .cmgs) (c .halt .ensures))
+returns c = (rw (c .halt .ensures) (rooted-stop _ _ _ ∙ ends-swung _ _ _ _ _ _ _ _ (c .before .before .before .before .swing .ensures) (c .before .before .fate .given .1)), halted (c .before .before .before .before .before .before .before .before .before .before .before .args .r .cmgs) (c .halt .ensures))
 
 enum-told : tie.Need-enum-told
 enum-told c = search needs
 
-sub-power-excess : tie.Need-sub-power-excess
-sub-power-excess c = search needs
+sub-over-power : tie.Need-sub-over-power
+sub-over-power c = search needs
 
-part-power-excess-start : tie.Need-part-power-excess-start
-part-power-excess-start c = search needs
+part-over-power-start : tie.Need-part-over-power-start
+part-over-power-start c = search needs
 
-part-power-excess-end : tie.Need-part-power-excess-end
-part-power-excess-end c = omega (arith, row-room _ _ (c .before .before .before .before .before .before .before .before .before .pre .0))
+part-over-power-end : tie.Need-part-over-power-end
+part-over-power-end c = omega (arith, row-room _ _ (c .before .before .before .before .before .before .before .before .before .pre .0))
 
-power-excess-requires : tie.Need-power-excess-requires
-power-excess-requires c κs = search needs
+over-power-requires : tie.Need-over-power-requires
+over-power-requires c κs = search needs
 
 halt-requires-2 : tie.Need-halt-requires-2
 halt-requires-2 c κs = search needs
 
 returns-2 : tie.Need-returns-2
 unfolding Ieee.ofBits
-returns-2 c = (rw (c .halt2 .ensures) (ends-powered _ _ _ _ _ _ _ _ (c .before .before .before .before .before .before .swing .ensures) (c .before .before .before .before .enum-told .given .1) (c .before .before .power-excess .ensures) (c .before .if1 .taken)), halted (c .before .before .before .before .before .before .before .before .before .before .before .before .before .args .r .cmgs) (c .halt2 .ensures))
+returns-2 c = (rw (c .halt2 .ensures) (rooted-stop _ _ _ ∙ ends-powered _ _ _ _ _ _ _ _ (c .before .before .before .before .before .before .swing .ensures) (c .before .before .before .before .enum-told .given .1) refl (sym (c .before .before .over-power .ensures) ∙ c .before .if1 .taken)), halted (c .before .before .before .before .before .before .before .before .before .before .before .before .before .args .r .cmgs) (c .halt2 .ensures))
 
 sub-momenta-next : tie.Need-sub-momenta-next
 sub-momenta-next c = search needs
@@ -74,7 +75,7 @@ axis-sum-requires c κs = search needs
 
 returns-3 : tie.Need-returns-3
 unfolding Ieee.ofBits
-returns-3 c = (ends-settled _ _ _ _ _ _ _ _ (c .before .before .before .before .before .before .before .before .before .before .before .before .swing .ensures) (c .before .before .before .before .before .before .before .before .before .before .enum-told .given .1) (c .before .before .before .before .before .before .before .before .power-excess .ensures) (c .before .before .before .before .before .before .before .if1 .left) (c .before .before .before .before .before .momenta-next .ensures) (c .before .before .axis-sum .ensures), λ h. hands-on _ _ _ _ _ (c .before .before .before .before .before .before .before .before .before .before .before .before .swing .ensures) (c .before .before .before .before .before .before .before .before .before .before .enum-told .given .1))
+returns-3 c = (ends-settled _ _ _ _ _ _ _ _ (c .before .before .before .before .before .before .before .before .before .before .before .before .swing .ensures) (c .before .before .before .before .before .before .before .before .before .before .enum-told .given .1) refl (sym (c .before .before .before .before .before .before .before .before .over-power .ensures) ∙ c .before .before .before .before .before .before .before .if1 .left) (c .before .before .before .before .before .momenta-next .ensures) (c .before .before .axis-sum .ensures), λ h. hands-on _ _ _ _ _ (c .before .before .before .before .before .before .before .before .before .before .before .before .swing .ensures) (c .before .before .before .before .before .before .before .before .before .before .enum-told .given .1))
 
 pub settle-spec : {M : Type 1} → statement M
 settle-spec =
@@ -90,10 +91,10 @@ settle-spec =
     halt-requires
     returns
     enum-told
-    sub-power-excess
-    part-power-excess-start
-    part-power-excess-end
-    power-excess-requires
+    sub-over-power
+    part-over-power-start
+    part-over-power-end
+    over-power-requires
     halt-requires-2
     returns-2
     sub-momenta-next

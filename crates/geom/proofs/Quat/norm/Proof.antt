@@ -7,12 +7,12 @@ use Rattle.geom.proofs.Quat.norm.Tie as tie
 dot-requires : tie.Need-dot-requires
 dot-requires c κs = search needs
 
-sqrt-requires : tie.Need-sqrt-requires
-sqrt-requires c κs = search needs
+sqrt-near-one-requires : tie.Need-sqrt-near-one-requires
+sqrt-near-one-requires c κs = search needs
 
 returns : tie.Need-returns
 unfolding normQ
-returns c = rw (c .sqrt .ensures, c .before .dot .ensures)
+returns c = rw (c .sqrt-near-one .ensures, c .before .dot .ensures)
 
 pub norm-spec : {M : Type 1} → statement M
-norm-spec = tie.close (tie.spec dot-requires sqrt-requires returns)
+norm-spec = tie.close (tie.spec dot-requires sqrt-near-one-requires returns)
