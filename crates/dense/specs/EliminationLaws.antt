@@ -1,24 +1,32 @@
 -- What one column of the elimination does to each cell, and how its steps are carried out row by row. Assumes nothing.
-use Prim.Native.Nat.{ℕ, _<_}
+use Prim.Native.Nat.{ℕ, _<_, _≤_}
 use native.Mathlib.Omega.{arith}
 use mathlib.Core.Bool.{Bool, true, false, cond}
 use mathlib.Core.Path.{_≡_, refl, ap, sym, subst, _∙_}
 use mathlib.Core.List.{List, []}
 use lib.Dec.{eqb, leb}
 use lib.ListN.{length, set, length-set}
-use lib.Ieee.{Float, nan, binary64, sub, mul, div}
-use borrow.Author.Tests.{eqb-true, eqb-false}
+use lib.Ieee.{Float, nan, binary64, sub, mul, div, lt, ofBits}
+use borrow.Author.Tests.{eqb-true, eqb-false, eq-eqb}
 use Rattle.common.specs.Lists.{at}
 use Rattle.dense.specs.Tab.{tab-same, tab-of, getD-tab}
 use Rattle.dense.specs.Rows.{row, rows, line-rows}
 use Rattle.dense.specs.Filled.{OneRow, one-set}
 use Rattle.dense.specs.Normal.{line, cell}
-use Rattle.dense.specs.Elimination.{exchanged, swapRows, swapRight, dividedAt, divided, divideRow, divideRight, lessAt, less, eliminatedRow, eliminate}
+use Rattle.dense.specs.Elimination.{exchanged, swapRows, swapRight, dividedAt, divided, divideRow, divideRight, lessAt, less, eliminatedRow, eliminate, going, stopped, column, columnBy, reduce}
+use Rattle.dense.specs.Inner.{Pivot}
 
 -- what a swap does to each cell
 pub swap-cell : (n k p : ℕ) (a : List (List Float)) (i j : ℕ) → i < n → cell (swapRows n k p a) i j ≡ cell a (exchanged k p i) j
 unfolding swapRows
 swap-cell n k p a i j h = ap (λ r. at r j) (getD-tab n (λ x. line a (exchanged k p x)) [] i h)
+
+-- so the number that row k is divided by comes from row p
+pub swapped-pivot : (n k p : ℕ) (a c : List (List Float)) → k < n → line a p ≡ line c p → cell (swapRows n k p a) k k ≡ cell (swapRows n k p c) k k
+swapped-pivot n k p a c h e = from a ∙ ap (λ r. at r k) e ∙ sym (from c)
+  where
+    from : (m : List (List Float)) → cell (swapRows n k p m) k k ≡ cell m p k
+    from m = swap-cell n k p m k k h ∙ ap (λ t. cell m (cond t p (cond (eqb k p) k k)) k) (eq-eqb k k refl)
 
 -- what the division does to each cell: row k from column k on is divided by its number in column k
 pub divide-cell : (n k : ℕ) (a : List (List Float)) (i j : ℕ) → i < n → j < n
@@ -86,14 +94,25 @@ rows-placed n v h u k p hk hp f s =
     ∙ sym (ap (λ r. cond (eqb x k) (divided n k r) r)
     (getD-tab n (λ i. line (rows n n v) (exchanged k p i)) [] x l ∙ line-rows n n v (exchanged k p x) (exchanged-inside n k p x hk hp l))))
 
+-- a stage, part by part
+pub going-both : {a c : List (List Float)} {b d : List Float} → a ≡ c → b ≡ d → going a b ≡ going c d
+going-both e f = rw (e, f)
+
+-- a column by what the test of its pivot says
+pub pivot-small : (n k : ℕ) (a : List (List Float)) (b : List Float) (p : ℕ) (size : Float) → Pivot n k a p size → (t : Bool)
+    → lt size (ofBits binary64 0x3C32_725D_D1D2_43AC) ≡ t → column n k (going a b) ≡ cond t stopped (reduce n k p a b)
+pivot-small n k a b p size v t e =
+    ap (λ q. columnBy n k q a b) (sym (v .chosen)) ∙ ap (λ s. cond (lt s (ofBits binary64 0x3C32_725D_D1D2_43AC)) stopped (reduce n k p a b)) (sym (v .sized))
+    ∙ ap (λ s. cond s stopped (reduce n k p a b)) e
+
 -- a choice between two rows, and what goes with it
 pub choice : (t : Bool) (i p r : ℕ) (f : ℕ → Float) (s : Float) → r ≡ cond t i p → s ≡ cond t (f i) (f p) → s ≡ f r
 choice true i p r f s e g = g ∙ ap f (sym e)
 choice false i p r f s e g = g ∙ ap f (sym e)
 
-pub choice-inside : (t : Bool) (i p r n : ℕ) → r ≡ cond t i p → i < n → p < n → r < n
-choice-inside true i p r n e h l = omega arith
-choice-inside false i p r n e h l = omega arith
+pub choice-within : (t : Bool) (i p r k n : ℕ) → r ≡ cond t i p → k ≤ i → i < n → k ≤ p → p < n → (k ≤ r) × (r < n)
+choice-within true i p r k n e h l g m = (omega arith, omega arith)
+choice-within false i p r k n e h l g m = (omega arith, omega arith)
 
 -- a store into one row, the width and the row by other names
 pub one-row : (n w : ℕ) (x y v u : List Float) (i : ℕ) → w ≡ n → x ≡ y → OneRow i x (row w v) (row w u) → OneRow i y (row n v) (row n u)

@@ -7,4 +7,5 @@ pub mod Elimination
 pub mod Inner
 pub mod NormalLaws
 pub mod EliminationLaws
+pub mod TwoColumns
 pub mod Examples

@@ -1,22 +1,22 @@
 -- Each cell of the normal equations is one sum over the residual rows, in order from +0.0. Assumes nothing.
-use Prim.Native.Nat.{ℕ, zero, suc, _+_, _*_, _<_}
+use Prim.Native.Nat.{ℕ, zero, suc, _+_, _*_, _<_, _≤_}
 use native.Mathlib.Omega.{arith}
 use lib.ListN.{length, take, drop, set, length-set}
 use lib.Seq.{getD-set-same, getD-set-other}
 use borrow.Author.Tests.{le-ltb, ltb-true, ltb-false, eq-eqb, ne-eqb, eqb-true, eqb-false}
-use Rattle.dense.specs.Filled.{Filled}
-use native.Mathlib.Nat.{mul-comm}
+use Rattle.dense.specs.Filled.{Filled, filled-four}
+use native.Mathlib.Nat.{mul-comm, add-mul}
 use mathlib.Core.Bool.{Bool, true, false, cond}
 use mathlib.Core.Path.{_≡_, refl, ap, sym, subst, _∙_}
 use mathlib.Core.List.{List, []}
 use lib.Dec.{eqb, ltb}
 use lib.Ieee.{Float, nan, inf, fin, Format, binary64, add, mul, neg, unlike, up, down}
 use Rattle.common.specs.Iter.{iter}
-use Rattle.common.specs.Lists.{at}
+use Rattle.common.specs.Lists.{at, slice}
 use Rattle.dense.specs.Tab.{tab, getD-tab, tab-same, tab-of}
 use Rattle.dense.specs.Normal.{zero64, line, cell, rowOnto, blank, damped, normalMatrix, termOnto, rightSide, dot}
-use Rattle.dense.specs.Inner.{sumsOf, dampedSum, mirroredAt, mirroredRow}
-use Rattle.dense.specs.Rows.{row, rows, line-rows, at-row}
+use Rattle.dense.specs.Inner.{cellsOf, Dots, sumsOf, Summed, dampedSum, mirroredAt, mirroredRow}
+use Rattle.dense.specs.Rows.{row, rows, length-row, part-row, line-rows, at-row}
 
 -- a cell of a matrix given by a rule
 pub cell-tab : (n : ℕ) (f : ℕ → ℕ → Float) (c d : ℕ) → c < n → d < n → cell (tab n (λ i. tab n (f i))) c d ≡ f c d
@@ -91,12 +91,39 @@ normal-rows n m j lambda =
 pub right-rows : (n m : ℕ) (j r : List Float) → rightSide n m (rows n m j) r ≡ tab n (λ c. neg (dot m (row m j c) r))
 right-rows n m j r = right-sums n m (rows n m j) r ∙ tab-same n _ _ (λ c hc. rw (line-rows n m j c hc))
 
+-- four cells of the row of column x
+pub four-cells : (x j r : List Float) (m d : ℕ) (a b c e : Float) → length x ≡ m → d + 4 ≤ length r
+    → Dots x (slice (d * m) (d * m + m) j) (slice (d * m + m) (d * m + m + m) j) (slice (d * m + m + m) (d * m + m + m + m) j) (slice (d * m + m + m + m) (d * m + m + m + m + m) j) a b c e
+    → Filled (cellsOf x j) d (d + 4) (at r) (at (set (set (set (set r d a) (d + 1) b) (d + 2) c) (d + 3) e))
+four-cells x j r m d a b c e lx h f =
+    filled-four (cellsOf x j) d r a b c e h
+    (part d (d * m) (f .first) (ap (λ k. d * k) (sym lx)))
+    (part (d + 1) (d * m + m) (f .second) (at-next 1 (d * m + m) (omega (arith, add-mul d 1 m))))
+    (part (d + 2) (d * m + m + m) (f .third) (at-next 2 (d * m + m + m) (omega (arith, add-mul d 2 m))))
+    (part (d + 3) (d * m + m + m + m) (f .fourth) (at-next 3 (d * m + m + m + m) (omega (arith, add-mul d 3 m))))
+  where
+    at-next : (i s : ℕ) → s ≡ (d + i) * m → s ≡ (d + i) * length x
+    at-next i s g = g ∙ ap (λ k. (d + i) * k) (sym lx)
+
+    part : (i s : ℕ) {y : Float} → y ≡ dot (length x) x (slice s (s + m) j) → s ≡ i * length x → y ≡ cellsOf x j i
+    part i s g w = g ∙ ap (λ q. dot (length x) x q) (part-row (length x) j i s (s + m) w (ap (λ k. s + k) (sym lx)))
+
+-- a lent part that is column c
+pub part-length : (m : ℕ) (j : List Float) (c s e : ℕ) → s ≡ c * m → e ≡ s + m → c * m + m ≤ length j → length (slice s e j) ≡ m
+part-length m j c s e h g room = ap length (part-row m j c s e h g) ∙ length-row m j c room
+
+-- a row of sums, p being column c
+pub summed : (m : ℕ) (j p : List Float) (c a n : ℕ) (g : ℕ → Float) (r : List Float) → p ≡ row m j c → c * m + m ≤ length j → Filled (cellsOf p j) a n g (at r)
+    → Summed m j c a n r
+summed m j p c a n g r e h f x l b =
+    f .done x l b ∙ ap (λ q. cellsOf q j x) e ∙ ap (λ k. dot k (row m j c) (row k j x)) (length-row m j c h)
+
 -- a row whose cells from the diagonal on are summed, whose cells before it are taken from the rows above, and whose diagonal is damped
-pub row-mirrored : (n m : ℕ) (v : List Float) (lambda : Float) (c : ℕ) (g : ℕ → Float) (p q : List Float) → c < n → length q ≡ n
-    → Filled (sumsOf m (take (n * m) v) c) c n g (at p) → Filled (λ d. at (drop (n * m) v) (d * n + c)) 0 c (at p) (at q)
+pub row-mirrored : (n m : ℕ) (v : List Float) (lambda : Float) (c : ℕ) (p q : List Float) → c < n → length q ≡ n
+    → Summed m (take (n * m) v) c c n p → Filled (λ d. at (drop (n * m) v) (d * n + c)) 0 c (at p) (at q)
     → set q c (add binary64 (at q c) lambda) ≡ mirroredRow n m v lambda c
 unfolding mirroredRow
-row-mirrored n m v lambda c g p q hc lq f h =
+row-mirrored n m v lambda c p q hc lq f h =
     tab-of n (mirroredAt n m v lambda c) nan (set q c y) (length-set q c y ∙ lq) (λ x l. by x l (eqb x c) refl (ltb x c) refl)
   where
     y : Float
@@ -108,10 +135,10 @@ row-mirrored n m v lambda c g p q hc lq f h =
     by : (x : ℕ) → x < n → (s : Bool) → eqb x c ≡ s → (t : Bool) → ltb x c ≡ t → at (set q c y) x ≡ mirroredAt n m v lambda c x
     by x l true e t _ =
         subst (λ z. at (set q c y) z ≡ mirroredAt n m v lambda c z) (sym (eqb-true x c e))
-        (getD-set-same q c y nan (omega arith) ∙ ap (λ s. add binary64 s lambda) (h .above c (omega arith) ∙ f .done c (omega arith) hc) ∙ own)
+        (getD-set-same q c y nan (omega arith) ∙ ap (λ s. add binary64 s lambda) (h .above c (omega arith) ∙ f c (omega arith) hc) ∙ own)
     by x l false e true d = getD-set-other q c x y nan (eqb-false x c e) ∙ h .done x (omega arith) (ltb-true x c d) ∙ rw d
     by x l false e false d =
-        getD-set-other q c x y nan (eqb-false x c e) ∙ h .above x (ltb-false x c d) ∙ f .done x (ltb-false x c d) l
+        getD-set-other q c x y nan (eqb-false x c e) ∙ h .above x (ltb-false x c d) ∙ f x (ltb-false x c d) l
         ∙ rw (d, ne-eqb c x (λ z. eqb-false x c e (sym z)))
 
 -- such a row is the matrix's own, since the matrix is its own mirror image

@@ -1,33 +1,42 @@
-use lib.Ieee.{ofBits, Float, binary64, lt}
-use mathlib.Core.Bool.{true, false, cond}
+use borrow.Author.Tests.{not-true, not-false}
+use mathlib.Core.Bool.{true, false}
 use Rattle.dense.specs.Elimination as Elimination
-use Rattle.dense.specs.Rows.{rows}
+use Rattle.dense.specs.Rows.{row, rows}
+use lib.Ieee.{Float}
 use lib.ListN.{length}
 use mathlib.Core.List.{List}
-use mathlib.Core.Path.{_≡_, ap, sym, _∙_}
-use Prim.Native.Nat.{ℕ}
+use mathlib.Core.Path.{_≡_, ap, sym, subst, _∙_}
+use Prim.Native.Nat.{ℕ, _*_}
+use native.Mathlib.Omega.{arith}
 use borrow.Author.Needs.{needs}
 use Rattle.dense.proofs.column.Statement.{statement}
 use Rattle.dense.proofs.column.Tie as tie
 
 returns : tie.Need-returns
-returns c = let a = c .before .before .before .before .before .before .before .before .args in
+returns c = let a = c .before .before .before .before .before .before .before .before .before .before .before .before .before .before .before .before .before .before .before .before .before .before .args in
     let n : ℕ = length (a .b .now) in
-    let m : List (List Float) = rows n n (a .a .now) in
-    let p = c .before .before .pivot .ensures in
-    let e : Elimination.tooSmall (a .k) (Elimination.pivot n (a .k) m) m ≡ true =
-    ap (λ q. Elimination.tooSmall (a .k) q m) (sym (p .chosen)) ∙ ap (λ s. lt s (ofBits binary64 0x3C32_725D_D1D2_43AC)) (sym (p .sized)) ∙ c .if1 .taken in
-    ap (λ t. cond t Elimination.stopped (Elimination.reduce n (a .k) (Elimination.pivot n (a .k) m) m (a .b .now))) e
+    let f = c .before .before .before .before .before .before .before .before .before .before .before .begin in
+    let g : f .result ≡ false = not-true _ (c .if1 .taken) in
+    f .ensures .stage ∙ ap (λ r. Elimination.after r (Elimination.eliminate n (a .k) (rows n n (f .last .0))) (f .last .1 .0)) g
+
+eliminate-requires : tie.Need-eliminate-requires
+eliminate-requires c κs = let s = c .before .before .before .before .before .before .before .before .before .before .before .before .before .before .before .before .before .before .before .before .before .before .before .before in
+    let f = c .before .before .before .before .before .before .before .before .before .before .before .before .before .begin in
+    let e : length (s .args .b .now) ≡ length (f .last .1 .1 .0) = sym (f .kept .1 .1 .0 ∙ s .pre .0 .tops) in
+    let g : f .result ≡ true = not-false _ (c .before .before .if1 .left) in
+    (omega arith, f .kept .0 ∙ s .pre .0 .matrix ∙ ap (λ k. k * k) e, f .ensures .first g ∙ ap (λ w. row w (f .last .0) (s .args .k)) e)
 
 returns-2 : tie.Need-returns-2
-returns-2 c = let a = c .before .before .before .before .before .before .before .before .before .before .before .before .before .before .before .before .before .before .before .before .before .args in
-    let n : ℕ = length (a .b .now) in
-    let m : List (List Float) = rows n n (a .a .now) in
-    let p = c .before .before .before .before .before .before .before .before .before .before .before .before .before .before .before .pivot .ensures in
-    let e : Elimination.tooSmall (a .k) (Elimination.pivot n (a .k) m) m ≡ false =
-    ap (λ q. Elimination.tooSmall (a .k) q m) (sym (p .chosen)) ∙ ap (λ s. lt s (ofBits binary64 0x3C32_725D_D1D2_43AC)) (sym (p .sized)) ∙ c .before .before .before .before .before .before .before .before .before .before .before .before .before .if1 .left in
-    ap (λ t. cond t Elimination.stopped (Elimination.reduce n (a .k) (Elimination.pivot n (a .k) m) m (a .b .now))) e
-    ∙ ap (λ q. Elimination.reduce n (a .k) q m (a .b .now)) (sym (p .chosen)) ∙ c .before .before .before .before .before .before .before .before .reduce .ensures
+returns-2 c = let s = c .before .before .before .before .before .before .before .before .before .before .before .before .before .before .before .before .before .before .before .before .before .before .before .before .before .before .before in
+    let n : ℕ = length (s .args .b .now) in
+    let k : ℕ = s .args .k in
+    let f = c .before .before .before .before .before .before .before .before .before .before .before .before .before .before .before .before .begin in
+    let e = c .before .before .eliminate in
+    let g : f .result ≡ true = not-false _ (c .before .before .before .before .before .if1 .left) in
+    let done : rows n n (e .last .0) ≡ Elimination.eliminate n k (rows n n (f .last .0)) =
+    subst (λ w. rows w w (e .last .0) ≡ Elimination.eliminate w k (rows w w (f .last .0))) (f .kept .1 .1 .0 ∙ s .pre .0 .tops) (e .ensures) in
+    f .ensures .stage ∙ ap (λ r. Elimination.after r (Elimination.eliminate n k (rows n n (f .last .0))) (f .last .1 .0)) g
+    ∙ ap (λ x. Elimination.going x (f .last .1 .0)) (sym done)
 
 pub column-spec : {M : Type 1} → statement M
 column-spec =
@@ -35,8 +44,13 @@ column-spec =
     (tie.spec
     (λ c κs. search needs)
     (λ c. search needs)
+    (λ c. search needs)
+    (λ c. search needs)
+    (λ c. search needs)
+    (λ c. search needs)
     returns
-    (λ c κs. search needs)
+    eliminate-requires
+    (λ c. search needs)
     (λ c. search needs)
     (λ c. search needs)
     (λ c. search needs)

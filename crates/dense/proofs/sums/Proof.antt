@@ -1,64 +1,111 @@
 use Rattle.dense.specs.Inner as Inner
-use Rattle.dense.specs.Normal as Normal
-use Rattle.dense.specs.Rows.{row, length-row, part-row}
+use Rattle.dense.specs.NormalLaws.{part-length, summed}
+use native.Mathlib.Nat.{add-mul}
+use Rattle.dense.specs.Rows.{part-row}
 use Rattle.dense.specs.Filled.{Filled, filled-join}
 use Rattle.common.specs.Iter.{row-end}
-use Rattle.common.specs.Lists.{at}
+use Rattle.common.specs.Lists.{at, slice}
 use lib.Ieee.{Float}
-use lib.ListN.{length, take, drop}
+use lib.ListN.{length}
 use mathlib.Core.List.{List}
 use mathlib.Core.Path.{_≡_, refl, ap, sym, subst, _∙_}
-use Prim.Native.Nat.{ℕ, _+_, _*_, _-_}
+use Prim.Native.Nat.{ℕ, _+_, _*_, _<_, _≤_}
 use native.Mathlib.Omega.{arith}
 use borrow.Author.Needs.{needs}
 use Rattle.dense.proofs.sums.Statement.{statement}
 use Rattle.dense.proofs.sums.Tie as tie
 
-fours-requires : tie.Need-fours-requires
-fours-requires c κs = let a = c .before .before .before .before .args in
-    let lp : length (take (a .c * a .m + a .m - a .c * a .m) (drop (a .c * a .m) (a .j .now))) ≡ a .m =
-    ap length (part-row (a .m) (a .j .now) (a .c) _ _ refl refl) ∙ length-row (a .m) (a .j .now) (a .c) (omega (arith, row-end (a .c) (length (a .row .now)) (a .m) (omega arith))) in
-    (omega arith, c .before .before .before .before .pre .1 ∙ ap (λ k. length (a .row .now) * k) (sym lp))
+-- columns c and c + 1 of the n columns in j
+module _ (n m c : ℕ) (j : List Float) (h : c + 1 < n) (e : length j ≡ n * m) where
+  here : c * m + m ≤ length j
+  here = omega (arith, row-end c n m (omega arith))
+
+  there : (c + 1) * m + m ≤ length j
+  there = omega (arith, row-end (c + 1) n m h)
+
+  first : length (slice (c * m) (c * m + m) j) ≡ m
+  first = part-length m j c (c * m) (c * m + m) refl refl here
+
+  after : c * m + m ≡ (c + 1) * m
+  after = omega (arith, add-mul c 1 m)
+
+  second : length (slice (c * m + m) (c * m + m + m) j) ≡ m
+  second = part-length m j (c + 1) (c * m + m) (c * m + m + m) after refl there
+
+eights-requires : tie.Need-eights-requires
+eights-requires c κs = let s = c .before .before .before .before .before .before .before in
+    let a = s .args in
+    let n : ℕ = length (a .row .now) in
+    let lo = first n (a .m) (a .c) (a .j .now) (s .pre .0) (s .pre .2) in
+    (omega arith, s .pre .1, second n (a .m) (a .c) (a .j .now) (s .pre .0) (s .pre .2) ∙ sym lo, s .pre .2 ∙ ap (λ k. n * k) (sym lo))
 
 ones-requires : tie.Need-ones-requires
-ones-requires c κs = let a = c .before .before .before .before .before .before .before .before .before .args in
-    let f = c .before .before .before .before .fours in
-    let lr : length (a .row .now) ≡ length (f .last .1 .1 .1 .0) = omega (arith, f .kept .1 .1 .1 .0) in
-    let lp : length (take (a .c * a .m + a .m - a .c * a .m) (drop (a .c * a .m) (a .j .now))) ≡ a .m =
-    ap length (part-row (a .m) (a .j .now) (a .c) _ _ refl refl) ∙ length-row (a .m) (a .j .now) (a .c) (omega (arith, row-end (a .c) (length (a .row .now)) (a .m) (omega arith))) in
-    (omega arith, c .before .before .before .before .before .before .before .before .before .pre .1 ∙ ap (λ k. length (a .row .now) * k) (sym lp) ∙ ap (λ k. k * length (take (a .c * a .m + a .m - a .c * a .m) (drop (a .c * a .m) (a .j .now)))) lr)
+ones-requires c κs = let s = c .before .before .before .before .before .before .before .before .before .before .before .before .before .before in
+    let a = s .args in
+    let n : ℕ = length (a .row .now) in
+    let f = c .before .before .before .before .before .before .eights in
+    let lr : n ≡ length (f .last .1 .1 .1 .1 .0) = sym (f .kept .1 .1 .1 .1 .0) in
+    let lo = first n (a .m) (a .c) (a .j .now) (s .pre .0) (s .pre .2) in
+    (omega (arith, f .ensures .1), s .pre .2 ∙ ap (λ k. n * k) (sym lo) ∙ ap (λ k. k * length (slice (a .c * a .m) (a .c * a .m + a .m) (a .j .now))) lr)
+
+ones-requires-2 : tie.Need-ones-requires-2
+ones-requires-2 c κs = let s = c .before .before .before .before .before .before .before .before .before .before .before .before .before .before .before .before .before .before .before in
+    let a = s .args in
+    let n : ℕ = length (a .row .now) in
+    let f = c .before .before .before .before .before .before .before .before .before .before .before .eights in
+    let lr : n ≡ length (f .last .1 .1 .1 .1 .1 .0) = sym (f .kept .1 .1 .1 .1 .1 .0 ∙ s .pre .1) in
+    let lo = second n (a .m) (a .c) (a .j .now) (s .pre .0) (s .pre .2) in
+    (omega (arith, f .ensures .1), s .pre .2 ∙ ap (λ k. n * k) (sym lo) ∙ ap (λ k. k * length (slice (a .c * a .m + a .m) (a .c * a .m + a .m + a .m) (a .j .now))) lr)
 
 returns : tie.Need-returns
-returns c = let a = c .before .before .before .before .before .before .before .before .before .before .before .before .args in
-    let f = c .before .before .before .before .before .before .before .fours in
-    let o = c .before .before .ones in
+returns c = let s = c .before .before .before .before .before .before .before .before .before .before .before .before .before .before .before .before .before .before .before .before .before .before in
+    let a = s .args in
+    let n : ℕ = length (a .row .now) in
     let m : ℕ = a .m in
     let j : List Float = a .j .now in
-    let r : List Float = row m j (a .c) in
-    let lr : length (f .last .1 .1 .1 .0) ≡ length (a .row .now) = f .kept .1 .1 .1 .0 in
-    let lm : length r ≡ m = length-row m j (a .c) (omega (arith, row-end (a .c) (length (a .row .now)) m (omega arith))) in
-    let g : ℕ → Float = at (a .row .now) in
-    let h : ℕ → Float = at (o .last .1 .1 .1 .0) in
-    subst (λ n. Filled (Inner.sumsOf m j (a .c)) (a .c) n g h) lr
-    (subst (λ k. Filled (λ d. Normal.dot k r (row k j d)) (a .c) (length (f .last .1 .1 .1 .0)) g h) lm
-    (subst (λ p. Filled (Inner.cellsOf p j) (a .c) (length (f .last .1 .1 .1 .0)) g h) (part-row m j (a .c) _ _ refl refl)
-    (filled-join _ (a .c) (f .result) (length (f .last .1 .1 .1 .0)) _ _ _ (f .ensures .0) (omega arith) (f .ensures .2) (o .ensures))))
+    let o : List Float = slice (a .c * m) (a .c * m + m) j in
+    let p : List Float = slice (a .c * m + m) (a .c * m + m + m) j in
+    let f = c .before .before .before .before .before .before .before .before .before .before .before .before .before .before .eights in
+    let g = c .before .before .before .before .before .before .before .ones in
+    let h = c .before .before .ones2 in
+    let row : List Float = f .last .1 .1 .1 .1 .0 in
+    let next : List Float = f .last .1 .1 .1 .1 .1 .0 in
+    let lr : length row ≡ n = f .kept .1 .1 .1 .1 .0 in
+    let ln : length next ≡ n = f .kept .1 .1 .1 .1 .1 .0 ∙ s .pre .1 in
+    let fo : Filled (Inner.cellsOf o j) (a .c) n (at (a .row .now)) (at (g .last .1 .1 .1 .0)) =
+    filled-join _ (a .c) (f .result) n _ _ _ (f .ensures .0) (f .ensures .1) (f .ensures .2) (subst (λ w. Filled (Inner.cellsOf o j) (f .result) w (at row) (at (g .last .1 .1 .1 .0))) lr (g .ensures)) in
+    let fp : Filled (Inner.cellsOf p j) (a .c) n (at (a .next .now)) (at (h .last .1 .1 .1 .0)) =
+    filled-join _ (a .c) (f .result) n _ _ _ (f .ensures .0) (f .ensures .1) (f .ensures .3) (subst (λ w. Filled (Inner.cellsOf p j) (f .result) w (at next) (at (h .last .1 .1 .1 .0))) ln (h .ensures)) in (
+      summed m j o (a .c) (a .c) n (at (a .row .now)) (g .last .1 .1 .1 .0) (part-row m j (a .c) _ _ refl refl) (here n m (a .c) j (s .pre .0) (s .pre .2)) fo,
+      summed m j p (a .c + 1) (a .c) n (at (a .next .now)) (h .last .1 .1 .1 .0) (part-row m j (a .c + 1) _ _ (after n m (a .c) j (s .pre .0) (s .pre .2)) refl) (there n m (a .c) j (s .pre .0) (s .pre .2)) fp,
+    )
 
 pub sums-spec : {M : Type 1} → statement M
 sums-spec =
     tie.close
     (tie.spec
-    (λ c. let a = c .before .before .args in omega (arith, row-end (a .c) (length (a .row .now)) (a .m) (omega arith)))
-    (λ c. let a = c .before .before .args in omega (arith, row-end (a .c) (length (a .row .now)) (a .m) (omega arith)))
-    (λ c. let a = c .before .before .args in omega (arith, row-end (a .c) (length (a .row .now)) (a .m) (omega arith)))
+    (λ c. let a = c .before .before .before .args in omega (arith, row-end (a .c) (length (a .row .now)) (a .m) (omega arith), row-end (a .c + 1) (length (a .row .now)) (a .m) (omega arith), add-mul (a .c) 1 (a .m)))
+    (λ c. let a = c .before .before .before .args in omega (arith, row-end (a .c) (length (a .row .now)) (a .m) (omega arith), row-end (a .c + 1) (length (a .row .now)) (a .m) (omega arith), add-mul (a .c) 1 (a .m)))
+    (λ c. let a = c .before .before .before .args in omega (arith, row-end (a .c) (length (a .row .now)) (a .m) (omega arith), row-end (a .c + 1) (length (a .row .now)) (a .m) (omega arith), add-mul (a .c) 1 (a .m)))
+    (λ c. let a = c .before .before .before .args in omega (arith, row-end (a .c) (length (a .row .now)) (a .m) (omega arith), row-end (a .c + 1) (length (a .row .now)) (a .m) (omega arith), add-mul (a .c) 1 (a .m)))
     (λ c. search needs)
     (λ c. search needs)
-    (λ c. let a = c .before .before .args in omega (arith, row-end (a .c) (length (a .row .now)) (a .m) (omega arith)))
-    fours-requires
-    (λ c. let a = c .before .before .before .before .before .before .before .args in omega (arith, row-end (a .c) (length (a .row .now)) (a .m) (omega arith)))
+    (λ c. let a = c .before .before .before .args in omega (arith, row-end (a .c) (length (a .row .now)) (a .m) (omega arith), row-end (a .c + 1) (length (a .row .now)) (a .m) (omega arith), add-mul (a .c) 1 (a .m)))
+    (λ c. let a = c .before .before .before .before .args in omega (arith, row-end (a .c) (length (a .row .now)) (a .m) (omega arith), row-end (a .c + 1) (length (a .row .now)) (a .m) (omega arith), add-mul (a .c) 1 (a .m)))
     (λ c. search needs)
     (λ c. search needs)
-    (λ c. let a = c .before .before .before .before .before .before .before .args in omega (arith, row-end (a .c) (length (a .row .now)) (a .m) (omega arith)))
+    (λ c. let a = c .before .before .before .before .args in omega (arith, row-end (a .c) (length (a .row .now)) (a .m) (omega arith), row-end (a .c + 1) (length (a .row .now)) (a .m) (omega arith), add-mul (a .c) 1 (a .m)))
+    eights-requires
+    (λ c. let a = c .before .before .before .before .before .before .before .before .before .before .before .before .args in omega (arith, row-end (a .c) (length (a .row .now)) (a .m) (omega arith), row-end (a .c + 1) (length (a .row .now)) (a .m) (omega arith), add-mul (a .c) 1 (a .m)))
+    (λ c. search needs)
+    (λ c. search needs)
+    (λ c. let a = c .before .before .before .before .before .before .before .before .before .before .before .before .args in omega (arith, row-end (a .c) (length (a .row .now)) (a .m) (omega arith), row-end (a .c + 1) (length (a .row .now)) (a .m) (omega arith), add-mul (a .c) 1 (a .m)))
     ones-requires
+    (λ c. let a = c .before .before .before .before .before .before .before .before .before .before .before .before .before .before .before .before .before .args in omega (arith, row-end (a .c) (length (a .row .now)) (a .m) (omega arith), row-end (a .c + 1) (length (a .row .now)) (a .m) (omega arith), add-mul (a .c) 1 (a .m)))
+    (λ c. search needs)
+    (λ c. search needs)
+    (λ c. let a = c .before .before .before .before .before .before .before .before .before .before .before .before .before .before .before .before .before .args in omega (arith, row-end (a .c) (length (a .row .now)) (a .m) (omega arith), row-end (a .c + 1) (length (a .row .now)) (a .m) (omega arith), add-mul (a .c) 1 (a .m)))
+    ones-requires-2
+    (λ c. search needs)
     (λ c. search needs)
     returns)
