@@ -37,7 +37,7 @@ SlewOk Nothing = Unit {0}
 SlewOk (At r) = Limits.Limit r
 
 -- a problem whose numbers f64 holds, as every problem's in a program are
-abbrev SlewFits : Limit → Type 0
+abbrev pub SlewFits : Limit → Type 0
 SlewFits Nothing = Unit {0}
 SlewFits (At r) = T (fits binary64 r)
 

@@ -43,16 +43,16 @@ module _ (z u : List Float) (a c : ℕ) (l : a + c ≤ length z) (e : length u �
   cut : length (take a z) ≡ a
   cut = length-take-le a z (omega arith)
 
-  paste-low : (i : ℕ) → i < a → at (pasted z a (a + c) u) i ≡ at z i
+  pub paste-low : (i : ℕ) → i < a → at (pasted z a (a + c) u) i ≡ at z i
   paste-low i h = front (take a z) (u ++ rest) i (rw cut h) ∙ getD-take a z i nan h
 
   paste-in : (i : ℕ) → at (pasted z a (a + c) u) (a + i) ≡ at (u ++ rest) i
   paste-in i = ap (λ (n : ℕ). at (pasted z a (a + c) u) (n + i)) (sym cut) ∙ getD-append-add (take a z) (u ++ rest) i nan
 
-  paste-mid : (i : ℕ) → i < c → at (pasted z a (a + c) u) (a + i) ≡ at u i
+  pub paste-mid : (i : ℕ) → i < c → at (pasted z a (a + c) u) (a + i) ≡ at u i
   paste-mid i h = paste-in i ∙ front u rest i (rw e h)
 
-  paste-high : (i : ℕ) → a + c ≤ i → at (pasted z a (a + c) u) i ≡ at z i
+  pub paste-high : (i : ℕ) → a + c ≤ i → at (pasted z a (a + c) u) i ≡ at z i
   paste-high i h =
       let j : ℕ = i - (a + c) in
       let p : i ≡ a + (c + j) = omega arith in
@@ -63,14 +63,14 @@ module _ (z u : List Float) (a c : ℕ) (l : a + c ≤ length z) (e : length u �
       ∙ (getD-append-add u rest j nan
       ∙ (getD-drop (a + c - a) (drop a z) j nan ∙ (getD-drop a z (a + c - a + j) nan ∙ ap (at z) q)))))
 
-  paste-length : length (pasted z a (a + c) u) ≡ length z
+  pub paste-length : length (pasted z a (a + c) u) ≡ length z
   paste-length = sum (length-append (take a z) (u ++ rest)) cut (length-append u rest) (length-drop (a + c - a) (drop a z)) (length-drop a z)
     where
       sum : length (take a z ++ (u ++ rest)) ≡ length (take a z) + length (u ++ rest) → length (take a z) ≡ a → length (u ++ rest) ≡ length u + length rest → length rest ≡ length (drop a z) - (a + c - a) → length (drop a z) ≡ length z - a → length (pasted z a (a + c) u) ≡ length z
       sum f g h k m = omega (arith, l, e)
 
   -- what holds of the list and of the part holds of the whole
-  paste-all : (P : Float → Type 0) → ((i : ℕ) → P (at z i)) → ((i : ℕ) → i < c → P (at u i)) → (i : ℕ) → P (at (pasted z a (a + c) u) i)
+  pub paste-all : (P : Float → Type 0) → ((i : ℕ) → P (at z i)) → ((i : ℕ) → i < c → P (at u i)) → (i : ℕ) → P (at (pasted z a (a + c) u) i)
   paste-all P Z U i = test (ltb i a) (λ t. rw (paste-low i (ltb→lt i a t)) (Z i)) (λ t. let h = nltb→le i a t in
       test (ltb i (a + c)) (λ s. let k = ltb→lt i (a + c) s in let q : a + (i - a) ≡ i = omega arith in rw (← q) (rw (paste-mid (i - a) (omega arith)) (U (i - a) (omega arith)))) (λ s. rw (paste-high i (nltb→le i (a + c) s)) (Z i)))
 
@@ -128,14 +128,14 @@ module _ (m : ActuatorMap) (M : MapOk m) (box : List Float) (L : (i : ℕ) → i
   held-fits i h x g = let l = control-limit i h .fit in clamp-fits binary64 (neg (most i)) (most i) x (neg-fits binary64 (most i) l) l g
 
   -- ---- the 16 rows
-  module _ (z : List Float) (long : 1 + 16 * c ≤ length z) (F : (i : ℕ) → T (fits binary64 (at z i))) where
+  module _ (z : List Float) (long : 1 + 16 * c ≤ length z) where
     -- after n rows
-    record Done (n : ℕ) (l : List Float) : Type 0 where
-      lasts : length l ≡ length z
-      before : at l 0 ≡ at z 0
-      after : (j : ℕ) → 1 + n * c ≤ j → at l j ≡ at z j
-      rows : (k : ℕ) → k < n → (i : ℕ) → i < c → at l (1 + k * c + i) ≡ held i (at z (1 + k * c + i))
-      fit : (j : ℕ) → T (fits binary64 (at l j))
+    pub record Done (n : ℕ) (l : List Float) : Type 0 where
+      pub lasts : length l ≡ length z
+      pub before : at l 0 ≡ at z 0
+      pub after : (j : ℕ) → 1 + n * c ≤ j → at l j ≡ at z j
+      pub rows : (k : ℕ) → k < n → (i : ℕ) → i < c → at l (1 + k * c + i) ≡ held i (at z (1 + k * c + i))
+      pub fit : ((i : ℕ) → T (fits binary64 (at z i))) → (j : ℕ) → T (fits binary64 (at l j))
 
     turn : (k : ℕ) → k < 16 → (l : List Float) → Done k l → Done (suc k) (projectTurn m box k l)
     turn k h l D = record {
@@ -145,7 +145,7 @@ module _ (m : ActuatorMap) (M : MapOk m) (box : List Float) (L : (i : ℕ) → i
       rows = below-next (λ n. (i : ℕ) → i < c → at l2 (1 + n * c + i) ≡ held i (at z (1 + n * c + i))) k
           (λ i q. paste-mid l p a c room lp i q ∙ (row-at u lu i q ∙ ap (held i) (at-slice a (a + c) l i (omega arith) ∙ D .after (a + i) (omega arith))))
           (λ n q i r. let s = row-end n k c q in paste-low l p a c room lp (1 + n * c + i) (omega arith) ∙ D .rows n q i r);
-      fit = paste-all l p a c room lp (λ x. T (fits binary64 x)) (D .fit) (λ i q. rw (row-at u lu i q) (held-fits i q (at u i) (rw (at-slice a (a + c) l i (omega arith)) (D .fit (a + i)))));
+      fit = λ F. paste-all l p a c room lp (λ x. T (fits binary64 x)) (D .fit F) (λ i q. rw (row-at u lu i q) (held-fits i q (at u i) (rw (at-slice a (a + c) l i (omega arith)) (D .fit F (a + i)))));
     }
       where
         a : ℕ
@@ -169,8 +169,9 @@ module _ (m : ActuatorMap) (M : MapOk m) (box : List Float) (L : (i : ℕ) → i
         lp : length p ≡ c
         lp = row-long u lu
 
-    all-done : Done 16 (iter (projectTurn m box) z 16)
-    all-done = below-turns Done (projectTurn m box) z 16 turn (record { lasts = refl; before = refl; after = λ j q. refl; rows = below-none _; fit = F })
+    -- all 16
+    pub all-done : Done 16 (iter (projectTurn m box) z 16)
+    all-done = below-turns Done (projectTurn m box) z 16 turn (record { lasts = refl; before = refl; after = λ j q. refl; rows = below-none _; fit = λ F. F })
 
 -- PROJECTED: f64 holds a projected decision, and each of its controls is clamped to its limit
 pub record Projected (m : ActuatorMap) (box z : List Float) : Type 0 where
@@ -186,7 +187,7 @@ held-duration x g = clamp-fits binary64 shortest longest x (unfold fits ofBits i
 pub projected-is : (m : ActuatorMap) → MapOk m → (box : List Float) → ((i : ℕ) → i < 3 → Limit (at box i)) → (z : List Float) → 1 + 16 * controlDim m ≤ length z → ((i : ℕ) → T (fits binary64 (at z i))) → Projected m box (projectDecision m box z)
 unfolding projectDecision
 projected-is m M box L z long F = record {
-  fit = D .fit;
+  fit = D .fit F0;
   from = λ k i. at z0 (1 + k * controlDim m + i);
   from-fit = λ k i. F0 (1 + k * controlDim m + i);
   is = D .rows;
@@ -205,8 +206,8 @@ projected-is m M box L z long F = record {
     F0 zero = rw (getD-set-same z 0 d nan first) (held-duration (at z 0) (F 0))
     F0 (suc i) = rw (getD-set-other z 0 (suc i) d nan (λ (e : suc i ≡ 0). omega arith)) (F (suc i))
 
-    D : Done m M box L z0 (rw (length-set z 0 d) long) F0 16 (iter (projectTurn m box) z0 16)
-    D = all-done m M box L z0 (rw (length-set z 0 d) long) F0
+    D : Done m M box L z0 (rw (length-set z 0 d) long) 16 (iter (projectTurn m box) z0 16)
+    D = all-done m M box L z0 (rw (length-set z 0 d) long)
 
 -- CONTROLS: in a projected decision a control that is no NaN is at most its limit in size
 pub control-small : (m : ActuatorMap) (M : MapOk m) (box : List Float) (L : (i : ℕ) → i < 3 → Limit (at box i)) (z : List Float) → Projected m box z → (k : ℕ) → k < 16 → (i : ℕ) → i < controlDim m → T (number (at z (1 + k * controlDim m + i)))

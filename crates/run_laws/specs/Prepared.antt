@@ -56,7 +56,7 @@ rate-inside y g t =
     inside (y .«max_gimbal_rate_rad_s») g (neither (a1 || a2 || a3) a4 (neither (a1 || a2 || a3 || a4) (Prepare.outside (y .«singularity_eps»)) t .0) .1)
 
 -- ---- a map whose limits f64 holds, as every map of a program does
-abbrev RateFits : Cmgs → Type 0
+abbrev pub RateFits : Cmgs → Type 0
 RateFits Without = Unit {0}
 RateFits (With y) = T (fits binary64 (y .«max_gimbal_rate_rad_s»))
 

@@ -31,8 +31,12 @@ use Rattle.forward.specs.declared.Node.{Node}
 use Rattle.forward.specs.declared.Run.{Run}
 use Rattle.run_laws.specs.Values.{goes, Fine3, Fit3, FineN, FitN, HeldN, WithinQ}
 use Rattle.run_laws.specs.Attitudes.{normed-in, product-fits}
-use Rattle.run_laws.specs.Torques.{at-slice, axes-back, row-back, row-fits, wheel-control, momenta-length, momenta-at}
+use Rattle.run_laws.specs.Torques.{at-slice, axes-back, row-back, row-fits, wheel-control, momenta-length, momenta-at, momenta-after}
 use Rattle.run_laws.specs.Steps.{Once, step-goes}
+
+-- past n wheels stands +0
+abbrev pub Spare : ℕ → List Float → Type 0
+Spare n hw = (i : ℕ) → n ≤ i → i < 8 → at hw i ≡ Vec.zero
 
 -- A state on the way: a finite attitude of at most 2 ^ 56, finite rates, momenta that are no NaN; where the body's momentum is finite, so are the wheels'.
 pub record StateOk (b : Body) (s : State) : Type 0 where
@@ -42,6 +46,7 @@ pub record StateOk (b : Body) (s : State) : Type 0 where
   pub long : b .rig .«wheel_count» ≤ length (s .hw)
   pub hw : HeldN (b .rig .«wheel_count») (s .hw)
   pub tie : T (finite (at (s .h) 0)) → FineN (b .rig .«wheel_count») (s .hw)
+  pub spare : Spare (b .rig .«wheel_count») (s .hw)
 
 -- A node: a finite attitude of at most 2 ^ 56, finite rates and torques, the momenta of nw wheels no NaN.
 pub record NodeOk (nw : ℕ) (n : Node) : Type 0 where
@@ -51,6 +56,7 @@ pub record NodeOk (nw : ℕ) (n : Node) : Type 0 where
   pub tau : Fine3 (n .tau)
   pub tau-fits : Fit3 (n .tau)
   pub hw : HeldN nw (n .hw)
+  pub spare : Spare nw (n .hw)
 
 zero-fits : T (fits binary64 Vec.zero)
 unfolding fits ofBits
@@ -70,6 +76,7 @@ start-ok b q0 Q l = record {
   long = rw (length-replicate 8 Vec.zero) l;
   hw = λ i h. rw (getD-replicate 8 i Vec.zero nan (below i h)) (held zero-fits (finite-number Vec.zero zero-finite));
   tie = λ t i h. rw (getD-replicate 8 i Vec.zero nan (below i h)) zero-finite;
+  spare = λ i h k. getD-replicate 8 i Vec.zero nan k;
 }
   where
     below : (i : ℕ) → i < b .rig .«wheel_count» → i < 8
@@ -96,6 +103,10 @@ module _ (b : Body) (u : List Float) (s : State) (g : Stepped) (B : Below1 (b .f
   unfolding wheelMomenta
   momenta-long = rw (momenta-length nw (s .hw) (slice 0 nw u) (b .frame .dt)) (S .long)
 
+  momenta-spare : Spare nw (wheelMomenta b u s)
+  unfolding wheelMomenta
+  momenta-spare i h k = momenta-after nw (s .hw) (slice 0 nw u) (b .frame .dt) i h ∙ S .spare i h k
+
   tied : (hw : List Float) → T (finite (at (bodyMomentum b hw) 0)) → FineN nw hw
   unfolding bodyMomentum
   tied hw t = axes-back (b .wheels) hw Vec.zero3 nw t
@@ -112,6 +123,7 @@ module _ (b : Body) (u : List Float) (s : State) (g : Stepped) (B : Below1 (b .f
     long = momenta-long;
     hw = momenta-held;
     tie = tied (wheelMomenta b u s);
+    spare = momenta-spare;
   })
 
   pub node-ok : (k : ℕ) → FitN (width (b .rig) (gimbals (b .rig .cmgs))) u → NodeOk nw (nodeOf (b .frame .dt) k s (g .tau))
@@ -123,10 +135,11 @@ module _ (b : Body) (u : List Float) (s : State) (g : Stepped) (B : Below1 (b .f
     tau = O .tau;
     tau-fits = rw (O .is-tau) (row-fits (b .rig) (b .wheels) (b .thrusters) u (s .w) (s .h) (O .a) f);
     hw = S .hw;
+    spare = S .spare;
   }
 
 -- ---- a row of a decision that f64 holds
-take-fits : (l : List Float) (n : ℕ) → ((i : ℕ) → T (fits binary64 (at l i))) → (i : ℕ) → T (fits binary64 (at (take n l) i))
+pub take-fits : (l : List Float) (n : ℕ) → ((i : ℕ) → T (fits binary64 (at l i))) → (i : ℕ) → T (fits binary64 (at (take n l) i))
 take-fits l zero F i = nan-fits binary64
 take-fits [] (suc n) F i = nan-fits binary64
 take-fits (x ∷ l) (suc n) F zero = F 0
@@ -257,7 +270,7 @@ module _ (b : Body) (n : ℕ) (z : List Float) (from : State) (B : Below1 (b .fr
       fifteen = K .nodes 15 (omega arith)
 
       ok : NodeOk wheels node
-      ok = record { q = K .state .q; w = K .state .w; w-fits = K .state .w-fits; tau = fifteen .tau; tau-fits = fifteen .tau-fits; hw = K .state .hw }
+      ok = record { q = K .state .q; w = K .state .w; w-fits = K .state .w-fits; tau = fifteen .tau; tau-fits = fifteen .tau-fits; hw = K .state .hw; spare = K .state .spare }
 
   -- A RUN WITH NODES
   pub run-flown : T (goes (runFrom b n z from .fate)) → Flown (runFrom b n z from)

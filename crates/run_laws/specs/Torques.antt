@@ -186,3 +186,8 @@ module _ (n : ℕ) (hw u : List Float) (dt : Float) where
   pub momenta-at : n ≤ length hw → (i : ℕ) → i < n → at (momentaNext n hw u dt) i ≡ add binary64 (at hw i) (mul binary64 (at u i) dt)
   unfolding momentaNext
   momenta-at l i h = stored-at (charged u dt) hw n l i h
+
+  -- past the wheels nothing changes
+  pub momenta-after : (i : ℕ) → n ≤ i → at (momentaNext n hw u dt) i ≡ at hw i
+  unfolding momentaNext
+  momenta-after i h = stored-after (charged u dt) hw n i h

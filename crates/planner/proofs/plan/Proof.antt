@@ -1,0 +1,51 @@
+-- `planner::plan` meets its contract.
+use mathlib.Core.Path.{refl}
+use Rattle.problem.specs.Problems.{check}
+use Rattle.planner.specs.Plans as Plans
+use Rattle.planner.specs.PlanLaws.{sized-as}
+use Rattle.planner.specs.Outcomes.{outcome-as, entry-refused, entry-as}
+use Rattle.planner.specs.Promises.{Promised, ownSeed}
+use Rattle.planner.specs.PromisesKept.{plan-promised}
+use Rattle.planner.proofs.Fitting.{problem-held}
+use borrow.Author.Needs.{needs}
+use Rattle.planner.proofs.plan.Statement.{statement}
+use Rattle.planner.proofs.plan.Tie as tie
+
+check-requires : tie.Need-check-requires
+check-requires c κs = search needs
+
+enum-known-fate : tie.Need-enum-known-fate
+enum-known-fate c = search needs
+
+refused-requires : tie.Need-refused-requires
+refused-requires c κs = search needs
+
+enum-told : tie.Need-enum-told
+enum-told c = search needs
+
+with-profile-requires : tie.Need-with-profile-requires
+with-profile-requires c κs = sized-as _ (c .before .before .before .before .check .ensures) (c .before .before .enum-told .given .1)
+
+returns : tie.Need-returns
+unfolding Plans.plan
+returns c = entry-refused (λ r. Promised (c .before .before .before .before .before .before .args .p) (ownSeed (check (c .before .before .before .before .before .before .args .p) .problem)) r) _ (c .refused .ensures) (rw (← c .before .before .before .before .check .ensures, c .before .before .fate .given .1) refl)
+
+same-length : tie.Need-same-length
+same-length c = search needs
+
+returns-2 : tie.Need-returns-2
+unfolding Plans.plan
+returns-2 c = entry-as (λ r. Promised (c .before .before .before .before .before .before .before .before .before .args .p) (ownSeed (check (c .before .before .before .before .before .before .before .before .before .args .p) .problem)) r) (outcome-as (c .before .before .with-profile .ensures) (rw (← c .before .before .before .before .before .before .before .check .ensures, c .before .before .before .before .before .enum-told .given .1) refl)) (λ fit g. plan-promised _ (problem-held (c .before .before .before .before .before .before .before .before .before .args .p) _ (c .before .before .before .before .before .before .before .before .before .good .0)) _ g)
+
+pub plan-spec : {M : Type 1} → statement M
+plan-spec =
+    tie.close
+    (tie.spec
+    check-requires
+    enum-known-fate
+    refused-requires
+    enum-told
+    with-profile-requires
+    returns
+    same-length
+    returns-2)

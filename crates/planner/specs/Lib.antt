@@ -1,0 +1,7 @@
+-- The planner's two entries: definitions and promises.
+pub mod Plans
+pub mod PlanLaws
+pub mod Promises
+pub mod Outcomes
+pub mod PromisesKept
+pub mod Refusals

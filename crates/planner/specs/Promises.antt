@@ -1,0 +1,85 @@
+-- Demand 3, whole: what holds of an answered path, for every problem, every seed and every workspace. The words are document 01's. Assumes nothing.
+use mathlib.Core.Path.{_≡_}
+use mathlib.Core.List.{List, [], _∷_}
+use Prim.Native.Nat.{ℕ, _+_, _*_, _<_, _≤_}
+use lib.Dec.{T}
+use lib.ListN.{length}
+use lib.IntN.{_+ℤ_}
+use lib.Signed.{_<ℤ_}
+use lib.Ieee.{Float, le}
+use lib.Ieee.Scale.{finite}
+use Rattle.common.specs.Lists.{at}
+use Rattle.common.specs.declared.Fate.the-variants.{Going}
+use Rattle.float.specs.Ops.{abs}
+use Rattle.laws.specs.Exact.{exact}
+use Rattle.laws.specs.Limits.{next}
+use Rattle.geom.specs.Vec.{zero}
+use Rattle.geom.specs.Quats.{norm3, normalized}
+use Rattle.geom.specs.declared.Quat.{Quat}
+use Rattle.geom.specs.declared.Normal.the-variants as Normal
+use Rattle.geom.specs.declared.Rotation.the-variants as Rotation
+use Rattle.profile.specs.Seeds.{sampleSeed}
+use Rattle.problem.specs.Problems.{check}
+use Rattle.problem.specs.declared.Problem.{Problem}
+use Rattle.problem.specs.declared.CheckedProblem.{CheckedProblem}
+use Rattle.forward.specs.Decisions.{packedLen}
+use Rattle.forward.specs.Operations.{reconstruct}
+use Rattle.forward.specs.declared.Node.{Node}
+use Rattle.residuals.specs.Sums.{nodeAt}
+use Rattle.residuals.specs.Residuals.{errorOf}
+use Rattle.scvx.specs.Search.{search}
+use Rattle.ends.specs.Ends.{tolerance}
+use Rattle.run_laws.specs.Paths.{control}
+use Rattle.search_laws.specs.Better.{Better}
+use Rattle.search_laws.specs.Declared.{controlsOf, controlLimit, momentumLimit}
+use Rattle.planner.specs.Plans as Plans
+use Rattle.planner.specs.declared.Planned.{Planned}
+
+-- ---- words
+
+-- t passes the limit l, as exact numbers, by less than the f64 next above 1e-9: both sides are whole numbers of 2 ^ -1074
+pub record PassesByLess (t l : Float) : Type 0 where
+  pub fine : T (finite t)
+  pub less : exact (abs t) <ℤ (exact l +ℤ exact next)
+
+-- The final attitude error: the turn x, y, z that is left from the node's attitude to the problem's qf, which is normalized first. Its computed length is the
+-- one that 14 tests.
+pub record EndError (p : Problem) (n : Node) : Type 0 where
+  pub qf : Quat
+  pub qf-is : normalized (p .«norm_tolerance») (p .qf) ≡ Normal.Is qf
+  pub x : Float
+  pub y : Float
+  pub z : Float
+  pub is : errorOf (n .q) qf ≡ Rotation.By x y z
+  pub small : T (le (norm3 (x ∷ y ∷ z ∷ [])) tolerance)
+
+-- the decision of our own entry's seed, which is sampled from the problem's profile
+abbrev pub ownSeed : CheckedProblem → List Float
+ownSeed c = Plans.seedOf c (sampleSeed (Plans.profiled c .profile) .duration) (sampleSeed (Plans.profiled c .profile) .torques)
+
+-- ---- DEMAND 3 of the problem p, the seed's decision and the answer r
+pub record Promised (p : Problem) (seed : List Float) (r : Planned) : Type 0 where
+  -- the path's duration and counts
+  pub duration : r .path .duration ≡ at (r .path .z) 0
+  pub width : r .path .controls ≡ controlsOf (p .actuators)
+  pub wheels : r .path .wheels ≡ p .actuators .«wheel_count»
+  -- its duration and sixteen control rows, run once through the step law from the problem's start with no search, give exactly its nodes
+  pub rerun-goes : reconstruct p (r .path .z) .run .fate ≡ Going
+  pub rerun-once : reconstruct p (r .path .z) .runs ≡ 1
+  pub rerun-nodes : reconstruct p (r .path .z) .run .nodes ≡ r .path .nodes
+  -- each control is in size at most its actuator's limit
+  pub controls : (k : ℕ) → k < 16 → (i : ℕ) → i < controlsOf (p .actuators) → T (le (abs (control (controlsOf (p .actuators)) (r .path .z) k i)) (controlLimit p i))
+  -- the final attitude error and rate have computed lengths of at most 0.0001
+  pub end-error : EndError p (nodeAt (r .path .nodes) 16)
+  pub end-rate : T (le (norm3 (nodeAt (r .path .nodes) 16 .w)) tolerance)
+  -- each node's body torques and wheel momenta, as exact numbers, pass their limits by less than the f64 next above 1e-9
+  pub torques : (k : ℕ) → k < 17 → (i : ℕ) → i < 3 → PassesByLess (at (nodeAt (r .path .nodes) k .tau) i) (at (p .«torque_limit») i)
+  pub momenta : (k : ℕ) → k < 17 → (i : ℕ) → i < p .actuators .«wheel_count» → PassesByLess (at (nodeAt (r .path .nodes) k .hw) i) (momentumLimit p i)
+  -- its residual length is below the seed's, or its decision is the seed's, bit for bit
+  pub length : Better (check p .problem) seed (r .path .z)
+  -- the forward runs reported are the number that the search definition begins on that problem and seed
+  pub runs : r .runs ≡ search (check p .problem) seed .runs
+  pub bound : r .runs ≤ 40 * (16 * controlsOf (p .actuators) + 3) + 2
+  -- besides: past the numbers of the decision, and past the wheels of each node, stands +0
+  pub past : (i : ℕ) → packedLen (controlsOf (p .actuators)) ≤ i → i < 193 → at (r .path .z) i ≡ zero
+  pub spare : (k : ℕ) → k < 17 → (i : ℕ) → p .actuators .«wheel_count» ≤ i → i < 8 → at (nodeAt (r .path .nodes) k .hw) i ≡ zero

@@ -1,0 +1,17 @@
+-- `scvx::steps::trial_of` meets its contract. Assumes nothing.
+use Rattle.scvx.specs.Search as Search
+use borrow.Author.Needs.{needs}
+use Rattle.scvx.proofs.steps.trial_of.Statement.{statement}
+use Rattle.scvx.proofs.steps.trial_of.Tie as tie
+
+returns : tie.Need-returns
+unfolding Search.trialOf
+returns c = rw (c .held .ensures, c .before .apply-step .ensures, c .before .before .before .pre .1 .1)
+
+pub trial-of-spec : {M : Type 1} → statement M
+trial-of-spec =
+    tie.close
+    (tie.spec
+    (λ c κs. search needs)
+    (λ c κs. search needs)
+    returns)

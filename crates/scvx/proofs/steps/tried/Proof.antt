@@ -1,0 +1,36 @@
+-- `scvx::steps::tried` meets its contract. Assumes nothing.
+use Rattle.scvx.specs.Search as Search
+use Rattle.scvx.specs.Stands.{known-of}
+use borrow.Author.Needs.{needs}
+use Rattle.scvx.proofs.steps.tried.Statement.{statement}
+use Rattle.scvx.proofs.steps.tried.Tie as tie
+
+returns : tie.Need-returns
+unfolding Search.tried
+returns c = (
+  rw (← c .before .before .before .before .before .before .before .trial-of .ensures, ← c .before .before .before .before .before .before .residuals-of .ensures, c .before .before .before .fate .given .1, c .over .ensures, c .before .ended .ensures, c .before .before .before .before .before .ran .ensures),
+  λ j h. rw (c .over .ensures, c .before .ended .ensures, c .before .before .before .before .before .ran .ensures) h,
+)
+
+returns-2 : tie.Need-returns-2
+unfolding Search.tried
+returns-2 c = (
+  rw (← c .before .before .before .before .before .before .before .trial-of .ensures, ← c .before .before .before .before .before .before .residuals-of .ensures, c .before .before .before .enum-told .given .1) (rw (c .before .over2 .ensures, c .before .before .before .before .before .ran .ensures, c .before .before .before .before .before .before .before .before .before .before .before .pre .0 .m-is) at (c .judged .ensures .0)),
+  λ j h. c .judged .ensures .1 (c .before .before .before .before .before .before .before .before .before .before .before .args .p) (c .before .before .before .before .before .before .before .before .before .before .before .pre .0 .m-is) (known-of (c .before .before .before .before .before .before .residuals-of .ensures) (c .before .before .before .enum-told .given .1)) j (rw (c .before .over2 .ensures, c .before .before .before .before .before .ran .ensures) h),
+)
+
+pub tried-spec : {M : Type 1} → statement M
+tried-spec =
+    tie.close
+    (tie.spec
+    (λ c κs. search needs)
+    (λ c κs. search needs)
+    (λ c κs. search needs)
+    (λ c. search needs)
+    (λ c κs. search needs)
+    (λ c κs. search needs)
+    (λ c. search needs)
+    (λ c κs. search needs)
+    (λ c κs. search needs)
+    returns
+    returns-2)

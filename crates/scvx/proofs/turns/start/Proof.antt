@@ -1,0 +1,17 @@
+-- `scvx::turns::start` meets its contract. Assumes nothing.
+use lib.Ieee as Ieee
+use borrow.Author.Needs.{needs}
+use Rattle.scvx.proofs.turns.start.Statement.{statement}
+use Rattle.scvx.proofs.turns.start.Tie as tie
+
+returns : tie.Need-returns
+unfolding Ieee.ofBits
+returns c = rw (c .norm-slice .ensures)
+
+pub start-spec : {M : Type 1} → statement M
+start-spec =
+    tie.close
+    (tie.spec
+    (λ c. search needs)
+    (λ c κs. search needs)
+    returns)

@@ -1,0 +1,223 @@
+-- The search, as `solve` and `jacobian` of scvx.rs have it: a decision, a damping factor and the counts, from iteration to iteration. Definitions only.
+use Prim.Native.Nat.{ℕ, _+_, _*_}
+use mathlib.Core.Bool.{Bool, cond}
+use mathlib.Core.List.{List, [], _∷_, _++_}
+use lib.ListN.{set, replicate}
+use lib.Ieee.{Float, binary64, add, mul, lt, le, ofBits}
+use Rattle.common.specs.Iter.{iter}
+use Rattle.common.specs.Lists.{at}
+use Rattle.common.specs.declared.Fate.{Fate}
+use Rattle.common.specs.declared.Fate.the-variants as Fate
+use Rattle.float.specs.Ops.{min, max}
+use Rattle.actuators.specs.Maps.{controlDim}
+use Rattle.problem.specs.Problems.{zero}
+use Rattle.problem.specs.declared.CheckedProblem.{CheckedProblem}
+use Rattle.forward.specs.Decisions.{packedLen, unpack, projectDecision}
+use Rattle.forward.specs.Runs.{runOf, refusedRun}
+use Rattle.forward.specs.declared.Run.{Run}
+use Rattle.residuals.specs.Sums.{normSlice}
+use Rattle.residuals.specs.Residuals.{residualsOf}
+use Rattle.residuals.specs.declared.ResidualVector.{ResidualVector}
+use Rattle.dense.specs.Normal.{slopes}
+use Rattle.dense.specs.Elimination.{Solution, Solved, Singular, dampedStep}
+use Rattle.scvx.specs.declared.Status.{Status}
+use Rattle.scvx.specs.declared.Status.the-variants.{Going, Ended, Refused}
+use Rattle.scvx.specs.declared.State.{State}
+use Rattle.scvx.specs.declared.Found.{Found}
+
+-- n: the numbers of a decision
+unfoldable pub numbers : CheckedProblem → ℕ
+numbers p = packedLen (controlDim (p .map))
+
+-- the residuals of a decision: 28, or 79 with a pointing weight above 0
+unfoldable pub width : CheckedProblem → ℕ
+width p = cond (lt zero (p .weights .pointing)) 79 28
+
+-- the length of residuals, and a decision's residual length (document 01's term): that of its residuals after one run of the step law on it
+abbrev pub lengthOf : CheckedProblem → ResidualVector → Float
+lengthOf p e = normSlice (e .r) (width p)
+
+abbrev pub residualLength : CheckedProblem → List Float → Float
+residualLength p z = lengthOf p (residualsOf p z)
+
+-- every decision but the seed's: the duration at least 1e-6, then within 0.001..10,000, each control held to its limit
+abbrev pub held : CheckedProblem → List Float → List Float
+held p z = projectDecision (p .map) (p .«torque_limit») (unpack z)
+
+-- ---- the Jacobian, by columns
+
+-- 1e-6, the step of a forward difference
+abbrev pub difference : Float
+difference = ofBits binary64 0x3eb0_c6f7_a0b5_ed8d
+
+-- the decision whose residuals make column c
+abbrev pub nudged : CheckedProblem → List Float → ℕ → List Float
+nudged p z c = held p (set z c (add binary64 (at z c) difference))
+
+-- the columns so far, or the refusal of a column's run: its number, its place and the columns' runs begun
+pub data Columns : Type 0 where
+  Formed : List (List Float) → Columns
+  Broken : ℕ → ℕ → ℕ → Columns
+
+abbrev pub columnBy : ℕ → List Float → ℕ → List (List Float) → Fate → List Float → Columns
+columnBy m r0 c l Fate.Going rp = Formed (l ++ (slopes m rp r0 ∷ []))
+columnBy m r0 c l (Fate.Refused number place) rp = Broken number place (c + 1)
+
+abbrev pub columnOf : ℕ → List Float → ℕ → List (List Float) → ResidualVector → Columns
+columnOf m r0 c l e = columnBy m r0 c l (e .fate) (e .r)
+
+-- column c of m residuals, after those before it; a refusal ends them
+abbrev pub columnTurn : CheckedProblem → ℕ → List Float → List Float → ℕ → Columns → Columns
+columnTurn p m z r0 c (Formed l) = columnOf m r0 c l (residualsOf p (nudged p z c))
+columnTurn p m z r0 c (Broken number place runs) = Broken number place runs
+
+-- at the decision z, whose residuals are r0
+unfoldable pub jacobian : CheckedProblem → List Float → List Float → Columns
+jacobian p z r0 = iter (columnTurn p (width p) z r0) (Formed []) (numbers p)
+
+-- ---- the parts of an iteration
+abbrev pub ran : State → ℕ → State
+ran s more = record { z = s .z; best = s .best; lambda = s .lambda; iterations = s .iterations; runs = s .runs + more; status = s .status }
+
+abbrev pub ended : State → Status → State
+ended s f = record { z = s .z; best = s .best; lambda = s .lambda; iterations = s .iterations; runs = s .runs; status = f }
+
+abbrev pub damped : State → Float → State
+damped s x = record { z = s .z; best = s .best; lambda = x; iterations = s .iterations; runs = s .runs; status = s .status }
+
+abbrev pub moved : State → List Float → Float → Float → State
+moved s t x y = record { z = t; best = x; lambda = y; iterations = s .iterations; runs = s .runs; status = s .status }
+
+-- 1e6, the most of the damping factor
+abbrev pub strongest : Float
+strongest = ofBits binary64 0x412e_8480_0000_0000
+
+-- × 8 up to 1e6: a pivot was too small
+abbrev pub stiffer : Float → Float
+stiffer x = min (mul binary64 x (ofBits binary64 0x4020_0000_0000_0000)) strongest
+
+-- × 0.3 down to 1e-8: the trial's length is strictly smaller
+abbrev pub weaker : Float → Float
+weaker x = max (mul binary64 x (ofBits binary64 0x3fd3_3333_3333_3333)) (ofBits binary64 0x3e45_798e_e230_8c3a)
+
+-- × 4 up to 1e6: it is not
+abbrev pub stronger : Float → Float
+stronger x = min (mul binary64 x (ofBits binary64 0x4010_0000_0000_0000)) strongest
+
+-- a trial t of length x is taken where x is strictly smaller than the best
+unfoldable pub judged : State → List Float → Float → State
+judged s t x = cond (lt x (s .best)) (moved s t x (weaker (s .lambda))) (damped s (stronger (s .lambda)))
+
+abbrev pub triedBy : CheckedProblem → State → List Float → ResidualVector → Fate → State
+triedBy p s t e Fate.Going = judged s t (lengthOf p e)
+triedBy p s t e (Fate.Refused number place) = ended s (Refused number place)
+
+abbrev pub triedOf : CheckedProblem → State → List Float → ResidualVector → State
+triedOf p s t e = triedBy p s t e (e .fate)
+
+-- number i of the decision, moved by the step d
+abbrev pub addTurn : List Float → ℕ → List Float → List Float
+addTurn d i z = set z i (add binary64 (at z i) (at d i))
+
+-- the decision of a trial
+unfoldable pub trialOf : CheckedProblem → List Float → List Float → List Float
+trialOf p z d = held p (iter (addTurn d) z (numbers p))
+
+-- the trial of a step d: one run
+unfoldable pub tried : CheckedProblem → State → List Float → State
+tried p s d = triedOf p (ran s 1) (trialOf p (s .z) d) (residualsOf p (trialOf p (s .z) d))
+
+abbrev pub steppedBy : CheckedProblem → State → Solution → State
+steppedBy p s (Solved d) = tried p s d
+steppedBy p s Singular = damped s (stiffer (s .lambda))
+
+-- the step of the normal equations of the columns j and the residuals r
+unfoldable pub stepped : CheckedProblem → State → List (List Float) → List Float → State
+stepped p s j r = steppedBy p s (dampedStep (numbers p) (width p) j r (s .lambda))
+
+-- each column is one run
+abbrev pub linearBy : CheckedProblem → State → List Float → Columns → State
+linearBy p s r (Formed j) = stepped p (ran s (numbers p)) j r
+linearBy p s r (Broken number place runs) = ended (ran s runs) (Refused number place)
+
+unfoldable pub linear : CheckedProblem → State → List Float → State
+linear p s r = linearBy p s r (jacobian p (s .z) r)
+
+-- 0.005
+abbrev pub goal : Float
+goal = ofBits binary64 0x3f74_7ae1_47ae_147b
+
+-- `mag <= DEFECT_TOL` ends the search; a NaN goes on
+unfoldable pub improved : CheckedProblem → State → ResidualVector → State
+improved p s e = cond (le (lengthOf p e) goal) (ended s Ended) (linear p s (e .r))
+
+abbrev pub goingBy : CheckedProblem → State → ResidualVector → Fate → State
+goingBy p s e Fate.Going = improved p s e
+goingBy p s e (Fate.Refused number place) = ended s (Refused number place)
+
+abbrev pub goingOf : CheckedProblem → State → ResidualVector → State
+goingOf p s e = goingBy p s e (e .fate)
+
+-- iteration k + 1 begins with one run of the decision
+abbrev pub begun : ℕ → State → State
+begun k s = record { z = s .z; best = s .best; lambda = s .lambda; iterations = k + 1; runs = s .runs + 1; status = s .status }
+
+unfoldable pub going : CheckedProblem → ℕ → State → State
+going p k s = goingOf p (begun k s) (residualsOf p (s .z))
+
+abbrev pub turnBy : CheckedProblem → ℕ → State → Status → State
+turnBy p k s Going = going p k s
+turnBy p k s Ended = s
+turnBy p k s (Refused number place) = s
+
+unfoldable pub turn : CheckedProblem → ℕ → State → State
+turn p k s = turnBy p k s (s .status)
+
+-- ---- the whole
+
+abbrev pub statusOf : Fate → Status
+statusOf Fate.Going = Going
+statusOf (Fate.Refused number place) = Refused number place
+
+-- 0.01, the first damping factor
+abbrev pub firstDamping : Float
+firstDamping = ofBits binary64 0x3f84_7ae1_47ae_147b
+
+abbrev pub startOf : CheckedProblem → List Float → ResidualVector → State
+startOf p seed e = record { z = seed; best = lengthOf p e; lambda = firstDamping; iterations = 0; runs = 1; status = statusOf (e .fate) }
+
+-- the seed's decision, its duration as it stands: one run
+unfoldable pub start : CheckedProblem → List Float → State
+start p seed = startOf p seed (residualsOf p seed)
+
+-- at most 40 iterations
+unfoldable pub searched : CheckedProblem → List Float → State
+searched p seed = iter (turn p) (start p seed) 40
+
+-- a refusal: no decision
+abbrev pub none : ℕ → ℕ → ℕ → Found
+none number place runs = record { fate = Fate.Refused number place; runs = runs; iterations = 0; z = replicate 193 zero; run = refusedRun number place }
+
+abbrev pub lastBy : State → Run → Fate → Found
+lastBy s run Fate.Going = record { fate = Fate.Going; runs = s .runs + 1; iterations = s .iterations; z = s .z; run = run }
+lastBy s run (Fate.Refused number place) = none number place (s .runs + 1)
+
+-- the run of the decision that is handed out, the last that is counted
+unfoldable pub last : CheckedProblem → State → Found
+last p s = lastBy s (runOf p (s .z)) (runOf p (s .z) .fate)
+
+abbrev pub closedBy : CheckedProblem → State → Status → Found
+closedBy p s Going = last p s
+closedBy p s Ended = last p s
+closedBy p s (Refused number place) = none number place (s .runs)
+
+unfoldable pub closed : CheckedProblem → State → Found
+closed p s = closedBy p s (s .status)
+
+-- THE SEARCH from a seed's decision: what it finds, and how many forward runs it begins
+unfoldable pub search : CheckedProblem → List Float → Found
+search p seed = closed p (searched p seed)
+
+-- the numbers that the lent workspace needs
+unfoldable pub room : CheckedProblem → ℕ
+room p = numbers p * (numbers p + width p + 6) + 4 * width p

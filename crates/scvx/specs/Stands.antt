@@ -1,0 +1,121 @@
+-- What the code of the search keeps besides a state, the sizes it works with, and what holds of them. Definitions, and the sizes of a workspace that has room.
+use Prim.Native.Nat.{ℕ, _+_, _*_, _≤_}
+use mathlib.Core.Path.{_≡_, refl, ap, sym, subst, _∙_}
+use mathlib.Core.Bool.{Bool, true, false, cond}
+use mathlib.Core.List.{List}
+use native.Mathlib.Nat.{mul-add, mul-le-mul, le-refl}
+use native.Mathlib.Omega.{arith}
+use lib.Ieee.{Float, lt}
+use Rattle.common.specs.declared.Fate.the-variants as Fate
+use Rattle.residuals.specs.declared.ResidualVector.{ResidualVector}
+use Rattle.actuators.specs.Maps.{controlDim, isSized}
+use Rattle.problem.specs.Problems.{zero}
+use Rattle.problem.specs.declared.CheckedProblem.{CheckedProblem}
+use Rattle.residuals.specs.Sums.{normSlice}
+use Rattle.residuals.specs.Residuals.{residualsOf}
+use Rattle.scvx.specs.declared.Status.the-variants.{Going}
+use Rattle.scvx.specs.declared.State.{State}
+use Rattle.scvx.specs.declared.Progress.{Progress}
+use Rattle.scvx.specs.declared.Slopes.{Slopes}
+use Rattle.scvx.specs.declared.Slopes.the-variants as Slopes
+use Rattle.scvx.specs.Search.{numbers, width, room, Columns, Formed, Broken, jacobian, firstDamping}
+
+-- ---- sizes
+
+-- n numbers a decision and m residuals of a problem that runs may take, and a workspace of len numbers that holds the columns and the matrix
+pub record Sizes (p : CheckedProblem) (n m len : ℕ) : Type 0 where
+  pub sized : isSized (p .map) ≡ true
+  pub narrow : controlDim (p .map) ≤ 12
+  pub n-is : n ≡ numbers p
+  pub m-is : m ≡ width p
+  pub n-most : n ≤ 193
+  pub m-most : m ≤ 79
+  pub fits : n * m + n * n ≤ len
+
+pub numbers-most : (p : CheckedProblem) → controlDim (p .map) ≤ 12 → numbers p ≤ 193
+unfolding numbers
+numbers-most p h = omega arith
+
+pub width-most : (p : CheckedProblem) → width p ≤ 79
+unfolding width
+width-most p = by (lt zero (p .weights .pointing))
+  where
+    by : (b : Bool) → cond b 79 28 ≤ 79
+    by true = omega arith
+    by false = omega arith
+
+pub spread : (n m : ℕ) → n * (n + m + 6) ≡ n * n + n * m + n * 6
+spread n m = mul-add n (n + m) 6 ∙ ap (λ x. x + n * 6) (mul-add n n m)
+
+pub product-most : (n m : ℕ) → n ≤ 193 → m ≤ 79 → n * (n + m + 6) ≤ 193 * 278
+product-most n m h k = mul-le-mul {m₂ = 278} h (omega arith)
+
+-- a workspace with room has them
+pub sizes-of : (p : CheckedProblem) (n m len : ℕ) → isSized (p .map) ≡ true → controlDim (p .map) ≤ 12 → n ≡ numbers p → m ≡ width p → room p ≤ len → Sizes p n m len
+unfolding room
+sizes-of p n m len s h en em r =
+    record {
+      sized = s;
+      narrow = h;
+      n-is = en;
+      m-is = em;
+      n-most = omega (arith, numbers-most p h);
+      m-most = omega (arith, width-most p);
+      fits = rw (en, em) (omega (arith, spread (numbers p) (width p)));
+    }
+
+-- of a workspace that is as long, and of the step's own numbers
+pub sizes-kept : {p : CheckedProblem} {n m a b : ℕ} → Sizes p n m a → b ≡ a → Sizes p n m b
+sizes-kept {p} {n} {m} s e = subst (λ k. Sizes p n m k) (sym e) s
+
+pub sizes-step : {p : CheckedProblem} {n m len : ℕ} (k : ℕ) → Sizes p n m len → k ≡ n → Sizes p k m (k * m + k * k)
+sizes-step {p} {n} {m} k s e = subst (λ x. Sizes p x m (x * m + x * x)) (sym e) (record { sized = s .sized; narrow = s .narrow; n-is = s .n-is; m-is = s .m-is; n-most = s .n-most; m-most = s .m-most; fits = le-refl (n * m + n * n) })
+
+-- ---- what is kept
+
+-- the columns that the code leaves, or its refusal, as the definition has them
+abbrev pub columnsOf : Slopes → List (List Float) → Columns
+columnsOf Slopes.Filled j = Formed j
+columnsOf (Slopes.Broken number place runs) j = Broken number place runs
+
+-- r is the residuals of the decision z, whose run goes on
+pub record Known (p : CheckedProblem) (z r : List Float) : Type 0 where
+  pub goes : residualsOf p z .fate ≡ Fate.Going
+  pub are : residualsOf p z .r ≡ r
+
+-- of a decision z with its length and its residuals; where the columns are told to be there, j is its Jacobian
+pub record Standing (p : CheckedProblem) (z : List Float) (best : Float) (r : List Float) (columns : Bool) (j : List (List Float)) : Type 0 where
+  pub known : Known p z r
+  pub long : best ≡ normSlice r (width p)
+  pub formed : columns ≡ true → jacobian p z r ≡ Formed j
+
+abbrev pub Holds : CheckedProblem → List (List Float) → Progress → Type 0
+Holds p j g = Standing p (g .state .z) (g .state .best) (g .r) (g .columns) j
+
+-- what holds of g holds of x, whatever columns the workspace has
+abbrev pub Keeps : CheckedProblem → Progress → Progress → Type 0
+Keeps p g x = (j : List (List Float)) → Holds p j g → Holds p j x
+
+-- the same residuals and columns beside another state
+abbrev pub over : Progress → State → Progress
+over g s = record { state = s; r = g .r; columns = g .columns }
+
+-- the seed, whose residuals are r, of which m count
+abbrev pub start : ℕ → List Float → List Float → Progress
+start m seed r = record { state = record { z = seed; best = normSlice r m; lambda = firstDamping; iterations = 0; runs = 1; status = Going }; r = r; columns = false }
+
+-- ---- how it comes about and stays
+
+pub known-of : {p : CheckedProblem} {z : List Float} {e : ResidualVector} → e ≡ residualsOf p z → e .fate ≡ Fate.Going → Known p z (e .r)
+known-of {p} {z} {e} q g = record { goes = rw (← q) g; are = rw (← q) refl }
+
+-- a decision that was let in: its columns are not there
+pub stands-new : {p : CheckedProblem} {z r : List Float} {best : Float} {m : ℕ} {j : List (List Float)} → m ≡ width p → Known p z r → best ≡ normSlice r m → Standing p z best r false j
+stands-new {p} {z} {r} em k l = record { known = k; long = l ∙ ap (λ x. normSlice r x) em; formed = λ e. let z : _≡_ {A = ℕ} 0 1 = cc in absurd (omega arith) }
+
+-- its columns are formed, or a refusal left something else in their place
+pub stands-formed : {p : CheckedProblem} {z r : List Float} {best : Float} {columns : Bool} {j i : List (List Float)} → Standing p z best r columns j → jacobian p z r ≡ Formed i → Standing p z best r true i
+stands-formed h e = record { known = h .known; long = h .long; formed = λ b. e }
+
+pub stands-broken : {p : CheckedProblem} {z r : List Float} {best : Float} {columns : Bool} {j i : List (List Float)} → Standing p z best r columns j → Standing p z best r false i
+stands-broken h = record { known = h .known; long = h .long; formed = λ e. let z : _≡_ {A = ℕ} 0 1 = cc in absurd (omega arith) }

@@ -1,0 +1,138 @@
+-- The parts of an iteration and of the whole search, by what the code has in hand. Assumes nothing.
+use Prim.Native.Nat.{ℕ, _+_, _*_, _≤_}
+use mathlib.Core.Path.{_≡_, refl, ap, sym, subst, _∙_}
+use mathlib.Core.Bool.{Bool, true, false, cond}
+use mathlib.Core.List.{List, _++_}
+use native.Mathlib.Omega.{arith}
+use lib.ListN.{length, take, drop}
+use lib.Seq.{length-take-le, take-append-le, take-take}
+use lib.Ieee.{Float, lt, le}
+use Rattle.common.specs.Iter.{iter, iter-none, iter-stays}
+use Rattle.common.specs.declared.Fate.{Fate}
+use Rattle.common.specs.declared.Fate.the-variants as Fate
+use Rattle.problem.specs.declared.CheckedProblem.{CheckedProblem}
+use Rattle.forward.specs.Runs.{runOf}
+use Rattle.forward.specs.declared.Run.{Run}
+use Rattle.residuals.specs.Residuals.{residualsOf}
+use Rattle.residuals.specs.declared.ResidualVector.{ResidualVector}
+use Rattle.dense.specs.Rows.{rows}
+use Rattle.dense.specs.Elimination.{Solution, told, dampedStep}
+use Rattle.scvx.specs.declared.Status.{Status}
+use Rattle.scvx.specs.declared.Status.the-variants.{Going, Ended, Refused}
+use Rattle.scvx.specs.declared.State.{State}
+use Rattle.scvx.specs.Search.{numbers, width, Columns, Formed, Broken, jacobian, ran, ended, damped, moved, stiffer, weaker, stronger, judged, tried, steppedBy, stepped, linearBy, linear, goal, improved, goingBy, begun, going, turnBy, turn, statusOf, startOf, start, searched, none, lastBy, last, closedBy, closed, search}
+use Rattle.scvx.specs.Stands.{Standing}
+use Rattle.scvx.specs.Stands as Stands
+
+-- ---- the step of the equations, on a front of the workspace: w is the length of the lent right side
+module _ (w n m : ℕ) (v : List Float) (e : w ≡ n) (fits : n * m + n * n ≤ length v) where
+  inside : take (n * m) (take (n * m + n * n) v) ≡ take (n * m) v
+  inside = take-take (n * m) (n * m + n * n) v (omega arith)
+
+  pub told-front : (b : Bool) (d r : List Float) (x : Float) → told b d ≡ dampedStep w m (rows w m (take (w * m) (take (n * m + n * n) v))) r x → told b d ≡ dampedStep n m (rows n m (take (n * m) v)) r x
+  told-front b d r x h = subst (λ k. told b d ≡ dampedStep k m (rows k m (take (k * m) (take (n * m + n * n) v))) r x) e h ∙ ap (λ u. dampedStep n m (rows n m u) r x) inside
+
+  -- the columns are what they were
+  pub kept-front : (u : List Float) → length u ≡ length (take (n * m + n * n) v) → take (w * m) u ≡ take (w * m) (take (n * m + n * n) v) → take (n * m) (u ++ drop (n * m + n * n) v) ≡ take (n * m) v
+  kept-front u l h =
+      take-append-le (n * m) u (drop (n * m + n * n) v) (omega (arith, length-take-le (n * m + n * n) v fits))
+      ∙ subst (λ k. take (k * m) u ≡ take (k * m) (take (n * m + n * n) v)) e h
+      ∙ inside
+
+module _ (p : CheckedProblem) (s : State) (n m : ℕ) (j : List (List Float)) (r : List Float) (en : n ≡ numbers p) (em : m ≡ width p) where
+  by-told : (b : Bool) (d : List Float) → told b d ≡ dampedStep n m j r (s .lambda) → steppedBy p s (told b d) ≡ stepped p s j r
+  unfolding stepped
+  by-told b d e = rw (← en, ← em) (ap (λ (x : Solution). steppedBy p s x) e)
+
+  pub singular : (b : Bool) (d : List Float) → told b d ≡ dampedStep n m j r (s .lambda) → b ≡ false → damped s (stiffer (s .lambda)) ≡ stepped p s j r
+  singular b d e h = sym (ap (λ (x : Bool). steppedBy p s (told x d)) h) ∙ by-told b d e
+
+  pub solved : (b : Bool) (d : List Float) → told b d ≡ dampedStep n m j r (s .lambda) → b ≡ true → tried p s d ≡ stepped p s j r
+  solved b d e h = sym (ap (λ (x : Bool). steppedBy p s (told x d)) h) ∙ by-told b d e
+
+-- ---- the verdict on a trial
+module _ (s : State) (t : List Float) {x y : Float} (e : y ≡ x) where
+  pub judged-taken : lt y (s .best) ≡ true → moved s t y (weaker (s .lambda)) ≡ judged s t x
+  unfolding judged
+  judged-taken h = rw (← e) (sym (ap (λ b. cond b (moved s t y (weaker (s .lambda))) (damped s (stronger (s .lambda)))) h))
+
+  pub judged-left : lt y (s .best) ≡ false → damped s (stronger (s .lambda)) ≡ judged s t x
+  unfolding judged
+  judged-left h = rw (← e) (sym (ap (λ b. cond b (moved s t y (weaker (s .lambda))) (damped s (stronger (s .lambda)))) h))
+
+-- ---- the columns
+module _ (p : CheckedProblem) (s : State) (r : List Float) where
+  pub linear-formed : {n : ℕ} {j : List (List Float)} → n ≡ numbers p → jacobian p (s .z) r ≡ Formed j → stepped p (ran s n) j r ≡ linear p s r
+  unfolding linear
+  linear-formed {n} {j} en e = ap (λ k. stepped p (ran s k) j r) en ∙ sym (ap (λ (x : Columns). linearBy p s r x) e)
+
+  pub linear-broken : {number place runs : ℕ} → jacobian p (s .z) r ≡ Broken number place runs → ended (ran s runs) (Refused number place) ≡ linear p s r
+  unfolding linear
+  linear-broken e = sym (ap (λ (x : Columns). linearBy p s r x) e)
+
+-- ---- an iteration whose decision's residuals are known
+module _ (p : CheckedProblem) (k : ℕ) (s : State) {r : List Float} {columns : Bool} {j : List (List Float)} (h : Standing p (s .z) (s .best) r columns j) where
+  by-length : going p k s ≡ cond (le (s .best) goal) (ended (begun k s) Ended) (linear p (begun k s) r)
+  unfolding going improved
+  by-length = ap (λ (f : Fate). goingBy p (begun k s) (residualsOf p (s .z)) f) (h .known .goes) ∙ rw (h .known .are, ← h .long)
+
+  pub going-ends : le (s .best) goal ≡ true → ended (begun k s) Ended ≡ going p k s
+  going-ends e = sym (by-length ∙ ap (λ b. cond b (ended (begun k s) Ended) (linear p (begun k s) r)) e)
+
+  pub going-on : le (s .best) goal ≡ false → linear p (begun k s) r ≡ going p k s
+  going-on e = sym (by-length ∙ ap (λ b. cond b (ended (begun k s) Ended) (linear p (begun k s) r)) e)
+
+-- ---- a turn, by the status
+module _ (p : CheckedProblem) (k : ℕ) (s : State) where
+  pub turn-going : s .status ≡ Going → turn p k s ≡ going p k s
+  unfolding turn
+  turn-going h = ap (λ (f : Status). turnBy p k s f) h
+
+  pub turn-ended : s .status ≡ Ended → turn p k s ≡ s
+  unfolding turn
+  turn-ended h = ap (λ (f : Status). turnBy p k s f) h
+
+  pub turn-refused : {number place : ℕ} → s .status ≡ Refused number place → turn p k s ≡ s
+  unfolding turn
+  turn-refused h = ap (λ (f : Status). turnBy p k s f) h
+
+-- ---- the whole
+
+module _ (p : CheckedProblem) (s : State) where
+  pub closed-going : s .status ≡ Going → last p s ≡ closed p s
+  unfolding closed
+  closed-going h = sym (ap (λ (f : Status). closedBy p s f) h)
+
+  pub closed-ended : s .status ≡ Ended → last p s ≡ closed p s
+  unfolding closed
+  closed-ended h = sym (ap (λ (f : Status). closedBy p s f) h)
+
+  pub closed-refused : {number place : ℕ} → s .status ≡ Refused number place → none number place (s .runs) ≡ closed p s
+  unfolding closed
+  closed-refused h = sym (ap (λ (f : Status). closedBy p s f) h)
+
+  -- the last run, by its fate
+  pub last-by : {x : Run} {f : Fate} → x ≡ runOf p (s .z) → x .fate ≡ f → lastBy s x f ≡ last p s
+  unfolding last
+  last-by {x} q h = sym (ap (λ (f : Fate). lastBy s x f) h) ∙ ap (λ (y : Run). lastBy s y (y .fate)) q
+
+module _ (p : CheckedProblem) (seed : List Float) {e : ResidualVector} (q : e ≡ residualsOf p seed) where
+  pub start-going : {m : ℕ} → m ≡ width p → e .fate ≡ Fate.Going → Stands.start m seed (e .r) .state ≡ start p seed
+  unfolding start
+  start-going {m} em g = let here : Stands.start m seed (e .r) .state ≡ startOf p seed e = rw (g, em) in here ∙ ap (λ (x : ResidualVector). startOf p seed x) q
+
+  refused-start : {number place : ℕ} → e .fate ≡ Fate.Refused number place → start p seed .status ≡ Refused number place
+  unfolding start
+  refused-start g = ap (λ (x : ResidualVector). startOf p seed x .status) (sym q) ∙ ap statusOf g
+
+  one-run : start p seed .runs ≡ 1
+  unfolding start
+  one-run = refl
+
+  -- a seed whose run is refused ends the search before its first iteration
+  pub search-refused : {number place : ℕ} → e .fate ≡ Fate.Refused number place → none number place 1 ≡ search p seed
+  unfolding search searched
+  search-refused {number} {place} g =
+      let r = refused-start g in
+      let same : start p seed ≡ iter (turn p) (start p seed) 40 = iter-stays (turn p) (start p seed) 0 40 (omega arith) (iter-none (turn p) (start p seed)) (λ j. turn-refused p j (start p seed) r) in
+      sym (ap (λ k. none number place k) one-run) ∙ closed-refused p (start p seed) r ∙ ap (λ (s : State). closed p s) same

@@ -1,0 +1,95 @@
+// The Jacobian by columns, each a forward difference over one run. Carried over from `jacobian` of quatopsy-plan/src/scvx.rs (Apache-2.0), changed: the
+// columns stand one after the other in the front of the workspace.
+ghost use mathlib.Core.Path.{_≡_};
+ghost use mathlib.Core.Bool.{true};
+ghost use Prim.Native.Nat.{_*_, _≤_, _<_};
+ghost use lib.ListN.{length, take};
+ghost use Rattle.actuators.specs.Maps.{controlDim, isSized};
+ghost use Rattle.residuals.specs.Residuals.{residualsOf};
+ghost use Rattle.dense.specs.Normal.{slopes};
+ghost use Rattle.dense.specs.Rows.{rows};
+ghost use Rattle.scvx.specs.Search as Search;
+ghost use Rattle.scvx.specs.Stands.{Sizes, columnsOf};
+use super::Slopes;
+use actuators::control_dim;
+use common::Fate;
+use dense::put_column;
+use forward::decisions::project_decision;
+use forward::decisions::unpack;
+use problem::CheckedProblem;
+use residuals::ResidualVector;
+use residuals::terms::residuals_of;
+
+// The numbers of a decision.
+pub fn numbers(p: CheckedProblem) -> usize
+    requires { ⌜ controlDim (p .map) ≤ 12 ⌝ }
+    ensures { λ r. ⌜ r ≡ Search.numbers p ⌝ }
+{
+    let map = p.map;
+    1 + 16 * control_dim(map)
+}
+
+// The residuals of a decision: 28, or 79 with a pointing weight above 0.
+pub fn width(p: CheckedProblem) -> usize
+    ensures { λ r. ⌜ r ≡ Search.width p ⌝ }
+{
+    let weights = p.weights;
+    if weights.pointing > 0.0 { 79 } else { 28 }
+}
+
+// The decision with its duration and its controls held to their limits.
+pub fn held(p: CheckedProblem, z: [f64; 193]) -> [f64; 193]
+    requires { ⌜ controlDim (p .map) ≤ 12 ⌝ }
+    ensures { λ r. ⌜ r ≡ Search.held p z ⌝ }
+{
+    let map = p.map;
+    let limit = p.torque_limit;
+    project_decision(map, limit, unpack(z))
+}
+
+// The residuals of the decision with number c moved by 1e-6.
+fn column(p: CheckedProblem, z: [f64; 193], c: usize) -> ResidualVector
+    requires { ⌜ (isSized (p .map) ≡ true) × ((controlDim (p .map) ≤ 12) × (c < 193)) ⌝ }
+    ensures { λ r. ⌜ r ≡ residualsOf p (Search.nudged p z c) ⌝ }
+{
+    let mut plus = z;
+    plus[c] = plus[c] + 1.0e-6;
+    residuals_of(p, held(p, plus))
+}
+
+// A column: the residuals rp of the moved decision against r0.
+fn put_slopes(column: &mut [f64], rp: [f64; 79], r0: [f64; 79])
+    requires { ⌜ length (now column) ≤ 79 ⌝ }
+    ensures { λ _. ⌜ now (column .exit) ≡ slopes (length (now (column .entry))) rp r0 ⌝ }
+{
+    put_column(column, &rp, &r0);
+}
+
+// The n columns of m numbers at the decision z, whose residuals are r0, from the front of v on; a refused run ends them.
+pub fn jacobian(
+    p: CheckedProblem,
+    v: &mut [f64],
+    n: usize,
+    m: usize,
+    z: [f64; 193],
+    r0: [f64; 79],
+) -> Slopes
+    requires { ⌜ Sizes p n m (length (now v)) ⌝ }
+    ensures { λ r. ⌜ Search.jacobian p z r0 ≡ columnsOf r (rows n m (take (n * m) (now (v .exit)))) ⌝ }
+{
+    let mut c: usize = 0;
+    while c < n {
+        let e = column(p, z, c);
+        let fate = e.fate;
+        match fate {
+            Fate::Refused(number, place) => return Slopes::Broken(number, place, c + 1),
+            Fate::Going => {}
+        }
+        let rp = e.r;
+        let at = c * m;
+        let end = at + m;
+        put_slopes(&mut v[at..end], rp, r0);
+        c += 1;
+    }
+    Slopes::Filled
+}

@@ -1,0 +1,183 @@
+// The step of an iteration: normal equations, a trial, and the verdict on it. Carried over from `solve` and `apply_step` of quatopsy-plan/src/scvx.rs
+// (Apache-2.0), changed: a trial's residuals are kept where it is taken, and the columns are formed once a decision.
+ghost use mathlib.Core.Path.{_≡_};
+ghost use Prim.Native.Nat.{_+_, _*_, _≤_, _<_};
+ghost use lib.ListN.{length, take};
+ghost use Rattle.common.specs.Iter.{iter};
+ghost use Rattle.actuators.specs.Maps.{controlDim};
+ghost use Rattle.problem.specs.declared.CheckedProblem.{CheckedProblem};
+ghost use Rattle.residuals.specs.Sums.{normSlice};
+ghost use Rattle.dense.specs.Elimination.{told, dampedStep};
+ghost use Rattle.dense.specs.Rows.{rows};
+ghost use Rattle.scvx.specs.Search as Search;
+ghost use Rattle.scvx.specs.Stands.{Sizes, Known, Keeps, Holds};
+use super::Progress;
+use super::Slopes;
+use super::Status;
+use super::Step;
+use super::columns::held;
+use super::columns::jacobian;
+use super::states::begun;
+use super::states::damped;
+use super::states::ended;
+use super::states::moved;
+use super::states::over;
+use super::states::ran;
+use common::Fate;
+use dense::damped_step;
+use float::max;
+use float::min;
+use problem::CheckedProblem;
+use residuals::sums::norm_slice;
+use residuals::terms::residuals_of;
+
+// The decision moved by the step d.
+fn apply_step(z: [f64; 193], d: &[f64]) -> [f64; 193]
+    requires { ⌜ length (now d) ≤ 193 ⌝ }
+    ensures { λ r. ⌜ r ≡ iter (Search.addTurn (now (d .entry))) z (length (now (d .entry))) ⌝ }
+{
+    let mut out = z;
+    let mut i: usize = 0;
+    while i < d.len() {
+        out[i] = out[i] + d[i];
+        i += 1;
+    }
+    out
+}
+
+// The decision of a trial.
+fn trial_of(p: CheckedProblem, z: [f64; 193], d: &[f64]) -> [f64; 193]
+    requires { ⌜ (controlDim (p .map) ≤ 12) × ((length (now d) ≤ 193) × (length (now d) ≡ Search.numbers p)) ⌝ }
+    ensures { λ r. ⌜ r ≡ Search.trialOf p z (now (d .entry)) ⌝ }
+{
+    held(p, apply_step(z, d))
+}
+
+// A trial t with the residuals r, of which m count: it is taken where it is strictly shorter.
+fn judged(g: Progress, t: [f64; 193], r: [f64; 79], m: usize) -> Progress
+    requires { ⌜ m ≤ 79 ⌝ }
+    ensures { λ x. ⌜ (x .state ≡ Search.judged (g .state) t (normSlice r m)) × ((p : CheckedProblem) → m ≡ Search.width p → Known p t r → Keeps p g x) ⌝ }
+{
+    let s = g.state;
+    let x = norm_slice(&r, m);
+    if x < s.best {
+        let next = moved(s, t, x, max(s.lambda * 0.3, 1.0e-8));
+        return Progress {
+            state: next,
+            r: r,
+            columns: false,
+        };
+    }
+    over(g, damped(s, min(s.lambda * 4.0, 1.0e6)))
+}
+
+// The trial of a step d: one run.
+fn tried(p: CheckedProblem, g: Progress, d: &[f64], m: usize) -> Progress
+    requires { ⌜ Sizes p (length (now d)) m (length (now d) * m + length (now d) * length (now d)) × (g .state .runs ≤ 8500) ⌝ }
+    ensures { λ x. ⌜ (x .state ≡ Search.tried p (g .state) (now (d .entry))) × Keeps p g x ⌝ }
+{
+    let s = g.state;
+    let z = s.z;
+    let t = trial_of(p, z, d);
+    let e = residuals_of(p, t);
+    let s1 = ran(s, 1);
+    let fate = e.fate;
+    match fate {
+        Fate::Refused(number, place) => over(g, ended(s1, Status::Refused(number, place))),
+        Fate::Going => {
+            let r = e.r;
+            judged(over(g, s1), t, r, m)
+        }
+    }
+}
+
+// The step of the equations whose n columns of m numbers stand in the front of ws, where they stay.
+fn step_of(ws: &mut [f64], n: usize, m: usize, r: [f64; 79], lambda: f64) -> Step
+    requires { ⌜ (n ≤ 193) × ((m ≤ 79) × (n * m + n * n ≤ length (now ws))) ⌝ }
+    ensures { λ x. ⌜ (told (x .solved) (take n (x .d)) ≡ dampedStep n m (rows n m (take (n * m) (now (ws .entry)))) r lambda) × ((length (x .d) ≡ 193) × (take (n * m) (now (ws .exit)) ≡ take (n * m) (now (ws .entry)))) ⌝ }
+{
+    let end = n * m + n * n;
+    let mut d = [0.0; 193];
+    let solved = damped_step(&mut ws[..end], m, &r, lambda, &mut d[..n]);
+    Step {
+        solved: solved,
+        d: d,
+    }
+}
+
+// The step of an iteration whose columns stand there: its trial, or a stronger damping where the equations are singular.
+fn stepped(p: CheckedProblem, ws: &mut [f64], n: usize, m: usize, g: Progress) -> Progress
+    requires { ⌜ Sizes p n m (length (now ws)) × (g .state .runs ≤ 8400) ⌝ }
+    ensures { λ x. ⌜ (x .state ≡ Search.stepped p (g .state) (rows n m (take (n * m) (now (ws .entry)))) (g .r)) × (Keeps p g x × (take (n * m) (now (ws .exit)) ≡ take (n * m) (now (ws .entry)))) ⌝ }
+{
+    let s = g.state;
+    let r = g.r;
+    let step = step_of(ws, n, m, r, s.lambda);
+    if !step.solved {
+        return over(g, damped(s, min(s.lambda * 8.0, 1.0e6)));
+    }
+    let d = step.d;
+    tried(p, g, &d[..n], m)
+}
+
+// The columns of the decision are formed, then the step.
+fn formed(p: CheckedProblem, ws: &mut [f64], n: usize, m: usize, g: Progress) -> Progress
+    requires { ⌜ Sizes p n m (length (now ws)) × ((g .state .runs ≤ 8200) × Holds p (rows n m (take (n * m) (now ws))) g) ⌝ }
+    ensures { λ x. ⌜ (x .state ≡ Search.linear p (g .state) (g .r)) × Holds p (rows n m (take (n * m) (now (ws .exit)))) x ⌝ }
+{
+    let s = g.state;
+    let z = s.z;
+    let r = g.r;
+    let j = jacobian(p, ws, n, m, z, r);
+    match j {
+        Slopes::Broken(number, place, runs) => {
+            let next = ended(ran(s, runs), Status::Refused(number, place));
+            Progress {
+                state: next,
+                r: r,
+                columns: false,
+            }
+        }
+        Slopes::Filled => {
+            let next = ran(s, n);
+            let whole = Progress {
+                state: next,
+                r: r,
+                columns: true,
+            };
+            stepped(p, ws, n, m, whole)
+        }
+    }
+}
+
+// The step of an iteration. Columns that stand there already are counted as runs, and not formed again.
+fn linear(p: CheckedProblem, ws: &mut [f64], n: usize, m: usize, g: Progress) -> Progress
+    requires { ⌜ Sizes p n m (length (now ws)) × ((g .state .runs ≤ 8200) × Holds p (rows n m (take (n * m) (now ws))) g) ⌝ }
+    ensures { λ x. ⌜ (x .state ≡ Search.linear p (g .state) (g .r)) × Holds p (rows n m (take (n * m) (now (ws .exit)))) x ⌝ }
+{
+    if g.columns {
+        let s = g.state;
+        return stepped(p, ws, n, m, over(g, ran(s, n)));
+    }
+    formed(p, ws, n, m, g)
+}
+
+// Iteration k + 1 of a search that goes on. Its run of the decision is counted, and not made: the residuals are known, and `best` is their length.
+pub fn going(
+    p: CheckedProblem,
+    ws: &mut [f64],
+    n: usize,
+    m: usize,
+    k: usize,
+    g: Progress,
+) -> Progress
+    requires { ⌜ Sizes p n m (length (now ws)) × ((k < 40) × ((g .state .runs ≤ 8000) × Holds p (rows n m (take (n * m) (now ws))) g)) ⌝ }
+    ensures { λ x. ⌜ (x .state ≡ Search.going p k (g .state)) × Holds p (rows n m (take (n * m) (now (ws .exit)))) x ⌝ }
+{
+    let before = g.state;
+    let s = begun(k, before);
+    if s.best <= 5.0e-3 {
+        return over(g, ended(s, Status::Ended));
+    }
+    linear(p, ws, n, m, over(g, s))
+}

@@ -1,0 +1,112 @@
+// The whole search: its start, at most 40 iterations, and the run of the decision that is handed out. Carried over from `solve` of
+// quatopsy-plan/src/scvx.rs (Apache-2.0), changed: runs are counted, a refusal is a number and a place.
+ghost use mathlib.Core.Path.{_≡_};
+ghost use mathlib.Core.Bool.{true};
+ghost use Prim.Native.Nat.{_*_, _≤_};
+ghost use lib.ListN.{length, take};
+ghost use Rattle.common.specs.Iter.{iter};
+ghost use Rattle.actuators.specs.Maps.{controlDim, isSized};
+ghost use Rattle.dense.specs.Rows.{rows};
+ghost use Rattle.scvx.specs.declared.Status.the-variants.{Going};
+ghost use Rattle.scvx.specs.Search as Search;
+ghost use Rattle.scvx.specs.Stands as Stands;
+ghost use Rattle.scvx.specs.Stands.{Sizes, Holds};
+use super::Found;
+use super::Progress;
+use super::State;
+use super::Status;
+use super::steps::going;
+use common::Fate;
+use forward::runs::refused_run;
+use forward::runs::run_of;
+use problem::CheckedProblem;
+use residuals::sums::norm_slice;
+
+// The seed's decision, whose residuals r are known: one run.
+pub fn start(m: usize, seed: [f64; 193], r: [f64; 79]) -> Progress
+    requires { ⌜ m ≤ 79 ⌝ }
+    ensures { λ g. ⌜ g ≡ Stands.start m seed r ⌝ }
+{
+    let best = norm_slice(&r, m);
+    let state = State {
+        z: seed,
+        best: best,
+        lambda: 1.0e-2,
+        iterations: 0,
+        runs: 1,
+        status: Status::Going,
+    };
+    Progress {
+        state: state,
+        r: r,
+        columns: false,
+    }
+}
+
+// At most 40 iterations, left where the search no longer goes on.
+pub fn turns(p: CheckedProblem, ws: &mut [f64], n: usize, m: usize, first: Progress) -> State
+    requires { ⌜ Sizes p n m (length (now ws)) × ((first .state .runs ≡ 1) × ((first .state .status ≡ Going) × Holds p (rows n m (take (n * m) (now ws))) first)) ⌝ }
+    ensures { λ s. ⌜ s ≡ iter (Search.turn p) (first .state) 40 ⌝ }
+{
+    let mut g = first;
+    let mut k: usize = 0;
+    while k < 40 {
+        g = going(p, ws, n, m, k, g);
+        k += 1;
+        let s = g.state;
+        let status = s.status;
+        match status {
+            Status::Ended => return s,
+            Status::Refused(_, _) => return s,
+            Status::Going => {}
+        }
+    }
+    g.state
+}
+
+// A refusal: no decision.
+pub fn none(number: usize, place: usize, runs: usize) -> Found
+    ensures { λ r. ⌜ r ≡ Search.none number place runs ⌝ }
+{
+    let z = [0.0; 193];
+    Found {
+        fate: Fate::Refused(number, place),
+        runs: runs,
+        iterations: 0,
+        z: z,
+        run: refused_run(number, place),
+    }
+}
+
+// The run of the decision that is handed out, the last that is counted.
+fn last(p: CheckedProblem, s: State) -> Found
+    requires { ⌜ (isSized (p .map) ≡ true) × ((controlDim (p .map) ≤ 12) × (s .runs ≤ 8500)) ⌝ }
+    ensures { λ r. ⌜ r ≡ Search.last p s ⌝ }
+{
+    let z = s.z;
+    let run = run_of(p, z);
+    let fate = run.fate;
+    match fate {
+        Fate::Refused(number, place) => none(number, place, s.runs + 1),
+        Fate::Going => Found {
+            fate: Fate::Going,
+            runs: s.runs + 1,
+            iterations: s.iterations,
+            z: z,
+            run: run,
+        },
+    }
+}
+
+// What is found, by how the search ended.
+pub fn closed(p: CheckedProblem, s: State) -> Found
+    requires { ⌜ (isSized (p .map) ≡ true) × ((controlDim (p .map) ≤ 12) × (s .runs ≤ 8500)) ⌝ }
+    ensures { λ r. ⌜ r ≡ Search.closed p s ⌝ }
+{
+    let status = s.status;
+    match status {
+        Status::Going => last(p, s),
+        Status::Ended => last(p, s),
+        Status::Refused(number, place) => none(number, place, s.runs),
+    }
+}

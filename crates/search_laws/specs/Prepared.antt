@@ -1,0 +1,174 @@
+-- A prepared map has the numbers that the user declared: its counts, its torques and momenta, the pyramid; and f64 holds them where it holds the user's. Assumes nothing.
+use mathlib.Core.Path.{_≡_, refl, sym, _∙_, subst}
+use mathlib.Core.Bool.{Bool, true, false, cond}
+use mathlib.Core.List.{List}
+use Prim.Native.Nat.{ℕ, zero, suc, _+_, _≤_, _<_}
+use native.Mathlib.Omega.{arith}
+use borrow.Author.Tests.{ltb-false}
+use lib.Dec.{T, ltb}
+use lib.ListN.{set, length, length-set}
+use lib.Seq.{getD-set-same, getD-set-other}
+use lib.Ieee.{Float, nan, binary64, fits}
+use Rattle.common.specs.Iter.{iter}
+use Rattle.common.specs.Lists.{at}
+use Rattle.common.specs.declared.Fate.{Fate}
+use Rattle.common.specs.declared.Fate.the-variants.{Going, Refused}
+use Rattle.laws.specs.Below.{below-none, below-next}
+use Rattle.geom.specs.Quats.{unit3}
+use Rattle.geom.specs.declared.Axis.{Axis}
+use Rattle.geom.specs.declared.Axis.the-variants.{Is, Not}
+use Rattle.actuators.specs.Maps as Maps
+use Rattle.actuators.specs.Prepare as Prepare
+use Rattle.actuators.specs.Ready.{prepared}
+use Rattle.actuators.specs.declared.Cmgs.{Cmgs}
+use Rattle.actuators.specs.declared.Cmgs.the-variants.{Without, With}
+use Rattle.actuators.specs.declared.Actuators.{Actuators}
+use Rattle.actuators.specs.declared.ActuatorMap.{ActuatorMap}
+use Rattle.actuators.specs.declared.Prepared.{Prepared}
+use Rattle.forward.specs.StepLaws.{refused-going}
+use Rattle.run_laws.specs.Prepared.{RateFits, FitsM}
+use Rattle.search_laws.specs.Decisions.{set-all}
+use Rattle.search_laws.specs.Seeds.{zeros-fit}
+
+-- ---- one traversal of `prepare`, over any property of its answer with j wheels and l thrusters in the tables
+record Kept (a : Actuators) (W : ℕ → ℕ → Prepared → Type 0) : Type 0 where
+  -- a refusal; and an answer that is refused is so at every count
+  no : (j l n place : ℕ) → W j l (Prepare.refused n place)
+  stays : (j l i k n place : ℕ) (p : Prepared) → p .fate ≡ Refused n place → W j l p → W i k p
+  start : W 0 0 (Prepare.going (Maps.unfilled (a .«wheel_count») (a .«thruster_count») (a .cmgs)))
+  wheel : (k l : ℕ) (m : ActuatorMap) (x y z : Float) → k < 8 → W k l (Prepare.going m) → W (suc k) l (Prepare.going (Prepare.withWheel m k (Maps.wheelAt (a .wheels) k) x y z))
+  thruster : (j k : ℕ) (m : ActuatorMap) (x y z : Float) → k < 12 → W j k (Prepare.going m) → W j (suc k) (Prepare.going (Prepare.withThruster m k (Maps.thrusterAt (a .thrusters) k) x y z))
+
+module _ (a : Actuators) (W : ℕ → ℕ → Prepared → Type 0) (K : Kept a W) where
+  placed-keeps : (j l place : ℕ) (u : Axis) (f : Float → Float → Float → ActuatorMap) → ((x y z : Float) → W j l (Prepare.going (f x y z))) → W j l (Prepare.placed place u f)
+  placed-keeps j l place Not f h = K .no j l 3 place
+  placed-keeps j l place (Is x y z) f h = h x y z
+
+  checked-keeps : (j l : ℕ) (out : Bool) (place : ℕ) (u : Axis) (f : Float → Float → Float → ActuatorMap) → ((x y z : Float) → W j l (Prepare.going (f x y z))) → W j l (Prepare.checked out place u f)
+  checked-keeps j l true place u f h = K .no j l 2 place
+  checked-keeps j l false place u f h = placed-keeps j l place u f h
+
+  -- from p with j and l to the next answer with i and k
+  onward-keeps : (j l i k : ℕ) (f : Fate) (p next : Prepared) → p .fate ≡ f → W j l p → (W j l (Prepare.going (p .map)) → W i k next) → W i k (Prepare.onward f p next)
+  onward-keeps j l i k Going p next e w h = h (subst (λ (g : Fate). W j l (record { fate = g; map = p .map })) e w)
+  onward-keeps j l i k (Refused n place) p next e w h = K .stays j l i k n place p e w
+
+  wheels-keep : (n : ℕ) (p : Prepared) → n ≤ 8 → W 0 0 p → W n 0 (iter (Prepare.wheelTurn (a .wheels)) p n)
+  unfolding iter Prepare.wheelNext Prepare.wheelChecked
+  wheels-keep zero p h w = w
+  wheels-keep (suc k) p h w =
+      let q = iter (Prepare.wheelTurn (a .wheels)) p k in
+      let r = Maps.wheelAt (a .wheels) k in
+      onward-keeps k 0 (suc k) 0 (q .fate) q (Prepare.wheelChecked (q .map) k r) refl (wheels-keep k p (omega arith) w)
+      (λ v. checked-keeps (suc k) 0 (Prepare.wheelOutside r) k (unit3 (r .axis)) (Prepare.withWheel (q .map) k r) (λ x y z. K .wheel k 0 (q .map) x y z (omega arith) v))
+
+  thrusters-keep : (j n : ℕ) (p : Prepared) → n ≤ 12 → W j 0 p → W j n (iter (Prepare.thrusterTurn (a .thrusters)) p n)
+  unfolding iter Prepare.thrusterNext Prepare.thrusterChecked
+  thrusters-keep j zero p h w = w
+  thrusters-keep j (suc k) p h w =
+      let q = iter (Prepare.thrusterTurn (a .thrusters)) p k in
+      let r = Maps.thrusterAt (a .thrusters) k in
+      onward-keeps j k j (suc k) (q .fate) q (Prepare.thrusterChecked (q .map) k r) refl (thrusters-keep j k p (omega arith) w)
+      (λ v. checked-keeps j (suc k) (Prepare.outside (r .«max_torque_nm»)) (8 + k) (unit3 (r .«torque_axis»)) (Prepare.withThruster (q .map) k r) (λ x y z. K .thruster j k (q .map) x y z (omega arith) v))
+
+  cmgs-keep : (j l : ℕ) (c : Cmgs) (m : ActuatorMap) → W j l (Prepare.going m) → W j l (Prepare.cmgsChecked c m)
+  cmgs-keep j l Without m w = w
+  cmgs-keep j l (With y) m w = go (Prepare.pyramidOutside y)
+    where
+      go : (b : Bool) → W j l (cond b (Prepare.refused 2 20) (Prepare.going m))
+      go true = K .no j l 2 20
+      go false = w
+
+  filled-keeps : a .«wheel_count» ≤ 8 → a .«thruster_count» ≤ 12 → W (a .«wheel_count») (a .«thruster_count») (Prepare.filled a)
+  unfolding Prepare.filled Prepare.cmgsNext Prepare.wheelsChecked Prepare.thrustersChecked
+  filled-keeps h i =
+      let p = iter (Prepare.wheelTurn (a .wheels)) (Prepare.going (Maps.unfilled (a .«wheel_count») (a .«thruster_count») (a .cmgs))) (a .«wheel_count») in
+      let q = iter (Prepare.thrusterTurn (a .thrusters)) p (a .«thruster_count») in
+      onward-keeps (a .«wheel_count») (a .«thruster_count») (a .«wheel_count») (a .«thruster_count») (q .fate) q (Prepare.cmgsChecked (a .cmgs) (q .map)) refl
+      (thrusters-keep (a .«wheel_count») (a .«thruster_count») p i (wheels-keep (a .«wheel_count») (Prepare.going (Maps.unfilled (a .«wheel_count») (a .«thruster_count») (a .cmgs))) h (K .start)))
+      (cmgs-keep (a .«wheel_count») (a .«thruster_count») (a .cmgs) (q .map))
+
+  prepare-keeps : W (a .«wheel_count») (a .«thruster_count») (Prepare.prepare a)
+  unfolding Prepare.prepare
+  prepare-keeps = by (ltb 8 (a .«wheel_count»)) (ltb 12 (a .«thruster_count»)) refl refl
+    where
+      by : (b c : Bool) → ltb 8 (a .«wheel_count») ≡ b → ltb 12 (a .«thruster_count») ≡ c → W (a .«wheel_count») (a .«thruster_count») (cond b (Prepare.refused 1 0) (cond c (Prepare.refused 1 1) (Prepare.filled a)))
+      by true c d e = K .no _ _ 1 0
+      by false true d e = K .no _ _ 1 1
+      by false false d e = filled-keeps (ltb-false _ _ d) (ltb-false _ _ e)
+
+-- ---- f64 holds what the user declares, so it holds what the map has
+pub record FitsA (a : Actuators) : Type 0 where
+  pub torque : (k : ℕ) → T (fits binary64 (Maps.wheelAt (a .wheels) k .«max_torque_nm»))
+  pub momentum : (k : ℕ) → T (fits binary64 (Maps.wheelAt (a .wheels) k .«max_momentum_nms»))
+  pub thrust : (k : ℕ) → T (fits binary64 (Maps.thrusterAt (a .thrusters) k .«max_torque_nm»))
+  pub rate : RateFits (a .cmgs)
+
+unfilled-fits : (nw nt : ℕ) (c : Cmgs) → RateFits c → FitsM (Maps.unfilled nw nt c)
+unfolding Maps.unfilled
+unfilled-fits nw nt c r = record { torque = zeros-fit 8; momentum = zeros-fit 8; thrust = zeros-fit 12; rate = r }
+
+abbrev isFit : Float → Type 0
+isFit x = T (fits binary64 x)
+
+fits-kept : (a : Actuators) → FitsA a → Kept a (λ j l p. FitsM (p .map))
+unfolding Prepare.withWheel Prepare.withThruster
+fits-kept a F = record {
+  no = λ j l n place. unfilled-fits 0 0 Without tt;
+  stays = λ j l i k n place p e w. w;
+  start = unfilled-fits _ _ (a .cmgs) (F .rate);
+  wheel = λ k l m x y z h M. record { torque = set-all isFit (m .«wheel_torques») k _ (F .torque k) (M .torque); momentum = set-all isFit (m .«wheel_momenta») k _ (F .momentum k) (M .momentum); thrust = M .thrust; rate = M .rate };
+  thruster = λ j k m x y z h M. record { torque = M .torque; momentum = M .momentum; thrust = set-all isFit (m .«thruster_torques») k _ (F .thrust k) (M .thrust); rate = M .rate };
+}
+
+pub prepare-fits : (a : Actuators) → FitsA a → FitsM (Prepare.prepare a .map)
+prepare-fits a F = prepare-keeps a (λ j l p. FitsM (p .map)) (fits-kept a F)
+
+-- ---- the map has the user's numbers
+-- the first j numbers of a table of a size are those of v
+pub record Column (size j : ℕ) (v : ℕ → Float) (t : List Float) : Type 0 where
+  pub long : length t ≡ size
+  pub is : (k : ℕ) → k < j → at t k ≡ v k
+
+column-more : (size j : ℕ) (v : ℕ → Float) (t : List Float) → j < size → Column size j v t → Column size (suc j) v (set t j (v j))
+column-more size j v t h C = record {
+  long = length-set t j (v j) ∙ C .long;
+  is = below-next (λ k. at (set t j (v j)) k ≡ v k) j (getD-set-same t j (v j) nan (rw (C .long) h)) (λ k l. getD-set-other t j k (v j) nan (λ (e : k ≡ j). omega arith) ∙ C .is k l);
+}
+
+module _ (a : Actuators) where
+  abbrev wheelTorque : ℕ → Float
+  wheelTorque k = Maps.wheelAt (a .wheels) k .«max_torque_nm»
+
+  abbrev wheelMomentum : ℕ → Float
+  wheelMomentum k = Maps.wheelAt (a .wheels) k .«max_momentum_nms»
+
+  abbrev thrust : ℕ → Float
+  thrust k = Maps.thrusterAt (a .thrusters) k .«max_torque_nm»
+
+  pub record Tables (j l : ℕ) (m : ActuatorMap) : Type 0 where
+    pub torques : Column 8 j wheelTorque (m .«wheel_torques»)
+    pub momenta : Column 8 j wheelMomentum (m .«wheel_momenta»)
+    pub thrusts : Column 12 l thrust (m .«thruster_torques»)
+
+  tables-kept : Kept a (λ j l p. p .fate ≡ Going → Tables j l (p .map))
+  unfolding Prepare.withWheel Prepare.withThruster Maps.unfilled
+  tables-kept = record {
+    no = λ j l n place e. absurd (refused-going e);
+    stays = λ j l i k n place p f w e. absurd (refused-going (sym f ∙ e));
+    start = λ e. record { torques = record { long = refl; is = below-none _ }; momenta = record { long = refl; is = below-none _ }; thrusts = record { long = refl; is = below-none _ } };
+    wheel = λ k l m x y z h w e. let M = w refl in record { torques = column-more 8 k wheelTorque (m .«wheel_torques») h (M .torques); momenta = column-more 8 k wheelMomentum (m .«wheel_momenta») h (M .momenta); thrusts = M .thrusts };
+    thruster = λ j k m x y z h w e. let M = w refl in record { torques = M .torques; momenta = M .momenta; thrusts = column-more 12 k thrust (m .«thruster_torques») h (M .thrusts) };
+  }
+
+  -- THE MAP of what the user declares
+  pub record Declared (m : ActuatorMap) : Type 0 where
+    pub wheels : m .«wheel_count» ≡ a .«wheel_count»
+    pub thrusters : m .«thruster_count» ≡ a .«thruster_count»
+    pub cmgs : m .cmgs ≡ a .cmgs
+    pub tables : Tables (a .«wheel_count») (a .«thruster_count») m
+
+  pub prepare-declared : Prepare.prepare a .fate ≡ Going → Declared (Prepare.prepare a .map)
+  prepare-declared e =
+      let R = prepared a e .ready in
+      record { wheels = R .wheels; thrusters = R .thrusters; cmgs = R .gyros; tables = prepare-keeps a (λ j l p. p .fate ≡ Going → Tables j l (p .map)) tables-kept e }
