@@ -1,0 +1,3 @@
+-- What the reader's proofs share.
+pub mod Rows
+pub mod Lists

@@ -1,0 +1,115 @@
+-- Facts of the definitions of specs/Listing.antt and specs/Reader.antt that the reader's proofs cite. Assumes nothing.
+use Prim.Native.Nat.{ℕ, _+_, _≤_, _<_}
+use native.Mathlib.Omega.{arith}
+use mathlib.Core.Path.{_≡_, refl, sym, _∙_}
+use mathlib.Core.List.{List}
+use mathlib.Core.Bool.{Bool, true, false}
+use lib.Dec.{ltb, eqb}
+use lib.ListN.{length}
+use Rattle.common.specs.Iter.{iter, iter-stays}
+use Rattle.common.specs.declared.Fate.the-variants.{Going, Refused}
+use Rattle.actuators.specs.declared.Actuators.{Actuators}
+use Rattle.actuators.specs.Maps.{noActuators}
+use Rattle.text.specs.declared.lines.Row.{Row}
+use Rattle.text.specs.declared.listing.Item.{Item}
+use Rattle.text.specs.declared.listing.Listing.{Listing}
+use Rattle.text.specs.Bytes.{bytes}
+use Rattle.text.specs.Lines.{isAt, lineAt, limitLineAt}
+use Rattle.text.specs.Listing.{pickActuators, pickListing, withWheel, withThruster, withPyramid, withItem, wrongLine, endAt, closeAt, nextLine, firstLine, turn, listAt, itemAt}
+use Rattle.text.specs.Reader.{line1, line2, line3, line4, line5, line6, line7, line8, firstWrong, fieldsOf}
+
+-- ---- counts: a line adds at most one to each
+
+-- an actuator more
+record Added (a b : Actuators) : Type 0 where
+  wheels : b .«wheel_count» ≤ a .«wheel_count» + 1
+  thrusters : b .«thruster_count» ≤ a .«thruster_count» + 1
+
+item-adds : (a : Actuators) (i : Item) → Added a (withItem a i)
+unfolding withItem withWheel withThruster withPyramid
+item-adds a i = go (eqb (i .kind) 1) (eqb (i .kind) 2)
+  where
+    go : (p q : Bool) → Added a (pickActuators p (withWheel a (i .row)) (pickActuators q (withThruster a (i .row)) (withPyramid a (i .row))))
+    go true q = record { wheels = omega arith; thrusters = omega arith }
+    go false true = record { wheels = omega arith; thrusters = omega arith }
+    go false false = record { wheels = omega arith; thrusters = omega arith }
+
+-- the end of a line: the next line's number at most
+record Closed (line : ℕ) (a : Actuators) (c : Listing) : Type 0 where
+  next : c .line ≤ line + 1
+  same : c .actuators ≡ a
+
+ends : (s : List ℕ) (line at least : ℕ) (a : Actuators) → Closed line a (endAt s line at least a)
+unfolding endAt
+ends s line at least a = go (ltb at (length s))
+  where
+    go : (p : Bool) → Closed line a (pickListing p (wrongLine (line + 1) at least a) (record { fate = Going; unclosed = false; line = line + 1; at = at; least = least; actuators = a }))
+    go true = record { next = omega arith; same = refl }
+    go false = record { next = omega arith; same = refl }
+
+closes : (s : List ℕ) (line at least : ℕ) (a : Actuators) → Closed line a (closeAt s line at least a)
+unfolding closeAt
+closes s line at least a = go (isAt s at (bytes "\n")) (isAt s at (bytes "))\n"))
+  where
+    go : (p q : Bool) → Closed line a (pickListing p (record { fate = Going; unclosed = true; line = line + 1; at = at + 1; least = least; actuators = a }) (pickListing q (endAt s line (at + 3) least a) (wrongLine line at least a)))
+    go true q = record { next = omega arith; same = refl }
+    go false true = ends s line (at + 3) least a
+    go false false = record { next = omega arith; same = refl }
+
+-- after k lines of the list
+pub record Counts (c : Listing) (k : ℕ) : Type 0 where
+  pub line : c .line ≤ 10 + k
+  pub wheels : c .actuators .«wheel_count» ≤ k
+  pub thrusters : c .actuators .«thruster_count» ≤ k
+
+pub counts-next : (s : List ℕ) (c : Listing) (k : ℕ) → Counts c k → Counts (nextLine s c) (k + 1)
+unfolding nextLine
+counts-next s c k h = go (itemAt s (c .at)) (ltb (itemAt s (c .at) .kind) (c .least))
+  where
+    go : (i : Item) (p : Bool) → Counts (pickListing p (wrongLine (c .line) (c .at) (c .least) (c .actuators)) (closeAt s (c .line) (i .row .at) (i .next) (withItem (c .actuators) i))) (k + 1)
+    go i true = record { line = omega arith; wheels = omega arith; thrusters = omega arith }
+    go i false =
+        let b = item-adds (c .actuators) i in
+        let d = closes s (c .line) (i .row .at) (i .next) (withItem (c .actuators) i) in
+        record { line = omega arith; wheels = rw (d .same) (omega arith); thrusters = rw (d .same) (omega arith) }
+
+pub counts-first : (s : List ℕ) (at : ℕ) → Counts (firstLine s at) 0
+unfolding firstLine noActuators
+counts-first s at = go (isAt s at (bytes " (actuators"))
+  where
+    go : (p : Bool) → Counts (pickListing p (closeAt s 9 (at + 11) 1 noActuators) (wrongLine 9 at 1 noActuators)) 0
+    go true =
+        let d = closes s 9 (at + 11) 1 noActuators in
+        record { line = omega arith; wheels = rw (d .same) (omega arith); thrusters = rw (d .same) (omega arith) }
+    go false = record { line = omega arith; wheels = omega arith; thrusters = omega arith }
+
+-- ---- the loop over the lines
+
+pub turn-goes : (s : List ℕ) (k : ℕ) (c d : Listing) → c .unclosed ≡ true → d ≡ nextLine s c → d ≡ turn s k c
+turn-goes s k c d h e = simp h e
+
+module _ (s : List ℕ) (at : ℕ) (c₀ c : Listing) (k : ℕ) (f : c₀ ≡ firstLine s at) (e : c ≡ iter (turn s) c₀ k) where
+  -- a list that is closed, or wrong, is the answer
+  pub list-early : k ≤ length s → c .unclosed ≡ false → c ≡ listAt s at
+  unfolding listAt
+  list-early l h = rw (← f) (iter-stays (turn s) c₀ k (length s) l e (λ j. simp h))
+
+  pub list-whole : k ≡ length s → c ≡ listAt s at
+  unfolding listAt
+  list-whole l = rw (← f, ← l) e
+
+-- ---- the first eight lines
+
+pub fields-is : (s : List ℕ) (r1 r2 r3 r4 r5 r6 r7 r8 : Row) (place : ℕ)
+    → r1 ≡ lineAt s 0 (bytes "(problem") 0 (bytes "\n")
+    → r2 ≡ lineAt s (r1 .at) (bytes " (q0") 4 (bytes ")\n")
+    → r3 ≡ lineAt s (r2 .at) (bytes " (qf") 4 (bytes ")\n")
+    → r4 ≡ lineAt s (r3 .at) (bytes " (inertia") 9 (bytes ")\n")
+    → r5 ≡ lineAt s (r4 .at) (bytes " (limit") 3 (bytes ")\n")
+    → r6 ≡ limitLineAt s (r5 .at) (bytes " (slew") 0 (bytes " none)\n") (bytes ")\n")
+    → r7 ≡ lineAt s (r6 .at) (bytes " (weights") 6 (bytes ")\n")
+    → r8 ≡ lineAt s (r7 .at) (bytes " (tolerance") 2 (bytes ")\n")
+    → place ≡ firstWrong (r1 .ok) (r2 .ok) (r3 .ok) (r4 .ok) (r5 .ok) (r6 .ok) (r7 .ok) (r8 .ok)
+    → record { place = place; at = r8 .at; q0 = r2; qf = r3; inertia = r4; limit = r5; slew = r6; weights = r7; tolerance = r8 } ≡ fieldsOf s
+unfolding fieldsOf line1 line2 line3 line4 line5 line6 line7 line8
+fields-is s r1 r2 r3 r4 r5 r6 r7 r8 place e1 e2 e3 e4 e5 e6 e7 e8 p = rw (p, e8, e7, e6, e5, e4, e3, e2, e1)

@@ -1,0 +1,139 @@
+-- `text::hex::hex_at` meets its contract. Assumes nothing.
+use Prim.Native.Nat.{ℕ, _+_, _≤_, _<_, _-_, _*_, _/_, _^_}
+use native.Mathlib.Omega.{arith}
+use mathlib.Core.Path.{_≡_, refl, sym, _∙_, ap}
+use lib.ListN.{length, getD}
+use Rattle.text.specs.Hex.{digit, more, hexAt}
+use Rattle.text.specs.DigitLaws.{digit-within, more-step, more-stop, more-end, hexAt-step, hexAt-none, stops, sixteenth, weighed}
+use Rattle.text.proofs.hex.hex_at.Statement.{statement}
+use Rattle.text.proofs.hex.hex_at.Tie as tie
+
+abbrev Inv-loop : tie.InvT-loop
+Inv-loop s at first weight₀ m₀ last₀ i₀ k₀ weight m last i k =
+    (k ≤ 15) × (weight ≡ 16 ^ k) × (m + weight ≤ 2 ^ 64) × (i ≤ length s) × (hexAt s at ≡ more s k i m last) × (0 < weight)
+
+abbrev μ-loop : tie.MeasureT-loop
+μ-loop s at first weight₀ m₀ last₀ i₀ k₀ weight m last i k = k
+
+byte-requires : tie.Need-byte-requires Inv-loop μ-loop
+byte-requires c κs = tt
+
+hex-digit-requires : tie.Need-hex-digit-requires Inv-loop μ-loop
+hex-digit-requires c κs = tt
+
+returns : tie.Need-returns Inv-loop μ-loop
+returns c =
+    let args = c .before .before .before .before .args in
+    let v : c .before .hex-digit .result ≡ digit (getD (args .s .now) (args .at) 0) = cc in
+    record { is = sym (hexAt-none (args .s .now) (args .at) _ v (c .if1 .taken)); within = omega arith }
+
+wide-requires : tie.Need-wide-requires Inv-loop μ-loop
+wide-requires c κs = tt
+
+mul-m : tie.Need-mul-m Inv-loop μ-loop
+mul-m c = omega arith
+
+add-i : tie.Need-add-i Inv-loop μ-loop
+add-i c = omega arith
+
+loop-holds : tie.Need-loop-holds Inv-loop μ-loop
+loop-holds c =
+    let args = c .before .before .before .before .before .args in
+    let v : c .before .before .hex-digit .result ≡ digit (getD (args .s .now) (args .at) 0) = cc in
+    let v′ : c .wide .result ≡ digit (getD (args .s .now) (args .at) 0) = cc in
+    let l : digit (getD (args .s .now) (args .at) 0) < 16 = omega arith in
+    let b : c .wide .result < 16 = omega arith in
+    let w = digit-within (args .s .now) (args .at) l in
+    (omega arith, refl, omega arith, omega arith, hexAt-step (args .s .now) (args .at) (c .wide .result) v′ b, omega arith)
+
+byte-requires-2 : tie.Need-byte-requires-2 Inv-loop μ-loop
+byte-requires-2 c κs = tt
+
+hex-digit-requires-2 : tie.Need-hex-digit-requires-2 Inv-loop μ-loop
+hex-digit-requires-2 c κs = tt
+
+stopped-requires : tie.Need-stopped-requires Inv-loop μ-loop
+stopped-requires c κs = tt
+
+returns-2 : tie.Need-returns-2 Inv-loop μ-loop
+returns-2 c =
+    let a = c .before .before .before .before .before .before .before .before .before .before .before .args in
+    let l = c .before .before .before .before .before .loop in
+    let v : c .before .before .hex-digit2 .result ≡ digit (getD (a .s .now) (l .i) 0) = cc in
+    let e = l .inv .4 ∙ more-stop (a .s .now) (l .i) (l .m) (l .last) _ v (l .k) (omega arith) (c .before .if2 .taken) in
+    stops _ _ (l .m) (l .last) (l .i) _ e (omega arith) (c .stopped .ensures)
+
+wide-requires-2 : tie.Need-wide-requires-2 Inv-loop μ-loop
+wide-requires-2 c κs = tt
+
+mul-m-2 : tie.Need-mul-m-2 Inv-loop μ-loop
+mul-m-2 c =
+    let u = c .before .before .before .before .before .loop .weight / 16 in
+    let h : c .wide2 .result * u ≤ 15 * u = weighed _ u (omega arith) in
+    omega (arith, h)
+
+add-m : tie.Need-add-m Inv-loop μ-loop
+add-m c =
+    let u = c .before .before .before .before .before .loop .weight / 16 in
+    let h : c .wide2 .result * u ≤ 15 * u = weighed _ u (omega arith) in
+    omega (arith, h)
+
+add-i-2 : tie.Need-add-i-2 Inv-loop μ-loop
+add-i-2 c = omega arith
+
+sub-k : tie.Need-sub-k Inv-loop μ-loop
+sub-k c = omega arith
+
+loop-less : tie.Need-loop-less Inv-loop μ-loop
+loop-less c = omega arith
+
+loop-again : tie.Need-loop-again Inv-loop μ-loop
+loop-again c =
+    let a = c .before .before .before .before .before .before .before .before .before .before .before .args in
+    let l = c .before .before .before .before .before .loop in
+    let u = l .weight / 16 in
+    let v : c .before .before .hex-digit2 .result ≡ digit (getD (a .s .now) (l .i) 0) = cc in
+    let d : c .before .before .hex-digit2 .result ≡ c .wide2 .result = cc in
+    let b : c .before .before .hex-digit2 .result < 16 = omega arith in
+    let h : c .wide2 .result * u ≤ 15 * u = weighed _ u (omega arith) in
+    let w : u ≡ 16 ^ (l .k - 1) = omega (arith, sixteenth (l .k) (omega arith)) in
+    let g : digit (getD (a .s .now) (l .i) 0) < 16 = omega arith in
+    let e = l .inv .4 ∙ more-step (a .s .now) (l .i) (l .m) (l .last) _ v (l .k) (omega arith) b in
+    (omega arith, w, omega (arith, h), omega (arith, digit-within (a .s .now) (l .i) g), rw (w, ← d) e, omega (arith, sixteenth (l .k) (omega arith)))
+
+stopped-requires-2 : tie.Need-stopped-requires-2 Inv-loop μ-loop
+stopped-requires-2 c κs = tt
+
+returns-3 : tie.Need-returns-3 Inv-loop μ-loop
+returns-3 c =
+    let a = c .before .before .before .before .before .before .before .before .args in
+    let l = c .before .before .loop in
+    let e = l .inv .4 ∙ more-end (a .s .now) (l .i) (l .m) (l .last) (l .k) (omega arith) in
+    stops _ _ (l .m) (l .last) (l .i) _ e (omega arith) (c .stopped2 .ensures)
+
+pub hex-at-spec : {M : Type 1} → statement M
+hex-at-spec =
+    tie.close
+    (tie.spec
+    Inv-loop
+    μ-loop
+    byte-requires
+    hex-digit-requires
+    returns
+    wide-requires
+    mul-m
+    add-i
+    loop-holds
+    byte-requires-2
+    hex-digit-requires-2
+    stopped-requires
+    returns-2
+    wide-requires-2
+    mul-m-2
+    add-m
+    add-i-2
+    sub-k
+    loop-less
+    loop-again
+    stopped-requires-2
+    returns-3)

@@ -1,0 +1,80 @@
+-- `text::lines::is_at` meets its contract. Assumes nothing.
+use Rattle.text.proofs.Rows.{isAt-here, isAt-not, isAt-out, isAt-end, isAt-past, is-not}
+use Rattle.text.specs.Lines.{isAt, IsAt}
+use lib.ListN.{length, getD, drop}
+use mathlib.Core.Bool.{true, false}
+use mathlib.Core.Path.{_≡_, refl, sym, _∙_, ap}
+use native.Mathlib.Nat.{add-zero}
+use native.Mathlib.Omega.{arith}
+use Prim.Native.Nat.{ℕ, _+_, _≤_, _<_, _-_}
+use Rattle.text.proofs.lines.is_at.Statement.{statement}
+use Rattle.text.proofs.lines.is_at.Tie as tie
+
+abbrev Inv-loop : tie.InvT-loop
+Inv-loop s at w k₀ k = (k ≤ length w) × (isAt s at w ≡ isAt s (at + k) (drop k w)) × (at + k ≤ length s)
+
+abbrev μ-loop : tie.MeasureT-loop
+μ-loop s at w k₀ k = length w - k
+
+returns : tie.Need-returns Inv-loop μ-loop
+returns c = is-not _ _ _ (isAt-past _ _ _ (c .if1 .taken))
+
+loop-holds : tie.Need-loop-holds Inv-loop μ-loop
+loop-holds c = (omega arith, rw add-zero, omega arith)
+
+add-if2 : tie.Need-add-if2 Inv-loop μ-loop
+add-if2 c = omega arith
+
+returns-2 : tie.Need-returns-2 Inv-loop μ-loop
+returns-2 c =
+    let l = c .before .before .loop in
+    is-not _ _ _ (l .inv .1 ∙ isAt-out _ _ _ _ (omega arith) (c .if2 .taken))
+
+add-if3 : tie.Need-add-if3 Inv-loop μ-loop
+add-if3 c = omega arith
+
+shared-slice-read-if3 : tie.Need-shared-slice-read-if3 Inv-loop μ-loop
+shared-slice-read-if3 c = omega arith
+
+shared-slice-read-if3-2 : tie.Need-shared-slice-read-if3-2 Inv-loop μ-loop
+shared-slice-read-if3-2 c = omega arith
+
+returns-3 : tie.Need-returns-3 Inv-loop μ-loop
+returns-3 c =
+    let l = c .before .before .before .before .before .loop in
+    is-not _ _ _ (l .inv .1 ∙ isAt-not _ _ _ _ (omega arith) (c .if3 .taken))
+
+add-k : tie.Need-add-k Inv-loop μ-loop
+add-k c = omega arith
+
+loop-less : tie.Need-loop-less Inv-loop μ-loop
+loop-less c = omega arith
+
+loop-again : tie.Need-loop-again Inv-loop μ-loop
+loop-again c =
+    let l = c .before .before .before .before .before .loop in
+    (omega arith, l .inv .1 ∙ isAt-here _ _ _ _ (omega arith) (omega arith) (c .if3 .left), omega arith)
+
+returns-4 : tie.Need-returns-4 Inv-loop μ-loop
+returns-4 c =
+    let l = c .before .loop in
+    record { is = sym (l .inv .1 ∙ isAt-end _ _ _ _ (omega arith) (l .inv .2)); within = λ _. omega arith }
+
+pub is-at-spec : {M : Type 1} → statement M
+is-at-spec =
+    tie.close
+    (tie.spec
+    Inv-loop
+    μ-loop
+    returns
+    loop-holds
+    add-if2
+    returns-2
+    add-if3
+    shared-slice-read-if3
+    shared-slice-read-if3-2
+    returns-3
+    add-k
+    loop-less
+    loop-again
+    returns-4)

@@ -1,0 +1,13 @@
+-- `text::refused` meets its contract. Assumes nothing.
+use borrow.Author.Needs.{needs}
+use Rattle.text.proofs.refused.Statement.{statement}
+use Rattle.text.proofs.refused.Tie as tie
+
+blank-problem-requires : tie.Need-blank-problem-requires
+blank-problem-requires c κs = search needs
+
+returns : tie.Need-returns
+returns c = rw (c .blank-problem .ensures)
+
+pub refused-spec : {M : Type 1} → statement M
+refused-spec = tie.close (tie.spec blank-problem-requires returns)

@@ -1,0 +1,2 @@
+-- What the writer's proofs share.
+pub mod Writing

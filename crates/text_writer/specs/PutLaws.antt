@@ -1,0 +1,45 @@
+-- One text after another, and a buffer that has room for the whole. Assumes nothing.
+use Prim.Native.Nat.{ℕ, zero, suc, _+_, _*_, _≤_, _<_}
+use native.Mathlib.Omega.{arith}
+use native.Mathlib.Numerals.{add-one}
+use native.Mathlib.Nat.{add-zero, add-assoc, add-suc, suc-add}
+use mathlib.Core.Path.{_≡_, refl, sym, _∙_, ap}
+use mathlib.Core.List.{List, [], _∷_, _++_}
+use lib.ListN.{length, drop, length-append}
+use lib.Seq.{sets, sets-eq}
+use Rattle.text_writer.specs.Puts.{Puts}
+use Rattle.text_writer.specs.Texts.{times}
+
+sets-append : (t u b : List ℕ) (at : ℕ) → sets b at (t ++ u) ≡ sets (sets b at t) (at + length t) u
+sets-append [] u b at = rw add-zero
+sets-append (c ∷ t) u b at = rw (add-suc at (length t), ← suc-add at (length t)) (sets-append t u (sets b at (c ∷ [])) (suc at))
+
+-- nothing is put
+pub puts-none : (b : List ℕ) (at most : ℕ) → Puts b at [] most b at
+puts-none b at most = record { is = refl; ends = sym (add-zero at); short = omega arith }
+
+-- a text, and another where it ends
+pub puts-join : {b b′ b″ t u : List ℕ} {at i j m n : ℕ} → Puts b at t m b′ i → Puts b′ i u n b″ j → Puts b at (t ++ u) (m + n) b″ j
+puts-join {b} {b′} {b″} {t} {u} {at} {i} {j} p q =
+    record {
+      is = q .is ∙ rw (p .is, p .ends) (sym (sets-append t u b at));
+      ends = let h = length-append t u in rw (q .ends, p .ends, h) (add-assoc at (length t) (length u));
+      short = let h = length-append t u in omega arith;
+    }
+
+-- a longer bound
+pub puts-most : {b b′ t : List ℕ} {at i m n : ℕ} → m ≤ n → Puts b at t m b′ i → Puts b at t n b′ i
+puts-most l p = record { is = p .is; ends = p .ends; short = omega arith }
+
+-- one more of several texts
+pub puts-next : {b b′ b″ : List ℕ} {at i j m n : ℕ} (f : ℕ → List ℕ) (k : ℕ) → Puts b at (times f k) m b′ i → Puts b′ i (f k) n b″ j → Puts b at (times f (k + 1)) (m + n) b″ j
+unfolding times
+puts-next f k p q = rw (add-one k) (puts-join p q)
+
+pub puts-first : (b : List ℕ) (at : ℕ) (f : ℕ → List ℕ) → Puts b at (times f 0) 0 b at
+unfolding times
+puts-first b at f = puts-none b at 0
+
+-- where the buffer has room, it begins with the text, and what stands after it is as it was
+pub puts-whole : {b b′ t : List ℕ} {i most : ℕ} → Puts b 0 t most b′ i → most ≤ length b → b′ ≡ t ++ drop i b
+puts-whole {b} {b′} {t} {i} p l = p .is ∙ sets-eq t b 0 (omega arith) ∙ rw (p .ends)
