@@ -1,0 +1,11 @@
+-- `plan_text::no_room` meets its contract. Assumes nothing.
+use mathlib.Core.Path.{refl}
+use borrow.Author.Needs.{needs}
+use Rattle.plan_text.proofs.no_room.Statement.{statement}
+use Rattle.plan_text.proofs.no_room.Tie as tie
+
+returns : tie.Need-returns
+returns c = refl
+
+pub no-room-spec : {M : Type 1} → statement M
+no-room-spec = tie.close (tie.spec returns)

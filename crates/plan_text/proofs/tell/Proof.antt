@@ -1,0 +1,15 @@
+-- `plan_text::tell` meets its contract. Assumes nothing.
+use mathlib.Core.Path.{refl}
+use Rattle.plan_text.specs.PlanTextLaws.{prints-path, prints-refusal}
+use borrow.Author.Needs.{needs}
+use Rattle.plan_text.proofs.tell.Statement.{statement}
+use Rattle.plan_text.proofs.tell.Tie as tie
+
+returns : tie.Need-returns
+returns c = prints-refusal (c .before .before .before .before .before .fate .given .1) (c .before .before .tell-refused .ensures)
+
+returns-2 : tie.Need-returns-2
+returns-2 c = prints-path (c .before .before .before .before .before .enum-told .given .1) refl (c .before .before .print-path .ensures)
+
+pub tell-spec : {M : Type 1} → statement M
+tell-spec = tie.close (tie.spec (λ c. search needs) (λ c κs. search needs) (λ c. search needs) (λ c κs. search needs) (λ c. search needs) returns (λ c. search needs) returns-2)

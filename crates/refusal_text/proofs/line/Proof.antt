@@ -1,0 +1,52 @@
+-- `refusal_text::line` meets its contract. Assumes nothing.
+use mathlib.Core.Path.{_≡_}
+use borrow.Author.Tests.{ne-eqb}
+use Rattle.refusal_text.specs.Sentences.{line}
+use Rattle.text_writer.specs.PutLaws.{puts-most}
+use borrow.Author.Needs.{needs}
+use native.Mathlib.Omega.{arith}
+use Rattle.refusal_text.proofs.line.Statement.{statement}
+use Rattle.refusal_text.proofs.line.Tie as tie
+
+slice-aggregate-put-all : tie.Need-slice-aggregate-put-all
+slice-aggregate-put-all c = search needs
+
+put-all-requires : tie.Need-put-all-requires
+put-all-requires c κs = search needs
+
+slice-aggregate-tell : tie.Need-slice-aggregate-tell
+slice-aggregate-tell c = search needs
+
+slice-aggregate-tell-2 : tie.Need-slice-aggregate-tell-2
+slice-aggregate-tell-2 c = search needs
+
+tell-requires : tie.Need-tell-requires
+tell-requires c κs = search needs
+
+same-length : tie.Need-same-length
+same-length c = search needs
+
+returns : tie.Need-returns
+unfolding line
+returns c = let e : c .before .before .before .before .before .before .before .args .place ≡ 0 = c .before .before .before .before .before .match .keys1 in rw e (puts-most (omega arith) (c .before .before .put-all .ensures))
+
+same-length-2 : tie.Need-same-length-2
+same-length-2 c = search needs
+
+returns-2 : tie.Need-returns-2
+unfolding line
+returns-2 c = simp (ne-eqb (c .before .before .before .before .before .before .before .before .args .place) 0 (c .before .before .before .before .before .before .match .rest .1)) (c .before .before .tell .ensures)
+
+pub line-spec : {M : Type 1} → statement M
+line-spec =
+    tie.close
+    (tie.spec
+    slice-aggregate-put-all
+    put-all-requires
+    slice-aggregate-tell
+    slice-aggregate-tell-2
+    tell-requires
+    same-length
+    returns
+    same-length-2
+    returns-2)

@@ -1,0 +1,1 @@
+-- The reader over a struct: its contracts cite the definitions of crate text.
