@@ -1,13 +1,13 @@
 -- Facts of the definitions of specs/Listing.antt and specs/Reader.antt that the reader's proofs cite. Assumes nothing.
-use Prim.Native.Nat.{ℕ, _+_, _≤_, _<_}
+use Prim.Native.Nat.{ℕ, _+_, _≤_}
 use native.Mathlib.Omega.{arith}
-use mathlib.Core.Path.{_≡_, refl, sym, _∙_}
+use mathlib.Core.Path.{_≡_, refl}
 use mathlib.Core.List.{List}
 use mathlib.Core.Bool.{Bool, true, false}
 use lib.Dec.{ltb, eqb}
 use lib.ListN.{length}
 use Rattle.common.specs.Iter.{iter, iter-stays}
-use Rattle.common.specs.declared.Fate.the-variants.{Going, Refused}
+use Rattle.common.specs.declared.Fate.the-variants.{Going}
 use Rattle.actuators.specs.declared.Actuators.{Actuators}
 use Rattle.actuators.specs.Maps.{noActuators}
 use Rattle.text.specs.declared.lines.Row.{Row}

@@ -3,20 +3,20 @@ use Prim.Native.Nat.{ℕ, zero, suc, _+_, _-_, _≤_, _<_, zero-le}
 use native.Mathlib.Omega.{arith}
 use native.Mathlib.Numerals.{add-one}
 use native.Mathlib.Nat.{add-assoc, le-of-lt, lt-of-not-le, sub-zero}
-use mathlib.Core.Path.{_≡_, refl, sym, _∙_}
+use mathlib.Core.Path.{_≡_, refl, sym}
 use mathlib.Core.List.{List, [], _∷_}
 use mathlib.Core.Bool.{Bool, true, false, _&&_}
 use lib.Dec.{ltb}
-use lib.ListN.{set, length, getD, drop, drop-of-length-le, List·getD-eq-default, length-set}
+use lib.ListN.{set, length, getD, drop, drop-of-length-le, List·getD-eq-default}
 use lib.Seq.{drop-cons}
 use lib.Ieee as Ieee
 use borrow.Author.Tests.{lt-ltb, le-ltb, le-leb, lt-leb, eq-eqb, ne-eqb}
-use Rattle.common.specs.declared.Limit.the-variants.{Nothing, At}
+use Rattle.common.specs.declared.Limit.the-variants.{Nothing}
 use Rattle.text.specs.declared.lines.Row.{Row}
 use Rattle.text.specs.declared.hex.Real.{Real}
 use Rattle.text.specs.declared.hex.Real.the-variants.{Is, Wrong}
-use Rattle.text.specs.Hex.{realAt, realNext, RealIs}
-use Rattle.text.specs.Lines.{isAt, IsAt, wordAt, WordIs, rowFrom, rowAt, RowIs, wrongRow, lineAt, limitLineAt, limited, pick, zeros}
+use Rattle.text.specs.Hex.{RealIs}
+use Rattle.text.specs.Lines.{isAt, IsAt, wordAt, WordIs, rowFrom, rowAt, RowIs, wrongRow, lineAt, limitLineAt, limited, zeros}
 
 suc-sub-one : (k : ℕ) → suc k - 1 ≡ k
 suc-sub-one k = omega arith

@@ -1,31 +1,48 @@
--- Document 01's example, and what is wrong with texts near it, read by the definition. Assumes nothing.
-use Prim.Native.Nat.{ℕ}
-use Prim.Native.String.{String}
+-- Document 01's example and texts near it, read by the definition; floats as they are written. Assumes nothing.
+use Prim.Native.String.{String, _++_}
 use mathlib.Core.Path.{_≡_, refl}
-use mathlib.Core.List.{List, _++_}
+use lib.Ieee.{nan, binary64, ofBits, ofFields, toBits}
 use Rattle.common.specs.Iter.{iter}
 use Rattle.common.specs.declared.Fate.{Fate}
 use Rattle.common.specs.declared.Fate.the-variants.{Going, Refused}
 use Rattle.actuators.specs.Maps.{noActuators}
 use Rattle.text.specs.Bytes.{bytes}
-use Rattle.text.specs.Hex.{digit, more, hexAt, realAt}
+use Rattle.text.specs.Hex.{digit, more, hexAt, realAt, digitByte, hexText, realText}
 use Rattle.text.specs.Lines.{isAt, wordAt, rowFrom, rowAt, lineAt, limitLineAt}
 use Rattle.text.specs.Listing.{itemAt, withWheel, withThruster, withPyramid, withItem, endAt, closeAt, nextLine, firstLine, listAt}
 use Rattle.text.specs.Reader.{line1, line2, line3, line4, line5, line6, line7, line8, firstWrong, fieldsOf, ended, afterFields, readProblem}
 
--- the example up to its line 6, then what stands there
-abbrev upTo6 : List ℕ
-upTo6 = bytes "(problem\n (q0 3FF 0 0 0)\n (qf 3FF 0 0 0)\n (inertia 3FF 0 0 0 3FF 0 0 0 3FF)\n (limit 3FF 3FF 3FF)\n"
+-- the example, with what stands for qf and from line 9 on
+abbrev text : String → String → String
+text qf list =
+    "(problem\n (q0 3FF 0 0 0)\n (qf " ++ qf ++ ")\n (inertia 3FF 0 0 0 3FF 0 0 0 3FF)\n (limit 3FF 3FF 3FF)\n (slew none)\n (weights 3FF 0 0 0 0 0)\n (tolerance 3EB 3EB)\n" ++ list
 
-abbrev sevenAnd8 : List ℕ
-sevenAnd8 = bytes " (weights 3FF 0 0 0 0 0)\n (tolerance 3EB 3EB)\n"
+abbrev Reads : String → Fate → Type 0
+Reads t f = readProblem (bytes t) .fate ≡ f
 
-abbrev text : String → String → List ℕ
-text slew list = upTo6 ++ bytes slew ++ sevenAnd8 ++ bytes list
+-- the paper's text; a zero that could be dropped; small letters; no line 9; no line feed; a line after the end; a list in another order
+examples :
+    Reads (text "3FF 0 0 0" " (actuators))\n") Going
+    × Reads (text "3FF0 0 0 0" " (actuators))\n") (Refused 21 3)
+    × Reads (text "3ff 0 0 0" " (actuators))\n") (Refused 21 3)
+    × Reads (text "3FF 0 0 0" "") (Refused 21 9)
+    × Reads (text "3FF 0 0 0" " (actuators))") (Refused 21 9)
+    × Reads (text "3FF 0 0 0" " (actuators))\n\n") (Refused 21 10)
+    × Reads (text "3FF 0 0 0" " (actuators\n  (thruster 0 0 0 0)\n  (wheel 0 0 0 0 0 none)))\n") (Refused 21 11)
+unfolding digit more hexAt realAt isAt wordAt rowFrom rowAt lineAt limitLineAt itemAt withWheel withThruster withPyramid withItem endAt closeAt nextLine firstLine listAt line1 line2 line3 line4 line5 line6 line7 line8 firstWrong fieldsOf ended afterFields readProblem iter noActuators
+examples = (refl, refl, refl, refl, refl, refl, refl)
 
-abbrev Reads : List ℕ → Fate → Type 0
-Reads s f = readProblem s .fate ≡ f
+abbrev eightWheels : String
+eightWheels = "  (wheel 0 0 0 0 0 none)\n  (wheel 0 0 0 0 0 none)\n  (wheel 0 0 0 0 0 none)\n  (wheel 0 0 0 0 0 none)\n  (wheel 0 0 0 0 0 none)\n  (wheel 0 0 0 0 0 none)\n  (wheel 0 0 0 0 0 none)\n  (wheel 0 0 0 0 0 none)\n"
 
-paper : Reads (text " (slew none)\n" " (actuators))\n") Going
-unfolding digit more hexAt realAt isAt wordAt rowFrom rowAt lineAt limitLineAt itemAt withWheel withThruster withPyramid withItem endAt closeAt nextLine firstLine listAt line1 line2 line3 line4 line5 line6 line7 line8 firstWrong fieldsOf ended afterFields readProblem iter
-paper = refl
+-- a ninth wheel is read and counted, so that the planner refuses the list; where its line is wrong, that comes first
+ninth :
+    (readProblem (bytes (text "3FF 0 0 0" (" (actuators\n" ++ eightWheels ++ "  (wheel 0 0 0 0 0 none)))\n"))) .problem .actuators .«wheel_count» ≡ 9)
+    × Reads (text "3FF 0 0 0" (" (actuators\n" ++ eightWheels ++ "  (wheel 0 0 0 0 none)))\n")) (Refused 21 18)
+unfolding digit more hexAt realAt isAt wordAt rowFrom rowAt lineAt limitLineAt itemAt withWheel withThruster withPyramid withItem endAt closeAt nextLine firstLine listAt line1 line2 line3 line4 line5 line6 line7 line8 firstWrong fieldsOf ended afterFields readProblem iter noActuators
+ninth = (refl, refl)
+
+-- 1, -0 and the NaN
+written : (realText (ofBits binary64 0x3ff0_0000_0000_0000) ≡ bytes "3FF") × (realText (ofBits binary64 0x8000_0000_0000_0000) ≡ bytes "8") × (realText nan ≡ bytes "7FF8")
+unfolding digitByte hexText toBits ofBits ofFields
+written = (refl, refl, refl)

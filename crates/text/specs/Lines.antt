@@ -7,7 +7,6 @@ use lib.Dec.{ltb, leb, eqb}
 use lib.ListN.{length, getD, set, replicate}
 use lib.Ieee.{Float, binary64, ofBits}
 use Rattle.common.specs.Lists as Lists
-use Rattle.common.specs.declared.Limit.{Limit}
 use Rattle.common.specs.declared.Limit.the-variants.{Nothing, At}
 use Rattle.text.specs.declared.hex.Real.{Real}
 use Rattle.text.specs.declared.hex.Real.the-variants.{Is, Wrong}

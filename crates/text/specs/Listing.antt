@@ -1,19 +1,14 @@
 -- The list of actuators in the program's text: wheels, then thrusters, then at most one pyramid, a line each. Definitions only.
 use Prim.Native.Nat.{ℕ, _+_}
-use mathlib.Core.Bool.{Bool, true, false, cond, not}
+use mathlib.Core.Bool.{Bool, true, false}
 use mathlib.Core.List.{List, [], _∷_}
 use lib.Dec.{ltb, eqb}
 use lib.ListN.{length, set}
 use lib.Ieee.{Float}
 use Rattle.common.specs.Iter.{iter}
 use Rattle.common.specs.Lists as Lists
-use Rattle.common.specs.declared.Fate.{Fate}
 use Rattle.common.specs.declared.Fate.the-variants.{Going, Refused}
-use Rattle.actuators.specs.declared.Wheel.{Wheel}
-use Rattle.actuators.specs.declared.Thruster.{Thruster}
-use Rattle.actuators.specs.declared.CmgPyramid.{CmgPyramid}
-use Rattle.actuators.specs.declared.Cmgs.{Cmgs}
-use Rattle.actuators.specs.declared.Cmgs.the-variants.{Without, With}
+use Rattle.actuators.specs.declared.Cmgs.the-variants.{With}
 use Rattle.actuators.specs.declared.Actuators.{Actuators}
 use Rattle.actuators.specs.Maps.{noActuators}
 use Rattle.text.specs.declared.lines.Row.{Row}

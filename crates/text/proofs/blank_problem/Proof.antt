@@ -1,5 +1,4 @@
 -- `text::blank_problem` meets its contract. Assumes nothing.
-use lib.Ieee as Ieee
 use borrow.Author.Needs.{needs}
 use Rattle.text.proofs.blank_problem.Statement.{statement}
 use Rattle.text.proofs.blank_problem.Tie as tie

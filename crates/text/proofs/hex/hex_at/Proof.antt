@@ -1,7 +1,7 @@
 -- `text::hex::hex_at` meets its contract. Assumes nothing.
-use Prim.Native.Nat.{ℕ, _+_, _≤_, _<_, _-_, _*_, _/_, _^_}
+use Prim.Native.Nat.{_+_, _≤_, _<_, _-_, _*_, _/_, _^_}
 use native.Mathlib.Omega.{arith}
-use mathlib.Core.Path.{_≡_, refl, sym, _∙_, ap}
+use mathlib.Core.Path.{_≡_, refl, sym, _∙_}
 use lib.ListN.{length, getD}
 use Rattle.text.specs.Hex.{digit, more, hexAt}
 use Rattle.text.specs.DigitLaws.{digit-within, more-step, more-stop, more-end, hexAt-step, hexAt-none, stops, sixteenth, weighed}

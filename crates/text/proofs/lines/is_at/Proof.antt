@@ -1,12 +1,11 @@
 -- `text::lines::is_at` meets its contract. Assumes nothing.
 use Rattle.text.proofs.Rows.{isAt-here, isAt-not, isAt-out, isAt-end, isAt-past, is-not}
-use Rattle.text.specs.Lines.{isAt, IsAt}
-use lib.ListN.{length, getD, drop}
-use mathlib.Core.Bool.{true, false}
-use mathlib.Core.Path.{_≡_, refl, sym, _∙_, ap}
+use Rattle.text.specs.Lines.{isAt}
+use lib.ListN.{length, drop}
+use mathlib.Core.Path.{_≡_, sym, _∙_}
 use native.Mathlib.Nat.{add-zero}
 use native.Mathlib.Omega.{arith}
-use Prim.Native.Nat.{ℕ, _+_, _≤_, _<_, _-_}
+use Prim.Native.Nat.{_+_, _≤_, _-_}
 use Rattle.text.proofs.lines.is_at.Statement.{statement}
 use Rattle.text.proofs.lines.is_at.Tie as tie
 

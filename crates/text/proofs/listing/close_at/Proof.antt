@@ -1,5 +1,4 @@
 -- `text::listing::close_at` meets its contract. Assumes nothing.
-use mathlib.Core.Path.{sym, _∙_}
 use Rattle.text.specs.Listing.{closeAt}
 use borrow.Author.Needs.{needs}
 use native.Mathlib.Omega.{arith}
