@@ -1,0 +1,142 @@
+#!/usr/bin/env python3
+"""Tests of slewtext: python3 tools/test_slewtext.py"""
+
+import importlib.machinery
+import importlib.util
+import math
+import os
+import random
+import struct
+import subprocess
+import sys
+import tempfile
+import unittest
+import xml.etree.ElementTree
+
+TOOL = os.path.join(os.path.dirname(os.path.abspath(__file__)), "slewtext")
+loader = importlib.machinery.SourceFileLoader("slewtext", TOOL)
+sys.dont_write_bytecode = True
+slewtext = importlib.util.module_from_spec(importlib.util.spec_from_loader("slewtext", loader))
+loader.exec_module(slewtext)
+
+QUARTER = {
+    "from": {"quaternion": [1, 0, 0, 0]},
+    "to": {"axis": [0, 0, 2], "degrees": 90},
+    "inertia_kgm2": [10, 12, 8],
+    "torque_limit_nm": [0.5, 0.5, 0.5],
+}
+
+
+def path_text(wheels=2):
+    node = " ".join(["0", "3FF"] + ["0"] * (12 + wheels))
+    lines = ["(path", " (runs 3)", " (iterations 1)", " (duration 3FF)"] + [" (row 3FE BFE)"] * 16 + [f" (node {node})"] * 17
+    return "\n".join(lines) + ")\n"
+
+
+def run(*words, text=""):
+    return subprocess.run([sys.executable, TOOL, *words], input=text, capture_output=True, text=True)
+
+
+class Floats(unittest.TestCase):
+    def test_known_words(self):
+        for x, word in ((0.0, "0"), (-0.0, "8"), (1.0, "3FF"), (10.0, "4024"), (0.5, "3FE"), (math.inf, "7FF"), (math.nan, "7FF8")):
+            self.assertEqual(slewtext.to_hex(x), word)
+
+    def test_every_float_comes_back(self):
+        draw = random.Random(1)
+        for _ in range(20000):
+            x = struct.unpack(">d", draw.randbytes(8))[0]
+            y = slewtext.from_hex(slewtext.to_hex(x))
+            self.assertTrue(x == y and math.copysign(1, x) == math.copysign(1, y) or math.isnan(x) and math.isnan(y))
+
+    def test_wrong_words(self):
+        for word in ("", "3ff", "3FG", "0" * 17, "-1"):
+            self.assertRaises(slewtext.Fault, slewtext.from_hex, word)
+
+
+class Problems(unittest.TestCase):
+    def test_quarter_turn(self):
+        lines = slewtext.problem_text(QUARTER).splitlines()
+        self.assertEqual(lines[0], "(problem")
+        self.assertEqual(lines[1], " (q0 3FF 0 0 0)")
+        self.assertEqual(lines[3], " (inertia 4024 0 0 0 4028 0 0 0 402)")
+        self.assertEqual(lines[5], " (slew none)")
+        self.assertEqual(lines[-1], " (actuators))")
+
+    def test_actuators_in_order(self):
+        wheel = {"axis": [1, 0, 0], "torque_nm": 0.5, "momentum_nms": 4}
+        lines = slewtext.problem_text(QUARTER | {
+            "thruster": [{"axis": [0, 1, 0], "torque_nm": 1}],
+            "wheel": [wheel, wheel | {"power_w": 1}],
+            "pyramid": {"skew_deg": 54.74, "momentum_nms": 1, "rate_deg_s": 60, "singularity_eps": 0.5},
+        }).splitlines()
+        self.assertEqual(lines[8], " (actuators")
+        self.assertEqual(lines[9], "  (wheel 3FF 0 0 3FE 401 none)")
+        self.assertEqual(lines[10], "  (wheel 3FF 0 0 3FE 401 3FF)")
+        self.assertEqual(lines[11], "  (thruster 0 3FF 0 3FF)")
+        self.assertTrue(lines[12].startswith("  (cmg ") and lines[12].endswith("))") and lines[12].count(")") == 3)
+
+    def test_bad_input_is_one_sentence(self):
+        bad = (
+            {"to": None}, {"inertia_kgm2": [1, 2]}, {"torque_limit_nm": "x"}, {"weights": {"speed": 1}}, {"wheel": [{"axis": [1, 0, 0]}]},
+            {"from": {"axis": [0, 0, 0], "degrees": 1}}, {"slew_limit_deg_s": True}, {"colour": 1}, {"wheel": 3},
+        )
+        for change in bad:
+            with self.assertRaises(slewtext.Fault) as caught:
+                slewtext.problem_text(QUARTER | change)
+            self.assertTrue(str(caught.exception).endswith("."), change)
+
+    def test_command(self):
+        with tempfile.NamedTemporaryFile("w", suffix=".toml") as file:
+            file.write("from = { axis = [0, 0, 1], degrees = 0 }\nto = { axis = [0, 0, 1], degrees = 90 }\ninertia_kgm2 = [10, 12, 8]\ntorque_limit_nm = [0.5, 0.5, 0.5]\n")
+            file.flush()
+            self.assertTrue(run("problem", file.name).stdout.startswith("(problem\n (q0 3FF 0 0 0)\n"))
+        fault = run("problem", "-", text="from = [")
+        self.assertEqual((fault.returncode, fault.stdout), (1, ""))
+        self.assertEqual(len(fault.stderr.splitlines()), 1)
+        self.assertEqual(run("fly").returncode, 2)
+
+
+class Answers(unittest.TestCase):
+    def test_path_as_csv(self):
+        lines = slewtext.path_csv(slewtext.read_path(path_text())).splitlines()
+        self.assertEqual(len(lines), 18)
+        self.assertEqual(lines[0].split(",")[-1], "wheel_1_nms")
+        self.assertEqual(lines[1], ",".join(["0.0", "1.0"] + ["0.0"] * 14))
+
+    def test_samples_as_csv(self):
+        text = "(samples\n (sample " + " ".join(["3FF"] * 14) + "))\n"
+        self.assertEqual(slewtext.csv(slewtext.NODE, slewtext.read_samples(text)).splitlines()[1], ",".join(["1.0"] * 14))
+
+    def test_a_damaged_path(self):
+        self.assertRaises(slewtext.Fault, slewtext.read_path, path_text().replace(" (row 3FE BFE)\n", "", 1))
+        self.assertRaises(slewtext.Fault, slewtext.read_path, "(refused\n (number 7)\n (place 0)\n (runs 0))\n")
+        self.assertRaises(slewtext.Fault, slewtext.read_path, "")
+
+    def test_every_refusal_has_a_sentence(self):
+        for number in range(1, 22):
+            for place in (0, 1, 2, 9, 16, 20):
+                said = slewtext.explain(f"(refused\n (number {number})\n (place {place})\n (runs 5))\n")
+                self.assertTrue(said.startswith(f"Refusal {number}, place {place}, after 5 forward runs. ") and said.endswith(".\n"))
+                self.assertNotIn("There is no refusal", said)
+
+    def test_a_path_is_explained(self):
+        self.assertEqual(slewtext.explain(path_text()), "A path of 1 s, found in 1 iterations and 3 forward runs.\n")
+
+
+class Drawings(unittest.TestCase):
+    def test_panels(self):
+        problem = slewtext.read_problem(slewtext.problem_text(QUARTER | {"slew_limit_deg_s": 5, "wheel": [{"axis": [1, 0, 0], "torque_nm": 0.5, "momentum_nms": 4}] * 3}))
+        self.assertEqual(problem["wheels"], [4.0, 4.0, 4.0])
+        svg = slewtext.drawing(slewtext.read_path(path_text(3)), problem)
+        root = xml.etree.ElementTree.fromstring(svg)
+        self.assertEqual(len([e for e in root if e.tag.endswith("polyline")]), 1 + 3 + 3 + 3)
+
+    def test_angle_left(self):
+        half = math.sqrt(0.5)
+        self.assertAlmostEqual(slewtext.turn_left([1, 0, 0, 0], [half, 0, 0, half]), 90.0)
+        self.assertAlmostEqual(slewtext.turn_left([-1, 0, 0, 0], [1, 0, 0, 0]), 0.0)
+
+
+if __name__ == "__main__":
+    unittest.main()
