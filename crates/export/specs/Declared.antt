@@ -20,6 +20,8 @@ use Rattle.actuators.specs.declared.Cmgs.the-variants.{Without, With}
 use Rattle.actuators.specs.declared.Actuators.{Actuators}
 use Rattle.actuators.specs.declared.ActuatorMap.{ActuatorMap}
 use Rattle.problem.specs.declared.Problem.{Problem}
+use Rattle.residuals.specs.Operations as Residuals
+use Rattle.residuals.specs.declared.Measured.{Measured}
 use Rattle.export.specs.Packed.{limit}
 
 -- count k
@@ -103,3 +105,7 @@ problem c v b limited = record {
   «tie_tolerance» = at b 28;
   actuators = actuators c v;
 }
+
+-- what `residuals` answers to such a problem and a packed decision
+abbrev pub measured : List ℕ → List Float → List Float → Bool → List Float → Measured
+measured c v b limited z = Residuals.residuals (problem c v b limited) z

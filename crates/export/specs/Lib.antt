@@ -4,3 +4,4 @@ pub mod Outcomes
 pub mod Systems
 pub mod Declared
 pub mod Paths
+pub mod Entries

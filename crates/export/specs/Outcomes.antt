@@ -60,6 +60,11 @@ abbrev pub numberOr : Answer Float → Float → Float
 numberOr (Given x) old = x
 numberOr (Refused n k runs) old = old
 
+-- the count given, or what stood there
+abbrev pub countOr : Answer ℕ → ℕ → ℕ
+countOr (Given n) old = n
+countOr (Refused n k runs) old = old
+
 -- the three switching numbers, or what stood there
 abbrev pub switchesOr : Switches → List Float → List Float
 switchesOr (Switches.Are acc coast peak) old = three acc coast peak

@@ -8,6 +8,7 @@ use Rattle.common.specs.declared.Limit.{Limit}
 use Rattle.common.specs.declared.Limit.the-variants.{Nothing, At}
 use Rattle.geom.specs.declared.Quat.{Quat}
 use Rattle.profile.specs.declared.Profile.{Profile}
+use Rattle.samples.specs.declared.PathSample.{PathSample}
 
 -- the attitude of four numbers
 abbrev pub quat : List Float → Quat
@@ -42,6 +43,15 @@ profile v = record {
   inertia = at v 9 ∷ at v 10 ∷ at v 11 ∷ at v 12 ∷ at v 13 ∷ at v 14 ∷ at v 15 ∷ at v 16 ∷ at v 17 ∷ [];
   q0 = Quats.quat (at v 18) (at v 19) (at v 20) (at v 21);
 }
+
+-- the numbers of a sample: time, attitude, rate, torque, body momentum
+unfoldable pub sampleNumbers : PathSample → List Float
+sampleNumbers s =
+    s .t ∷ s .q .w ∷ s .q .x ∷ s .q .y ∷ s .q .z
+    ∷ at (s .w) 0 ∷ at (s .w) 1 ∷ at (s .w) 2
+    ∷ at (s .tau) 0 ∷ at (s .tau) 1 ∷ at (s .tau) 2
+    ∷ at (s .h) 0 ∷ at (s .h) 1 ∷ at (s .h) 2
+    ∷ []
 
 -- the numbers of a profile
 unfoldable pub numbers : Profile → List Float

@@ -6,8 +6,11 @@ ghost use Rattle.geom.specs.Answers as Turns;
 ghost use Rattle.profile.specs.Profiles as Profiles;
 ghost use Rattle.profile.specs.Seeds as Seeds;
 ghost use Rattle.profile.specs.Answers as Answers;
+ghost use Rattle.planner.specs.Plans as Plans;
+ghost use Rattle.export.specs.Entries as Entries;
 ghost use Rattle.export.specs.Packed as Packed;
 ghost use Rattle.export.specs.Outcomes as Outcomes;
+use super::declared::problem_of;
 use super::pack::limit_of;
 use super::pack::numbers;
 use super::pack::profile_of;
@@ -15,6 +18,7 @@ use super::pack::quat;
 use super::pack::three;
 use super::shapes::put_turned;
 use common::Fate;
+use problem::CheckedProblem;
 use profile::Acceleration;
 use profile::Profiled;
 use profile::Switches;
@@ -190,4 +194,53 @@ pub extern "C" fn slew_sample_seed(p: &[f64; 22], rates: &mut [f64; 51], torques
     let u = s.torques;
     *rates = w;
     *torques = u;
+}
+
+// The profile of a problem that has passed checks 1 to 6.
+fn put_checked(p: CheckedProblem, out: &mut [f64; 22], place: &mut usize) -> usize
+    ensures { λ r. ⌜ r ≡ Outcomes.number (Outcomes.ofProfiled (Plans.profiled p)) ⌝ }
+    ensures { λ _. ⌜ now (out .exit) ≡ Outcomes.listOr (Outcomes.ofProfiled (Plans.profiled p)) (now (out .entry)) ⌝ }
+    ensures { λ _. ⌜ now (place .exit) ≡ Outcomes.place (Outcomes.ofProfiled (Plans.profiled p)) ⌝ }
+{
+    let inertia = p.inertia;
+    let limit = p.torque_limit;
+    let slew = p.slew;
+    let made = profile::bang_coast_bang(
+        p.q0,
+        p.qf,
+        geom::tensor(inertia),
+        limit,
+        slew,
+        p.tie_tolerance,
+    );
+    *place = place_of(made);
+    put_profile(made, out)
+}
+
+// The profile of a problem as declared, of which `plan` takes its seed: its alpha is what dense samples are asked for with.
+#[no_mangle]
+pub extern "C" fn slew_problem_profile(
+    c: &[usize; 11],
+    v: &[f64; 100],
+    b: &[f64; 29],
+    limited: bool,
+    out: &mut [f64; 22],
+    place: &mut usize,
+) -> usize
+    ensures { λ r. ⌜ r ≡ Outcomes.number (Entries.profile (now (c .entry)) (now (v .entry)) (now (b .entry)) limited) ⌝ }
+    ensures { λ _. ⌜ now (out .exit) ≡ Outcomes.listOr (Entries.profile (now (c .entry)) (now (v .entry)) (now (b .entry)) limited) (now (out .entry)) ⌝ }
+    ensures { λ _. ⌜ now (place .exit) ≡ Outcomes.place (Entries.profile (now (c .entry)) (now (v .entry)) (now (b .entry)) limited) ⌝ }
+{
+    let checked = problem::check(problem_of(c, v, b, limited));
+    let fate = checked.fate;
+    match fate {
+        Fate::Refused(number, k) => {
+            *place = k;
+            number
+        }
+        Fate::Going => {
+            let p = checked.problem;
+            put_checked(p, out, place)
+        }
+    }
 }

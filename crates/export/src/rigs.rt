@@ -1,6 +1,7 @@
 // actuators, controls: what is declared, prepared; rows of controls. Each takes what a user declares (see declared.rt); the map is that of `prepare`, which is
 // blank where it refuses.
 ghost use mathlib.Core.Path.{_≡_};
+ghost use Rattle.actuators.specs.Maps as Maps;
 ghost use Rattle.actuators.specs.Prepare as Prepare;
 ghost use Rattle.actuators.specs.Allocate as Allocate;
 ghost use Rattle.actuators.specs.Pyramid as Pyramid;
@@ -37,6 +38,28 @@ pub extern "C" fn slew_prepare(
     *wheel_axes = ws;
     *thruster_axes = ts;
     *place = place_of(fate);
+    number_of(fate)
+}
+
+// Controls in a row.
+#[no_mangle]
+pub extern "C" fn slew_control_dim(c: &[usize; 11], v: &[f64; 100]) -> usize
+    ensures { λ r. ⌜ r ≡ Maps.controlDim (Declared.map (now (c .entry)) (now (v .entry))) ⌝ }
+{
+    let map = map_of(c, v);
+    actuators::control_dim(map)
+}
+
+// A pyramid's Jacobian by rows; zeros where an angle is outside.
+#[no_mangle]
+pub extern "C" fn slew_pyramid_a(skew: f64, delta: &[f64; 4], out: &mut [f64; 12]) -> usize
+    ensures { λ r. ⌜ r ≡ Paths.number (Pyramid.pyramidA skew (now (delta .entry)) .fate) ⌝ }
+    ensures { λ _. ⌜ now (out .exit) ≡ Pyramid.pyramidA skew (now (delta .entry)) .a ⌝ }
+{
+    let made = actuators::pyramid::pyramid_a(skew, *delta);
+    let fate = made.fate;
+    let a = made.a;
+    *out = a;
     number_of(fate)
 }
 
@@ -152,6 +175,20 @@ pub extern "C" fn slew_momentum_excess(
 {
     let map = map_of(c, v);
     controls::momentum_excess(map, wheel_momenta)
+}
+
+// Each wheel's rate of momentum under a row u, zeros past the wheels.
+#[no_mangle]
+pub extern "C" fn slew_wheel_momentum_rates(
+    c: &[usize; 11],
+    v: &[f64; 100],
+    u: &[f64],
+    out: &mut [f64; 8],
+)
+    ensures { λ _. ⌜ now (out .exit) ≡ Operations.wheelMomentumRates (Declared.map (now (c .entry)) (now (v .entry))) (now (u .entry)) ⌝ }
+{
+    let map = map_of(c, v);
+    *out = controls::wheel_momentum_rates(map, u);
 }
 
 // The momentum stored in the wheels, in the body's axes.

@@ -1,7 +1,8 @@
 // The stored cases' text: words in hexadecimal, one blank or line feed after each.
 
 ghost use mathlib.Core.Path.{_≡_};
-ghost use Prim.Native.Nat.{_<_};
+ghost use Prim.Native.Nat.{_<_, _≤_};
+ghost use lib.ListN.{length};
 
 // A word and where the next one starts; `open` while its digits go on.
 pub struct Word {
@@ -170,53 +171,112 @@ pub fn same4(v: &[u64; 1024], k: usize, x: [f64; 4]) -> bool
     same(v, k, x[0]) && same(v, k + 1, x[1]) && same(v, k + 2, x[2]) && same(v, k + 3, x[3])
 }
 
-// Whether the 9 floats from k on are these.
-pub fn same9(v: &[u64; 1024], k: usize, x: &[f64; 9]) -> bool
-    requires { ⌜ k < 900 ⌝ }
+// Whether the floats from k on are these.
+pub fn same_all(v: &[u64; 1024], k: usize, x: &[f64]) -> bool
+    requires { ⌜ (k < 900) × (length (now x) ≤ 1000) ⌝ }
 {
     let mut all = true;
     let mut i: usize = 0;
-    while i < 9 {
+    while i < x.len() {
         all = all & same(v, k + i, x[i]);
         i += 1;
     }
     all
+}
+
+// Whether the 8 floats from k on are these.
+pub fn same8(v: &[u64; 1024], k: usize, x: &[f64; 8]) -> bool
+    requires { ⌜ k < 900 ⌝ }
+{
+    same_all(v, k, x)
+}
+
+// Whether the 9 floats from k on are these.
+pub fn same9(v: &[u64; 1024], k: usize, x: &[f64; 9]) -> bool
+    requires { ⌜ k < 900 ⌝ }
+{
+    same_all(v, k, x)
+}
+
+// Whether the 12 floats from k on are these.
+pub fn same12(v: &[u64; 1024], k: usize, x: &[f64; 12]) -> bool
+    requires { ⌜ k < 900 ⌝ }
+{
+    same_all(v, k, x)
+}
+
+// Whether the 14 floats from k on are these.
+pub fn same14(v: &[u64; 1024], k: usize, x: &[f64; 14]) -> bool
+    requires { ⌜ k < 900 ⌝ }
+{
+    same_all(v, k, x)
+}
+
+// Whether the 20 floats from k on are these.
+pub fn same20(v: &[u64; 1024], k: usize, x: &[f64; 20]) -> bool
+    requires { ⌜ k < 900 ⌝ }
+{
+    same_all(v, k, x)
 }
 
 // Whether the 22 floats from k on are these.
 pub fn same22(v: &[u64; 1024], k: usize, x: &[f64; 22]) -> bool
     requires { ⌜ k < 900 ⌝ }
 {
-    let mut all = true;
-    let mut i: usize = 0;
-    while i < 22 {
-        all = all & same(v, k + i, x[i]);
-        i += 1;
-    }
-    all
+    same_all(v, k, x)
+}
+
+// Whether the 24 floats from k on are these.
+pub fn same24(v: &[u64; 1024], k: usize, x: &[f64; 24]) -> bool
+    requires { ⌜ k < 900 ⌝ }
+{
+    same_all(v, k, x)
+}
+
+// Whether the 36 floats from k on are these.
+pub fn same36(v: &[u64; 1024], k: usize, x: &[f64; 36]) -> bool
+    requires { ⌜ k < 900 ⌝ }
+{
+    same_all(v, k, x)
 }
 
 // Whether the 51 floats from k on are these.
 pub fn same51(v: &[u64; 1024], k: usize, x: &[f64; 51]) -> bool
     requires { ⌜ k < 900 ⌝ }
 {
-    let mut all = true;
+    same_all(v, k, x)
+}
+
+// Whether the 79 floats from k on are these.
+pub fn same79(v: &[u64; 1024], k: usize, x: &[f64; 79]) -> bool
+    requires { ⌜ k < 900 ⌝ }
+{
+    same_all(v, k, x)
+}
+
+// Whether the 193 floats from k on are these.
+pub fn same193(v: &[u64; 1024], k: usize, x: &[f64; 193]) -> bool
+    requires { ⌜ k < 900 ⌝ }
+{
+    same_all(v, k, x)
+}
+
+// Puts the floats from k on into out.
+pub fn reals(v: &[u64; 1024], k: usize, out: &mut [f64])
+    requires { ⌜ (k < 900) × (length (now out) ≤ 1000) ⌝ }
+{
+    let n = out.len();
     let mut i: usize = 0;
-    while i < 51 {
-        all = all & same(v, k + i, x[i]);
+    while i < n {
+        out[i] = real(v, k + i);
         i += 1;
     }
-    all
 }
 
 // The 22 floats of a profile.
 pub fn profile(v: &[u64; 1024]) -> [f64; 22] {
     let mut p = [0.0; 22];
-    let mut i: usize = 0;
-    while i < 22 {
-        p[i] = real(v, i);
-        i += 1;
-    }
+    reals(v, 0, &mut p);
     p
 }
 

@@ -86,6 +86,33 @@ unsafe extern "C" {
         place: &mut usize,
         runs: &mut usize,
     ) -> usize;
+    pub safe fn slew_residuals(
+        c: &Counts,
+        v: &Numbers,
+        b: &[f64; 29],
+        limited: bool,
+        z: &[f64; 193],
+        out: &mut [f64; 79],
+        count: &mut usize,
+        place: &mut usize,
+        runs: &mut usize,
+    ) -> usize;
+    #[cfg(feature = "plans")]
+    pub safe fn slew_sample_count(duration: f64, requested: usize, alpha: f64, out: &mut usize) -> usize;
+    #[cfg(feature = "plans")]
+    pub safe fn slew_sample_path(
+        j: &A9,
+        tolerance: f64,
+        duration: f64,
+        nodes: &[[f64; 22]; 17],
+        requested: usize,
+        alpha: f64,
+        index: usize,
+        out: &mut [f64; 14],
+        place: &mut usize,
+    ) -> usize;
+    pub safe fn slew_control_dim(c: &Counts, v: &Numbers) -> usize;
+    pub safe fn slew_pyramid_a(skew: f64, delta: &A4, out: &mut [f64; 12]) -> usize;
 }
 
 mod rows {
@@ -96,6 +123,7 @@ mod rows {
         pub fn slew_power_excess(c: &Counts, v: &Numbers, u: *const f64, n: usize, w: &A3) -> f64;
         pub fn slew_momentum_excess(c: &Counts, v: &Numbers, hw: *const f64, n: usize) -> f64;
         pub fn slew_body_momentum(c: &Counts, v: &Numbers, hw: *const f64, n: usize, out: &mut A3);
+        pub fn slew_wheel_momentum_rates(c: &Counts, v: &Numbers, u: *const f64, n: usize, out: &mut [f64; 8]);
     }
 }
 
@@ -118,6 +146,10 @@ pub fn slew_momentum_excess(c: &Counts, v: &Numbers, hw: &[f64]) -> f64 {
 
 pub fn slew_body_momentum(c: &Counts, v: &Numbers, hw: &[f64], out: &mut A3) {
     unsafe { rows::slew_body_momentum(c, v, hw.as_ptr(), hw.len(), out) }
+}
+
+pub fn slew_wheel_momentum_rates(c: &Counts, v: &Numbers, u: &[f64], out: &mut [f64; 8]) {
+    unsafe { rows::slew_wheel_momentum_rates(c, v, u.as_ptr(), u.len(), out) }
 }
 
 /// Functions over slices: a slice is a pointer and a length there.
@@ -148,4 +180,68 @@ pub fn slew_solve_dense(a: &mut [f64], b: &mut [f64]) -> bool {
 pub fn slew_damped_step(v: &mut [f64], m: usize, r: &[f64], lambda: f64, g: &mut [f64]) -> bool {
     // three slices that do not overlap, each with its own length
     unsafe { slices::slew_damped_step(v.as_mut_ptr(), v.len(), m, r.as_ptr(), r.len(), lambda, g.as_mut_ptr(), g.len()) }
+}
+
+/// What an entry of the planner fills: place, runs, controls, wheels, iterations; duration; decision; nodes.
+pub struct Planned {
+    pub counts: [usize; 5],
+    pub duration: f64,
+    pub z: [f64; 193],
+    pub nodes: [[f64; 22]; 17],
+}
+
+#[cfg(feature = "plans")]
+mod entries {
+    use super::{Counts, Numbers};
+    unsafe extern "C" {
+        pub fn slew_plan_numbers(
+            c: &Counts,
+            v: &Numbers,
+            b: &[f64; 29],
+            limited: bool,
+            ws: *mut f64,
+            ws_len: usize,
+            counts: &mut [usize; 5],
+            duration: &mut f64,
+            z: &mut [f64; 193],
+            nodes: &mut [[f64; 22]; 17],
+        ) -> usize;
+        pub fn slew_plan_from_numbers(
+            c: &Counts,
+            v: &Numbers,
+            b: &[f64; 29],
+            limited: bool,
+            seed_duration: f64,
+            rates: *const f64,
+            rates_len: usize,
+            torques: *const f64,
+            torques_len: usize,
+            ws: *mut f64,
+            ws_len: usize,
+            counts: &mut [usize; 5],
+            duration: &mut f64,
+            z: &mut [f64; 193],
+            nodes: &mut [[f64; 22]; 17],
+        ) -> usize;
+    }
+}
+
+/// Our entry's seed; the workspace is a slice.
+#[cfg(feature = "plans")]
+pub fn slew_plan_numbers(flat: &crate::maps::Flat, b: &[f64; 29], limited: bool, ws: &mut [f64], o: &mut Planned) -> usize {
+    let (c, v) = (&flat.counts, &flat.numbers);
+    unsafe { entries::slew_plan_numbers(c, v, b, limited, ws.as_mut_ptr(), ws.len(), &mut o.counts, &mut o.duration, &mut o.z, &mut o.nodes) }
+}
+
+/// A caller's seed: three slices that do not overlap.
+#[cfg(feature = "plans")]
+pub fn slew_plan_from_numbers(flat: &crate::maps::Flat, b: &[f64; 29], limited: bool, seed: &crate::plans::Seed, ws: &mut [f64], o: &mut Planned) -> usize {
+    let (c, v, rates, torques) = (&flat.counts, &flat.numbers, &seed.rates, &seed.torques);
+    let (r, t) = ((rates.as_ptr(), rates.len()), (torques.as_ptr(), torques.len()));
+    let lent = (ws.as_mut_ptr(), ws.len());
+    unsafe {
+        entries::slew_plan_from_numbers(
+            c, v, b, limited, seed.duration, r.0, r.1, t.0, t.1, lent.0, lent.1, &mut o.counts, &mut o.duration, &mut o.z, &mut o.nodes,
+        )
+    }
 }

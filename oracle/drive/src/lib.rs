@@ -8,7 +8,10 @@ pub mod words;
 pub mod courses;
 pub mod leaves;
 pub mod maps;
+pub mod plans;
 pub mod runs;
+#[cfg(feature = "plans")]
+pub mod samples;
 pub mod shapes;
 #[cfg(feature = "systems")]
 pub mod systems;

@@ -34,12 +34,16 @@ fn options() -> Result<Options, String> {
 /// Inputs, skipped, mismatches.
 type Counts = (u64, u64, u64);
 
+/// Where the answers differ, and the input as it would be stored.
 fn show(entry: &Entry, inputs: &Words, ours: &Words, rust: &Words) {
-    println!("  {}: ours differs from the Rust", entry.name);
-    for (what, words) in [("in  ", inputs), ("ours", ours), ("rust", rust)] {
-        let text: Vec<String> = words.0.iter().map(|w| format!("{w:016x} ({:e})", f64::from_bits(*w))).collect();
-        println!("    {what} {}", text.join(" "));
+    println!("  {}: ours has {} words, the Rust {}", entry.name, ours.0.len(), rust.0.len());
+    let differ = (0..ours.0.len().max(rust.0.len())).filter(|k| ours.0.get(*k) != rust.0.get(*k));
+    for k in differ.take(4) {
+        let told = |w: Option<&u64>| w.map_or("nothing".to_string(), |w| format!("{w:016x} ({:e})", f64::from_bits(*w)));
+        println!("    word {k}: ours {} the Rust {}", told(ours.0.get(k)), told(rust.0.get(k)));
     }
+    let text: Vec<String> = inputs.0.iter().map(|w| format!("{w:x}")).collect();
+    println!("    in {}", text.join(" "));
 }
 
 fn compare(entry: &Entry, count: u64, seed: u64) -> Counts {
@@ -65,7 +69,7 @@ fn compare(entry: &Entry, count: u64, seed: u64) -> Counts {
             wrong += 1;
         }
     }
-    if entry.number >= 300 {
+    if entry.refuses() {
         let told: Vec<String> = (0..22).filter(|n| refusals[*n] > 0).map(|n| format!("{n}: {}", refusals[n])).collect();
         println!("  {}, answers by refusal number (0: given): {}", entry.name, told.join(", "));
     }
@@ -146,6 +150,8 @@ fn main() -> ExitCode {
     let all = leaves::LEAVES.iter().chain(&shapes::SHAPES).chain(&courses::COURSES).chain(&runs::RUNS);
     #[cfg(feature = "systems")]
     let all = all.chain(&systems::SYSTEMS);
+    #[cfg(feature = "plans")]
+    let all = all.chain(&drive::plans::PLANS).chain(&drive::samples::SAMPLES);
     let chosen: Vec<&Entry> = all.filter(|entry| options.only.as_ref().is_none_or(|name| entry.name == name)).collect();
     if let Some(path) = &options.store {
         return match store(&chosen, path, options.seed) {
@@ -169,6 +175,13 @@ fn main() -> ExitCode {
         let (count, singular, bad) = systems::compare(count, options.seed, largest);
         println!("{:24} {count:>11} systems of up to {largest}, {singular} singular {bad:>6} mismatches", "normal equations, step");
         inputs += count;
+        wrong += bad;
+    }
+    #[cfg(feature = "plans")]
+    if options.only.is_none() || options.only.as_deref() == Some("lists") {
+        let (count, samples, stopped, bad) = drive::samples::lists(if options.full { 20_000 } else { 500 }, options.seed);
+        println!("{:24} {count:>11} lists of samples, {samples} samples, {stopped} lists refused {bad:>6} mismatches", "dense samples");
+        inputs += samples;
         wrong += bad;
     }
     if options.only.is_none() {

@@ -1,12 +1,14 @@
-//! Actuators, control rows and forward runs: actuators.rs, and `reconstruct` of scvx.rs.
+//! Actuators, control rows, forward runs and residuals: actuators.rs, `reconstruct` and `residuals` of scvx.rs.
 
 use crate::ffi::*;
 use crate::maps::{self, Flat};
 use crate::random::Random;
 use crate::words::{Entry, Reader, Words, refusal};
 use quatopsy_plan::PlanError;
-use quatopsy_plan::probe::{self as rust, Given, Map, Task};
+use quatopsy_plan::probe::{self as rust, Given, Map, Nodes, Task};
+use quatopsy_plan::counted::probe as counted;
 use quatopsy_plan::scvx::probe as scvx;
+use quatopsy_plan::tally;
 
 /// The number and place of a refusal by `prepare`: the Rust's words name no actuator, so each is prepared alone to find the first that is refused.
 fn refused_place(given: &Given, err: PlanError) -> (u64, u64) {
@@ -26,11 +28,15 @@ fn prepared(flat: &Flat) -> Result<Map, (u64, u64)> {
     rust::prepare(&given).map_err(|err| refused_place(&given, err))
 }
 
+/// Numbers that a row has in a case, zeros past its length.
+const ROW: usize = 24;
+
 /// A row as wide as the actuators want it: within a few times their limits, or hostile.
 fn row(r: &mut Random, w: &mut Words, width: usize) {
     let hostile = r.one_in(6);
     w.n(width as u64);
     (0..width).for_each(|_| w.f(if hostile { r.hostile() } else { r.tame() }));
+    (width..ROW).for_each(|_| w.f(0.0));
 }
 
 fn three(r: &mut Random) -> [f64; 3] {
@@ -45,10 +51,18 @@ fn four(r: &mut Random) -> [f64; 4] {
     }
 }
 
-/// A list from the inputs: its length, then its numbers.
+/// A row from the inputs: its length, then its numbers.
 fn list(r: &mut Reader<'_>) -> Vec<f64> {
     let n = r.n() as usize;
-    r.list(n)
+    let mut u = r.list(ROW);
+    u.truncate(n);
+    u
+}
+
+/// Zeros up to n numbers.
+fn padded(mut v: Vec<f64>, n: usize) -> Vec<f64> {
+    v.resize(n, 0.0);
+    v
 }
 
 /// The Rust's value on the map of sound actuators, 11 where an angle was outside; no answer where `prepare` refuses.
@@ -68,7 +82,7 @@ fn by_map(i: &[u64], o: &mut Words, of: impl FnOnce(&Map, &mut Reader<'_>) -> Re
 }
 
 /// A problem's other numbers: q0, qf, inertia, limits, slew, weights, tolerances.
-fn body(r: &mut Random) -> [f64; 29] {
+pub fn body(r: &mut Random) -> [f64; 29] {
     let mut b = [0.0; 29];
     b[..4].copy_from_slice(&r.attitude());
     b[4..8].copy_from_slice(&r.attitude());
@@ -77,6 +91,10 @@ fn body(r: &mut Random) -> [f64; 29] {
     b[17..21].copy_from_slice(&[0.1 + r.unit(), 0.1 + r.unit(), 0.1 + r.unit(), 0.1 + r.unit()]);
     (21..27).for_each(|k| b[k] = r.unit());
     b[27..].copy_from_slice(if r.one_in(4) { &[1.0e-12, 1.0e-9] } else { &[1.0e-5, 1.0e-6] });
+    if r.one_in(12) {
+        let at = 17 + r.below(12) as usize;
+        b[at] = r.hostile();
+    }
     b
 }
 
@@ -109,32 +127,20 @@ fn narrow(r: &mut Random) -> Flat {
     }
 }
 
-/// The step in which the gimbals' angles are first outside, if they are: the sums as `reconstruct` forms them.
-fn outside_gimbals(task: &Task, z: &[f64]) -> Option<u64> {
-    let width = task.map.control_dim();
-    let dt = z[0] / 16.0;
-    let mut delta = [0.0; 4];
-    (0..16).find(|k| {
-        let at = 1 + (*k as usize + 1) * width - 4;
-        (0..4).for_each(|g| delta[g] += z[at + g] * dt);
-        delta.iter().any(|d: &f64| !(d.abs() <= 1024.0))
-    })
+/// Check 4: limits finite and above 0, weights finite and not below 0, tolerances inside 0 to 1. The Rust has none of it.
+fn numbers_fit(b: &[f64; 29], limited: bool) -> bool {
+    let limits = b[17..20].iter().chain(limited.then_some(&b[20])).all(|x| x.is_finite() && *x > 0.0);
+    let weights = b[21..27].iter().all(|x| x.is_finite() && *x >= 0.0);
+    limits && weights && b[27..].iter().all(|x| *x > 0.0 && *x < 1.0)
 }
 
-/// Number and place of a run that did not end well.
-fn stopped(task: &Task, z: &[f64], outside: Option<u64>, steps: u64, err: Option<PlanError>) -> (u64, u64) {
-    if let Some(after) = outside {
-        let swung = task.map.given().cmgs.and_then(|_| outside_gimbals(task, z));
-        return (11, if swung.is_some_and(|k| k + 1 == after) { after - 1 } else { after });
-    }
-    let (number, _) = refusal(&rust::words(err.expect("a refusal")));
-    (number, if number == 5 { 2 } else { steps.wrapping_sub(1) })
-}
-
-/// Checks 1 to 6 in document 01's order, then 8 for a row of more than 12.
-fn checked(flat: &Flat, b: &[f64; 29], limited: bool) -> Result<Task, (u64, u64)> {
+/// Checks 1 to 6 in document 01's order.
+pub fn checked(flat: &Flat, b: &[f64; 29], limited: bool) -> Result<Task, (u64, u64)> {
     quatopsy_schema::set_tolerances(b[27], b[28]);
     let map = prepared(flat)?;
+    if !numbers_fit(b, limited) {
+        return Err((4, 0));
+    }
     let (mut start, mut end) = ([0.0; 4], [0.0; 4]);
     start.copy_from_slice(&b[..4]);
     end.copy_from_slice(&b[4..8]);
@@ -142,46 +148,88 @@ fn checked(flat: &Flat, b: &[f64; 29], limited: bool) -> Result<Task, (u64, u64)
     let qf = rust::q_normalized(end).map_err(|_| (5, 1))?;
     let inertia = std::array::from_fn(|i| std::array::from_fn(|k| b[8 + 3 * i + k]));
     rust::invert_spd(inertia).map_err(|_| (6, 0))?;
-    if map.control_dim() > 12 {
-        return Err((8, 0));
-    }
     let weights = std::array::from_fn(|k| b[21 + k]);
     Ok(Task { q0, qf, inertia, limit: [b[17], b[18], b[19]], slew: limited.then_some(b[20]), weights, map })
 }
 
-fn run_by_rust(i: &[u64], o: &mut Words) -> bool {
+/// The same, then 8 for a row of more than 12.
+fn admitted(flat: &Flat, b: &[f64; 29], limited: bool) -> Result<Task, (u64, u64)> {
+    let task = checked(flat, b, limited)?;
+    if task.map.control_dim() > 12 { Err((8, 0)) } else { Ok(task) }
+}
+
+/// Of the published file and of the copy that counts, a run or its residuals.
+type Both<T> = [fn(&Task, &[f64]) -> Result<T, PlanError>; 2];
+
+/// The Rust's answer on a checked task: number, place and runs, then what was given. Where it stopped, the copy that counts tells.
+fn told<T>(i: &[u64], o: &mut Words, [published, copy]: Both<T>, put: fn(&Task, T, &mut Words)) -> bool {
     let mut r = Reader(i);
     let (flat, b, limited, z) = (Flat::take(&mut r), r.a::<29>(), r.n() != 0, r.a::<193>());
-    let task = match checked(&flat, &b, limited) {
+    let task = match admitted(&flat, &b, limited) {
         Ok(task) => task,
         Err((number, place)) => {
             [number, place, 0].iter().for_each(|n| o.n(*n));
             return true;
         }
     };
-    libm::outside_after();
-    libm::steps();
-    let answer = scvx::run(&task, &z[..1 + 16 * task.map.control_dim()]);
-    let (outside, steps) = (libm::outside_after(), libm::steps());
+    let z = &z[..1 + 16 * task.map.control_dim()];
+    libm::outside_at();
+    let answer = published(&task, z);
     match answer {
-        Ok(nodes) if outside.is_none() => {
+        Ok(given) if !libm::was_outside() => {
             [0, 0, 1].iter().for_each(|n| o.n(*n));
-            o.f(nodes.defect);
-            for k in 0..17 {
-                o.f(nodes.times[k]);
-                o.all(&nodes.quats[k]);
-                o.all(&nodes.omegas[k]);
-                o.all(&nodes.torques[k]);
-                o.all(&nodes.momenta[k]);
-                (0..8).for_each(|j| o.f(nodes.wheels[k].get(j).copied().unwrap_or(0.0)));
-            }
+            put(&task, given, o);
         }
-        other => {
-            let (number, place) = stopped(&task, &z, outside, steps, other.err());
+        _ => {
+            libm::outside_at();
+            tally::begin(false);
+            let (err, stood) = (copy(&task, z).err(), tally::end().step);
+            let (number, place) = libm::outside_at().map_or_else(|| stopped(err, stood), |(_, place)| (11, place));
             [number, place, 1].iter().for_each(|n| o.n(*n));
         }
     }
     true
+}
+
+/// Number and place of a refused run: 5 has place 2, the others their step.
+fn stopped(err: Option<PlanError>, step: u64) -> (u64, u64) {
+    let (number, _) = refusal(&rust::words(err.expect("a refusal")));
+    (number, if number == 5 { 2 } else { step })
+}
+
+fn run_by_rust(i: &[u64], o: &mut Words) -> bool {
+    told(i, o, [scvx::run, counted::run], |_, nodes, o| {
+        o.f(nodes.defect);
+        put_nodes(&nodes, o);
+    })
+}
+
+/// 17 nodes of 22 numbers, +0 past the wheels.
+pub fn put_nodes(nodes: &Nodes, o: &mut Words) {
+    for k in 0..17 {
+        o.f(nodes.times[k]);
+        o.all(&nodes.quats[k]);
+        o.all(&nodes.omegas[k]);
+        o.all(&nodes.torques[k]);
+        o.all(&nodes.momenta[k]);
+        (0..8).for_each(|j| o.f(nodes.wheels[k].get(j).copied().unwrap_or(0.0)));
+    }
+}
+
+/// The Rust sums the squares of no wheels' momenta from -0.0, ours from +0: with no wheels a zero of the last residual counts as +0, on both sides.
+fn last_of_no_wheels(wheels: usize, r: &mut [f64]) {
+    if let (0, Some(last)) = (wheels, r.last_mut()) {
+        *last += 0.0;
+    }
+}
+
+fn residuals_by_rust(i: &[u64], o: &mut Words) -> bool {
+    told(i, o, [scvx::residual_list, counted::residual_list], |task, mut r, o| {
+        o.n(r.len() as u64);
+        last_of_no_wheels(task.map.given().wheels.len(), &mut r);
+        o.all(&r);
+        (r.len()..79).for_each(|_| o.f(0.0));
+    })
 }
 
 fn run_by_port(i: &[u64], o: &mut Words) {
@@ -198,13 +246,40 @@ fn run_by_port(i: &[u64], o: &mut Words) {
     }
 }
 
-pub const RUNS: [Entry; 8] = [
+fn residuals_by_port(i: &[u64], o: &mut Words) {
+    let mut r = Reader(i);
+    let (flat, b, limited, z) = (Flat::take(&mut r), r.a::<29>(), r.n() != 0, r.a::<193>());
+    let (mut out, mut count, mut place, mut runs) = ([1.0; 79], 77, 77, 77);
+    let number = slew_residuals(&flat.counts, &flat.numbers, &b, limited, &z, &mut out, &mut count, &mut place, &mut runs);
+    [number, place, runs].iter().for_each(|n| o.n(*n as u64));
+    if number == 0 {
+        o.n(count as u64);
+        last_of_no_wheels(flat.counts[0], &mut out[..count]);
+        o.all(&out);
+    } else {
+        assert!(count == 0 && out.iter().all(|x| x.to_bits() == 0), "refused residuals are zeros");
+    }
+}
+
+/// A problem and a decision. One in two has no pointing weight.
+fn task(r: &mut Random, w: &mut Words) {
+    narrow(r).put(w);
+    let mut b = body(r);
+    if r.one_in(2) {
+        b[24] = [0.0, -0.0][r.below(2) as usize];
+    }
+    w.all(&b);
+    w.n(r.below(2));
+    w.all(&decision(r));
+}
+
+pub const RUNS: [Entry; 12] = [
     Entry {
-        number: 300,
+        number: 100,
         name: "prepare",
         quick: 100_000,
         full: 2_000_000,
-        kept: 0,
+        kept: 20,
         make: |r, w| maps::hostile(r).put(w),
         ours: |i, o| {
             let flat = Flat::take(&mut Reader(i));
@@ -227,11 +302,11 @@ pub const RUNS: [Entry; 8] = [
         },
     },
     Entry {
-        number: 301,
+        number: 101,
         name: "body_torque",
         quick: 100_000,
         full: 2_000_000,
-        kept: 0,
+        kept: 20,
         make: |r, w| {
             let flat = maps::sound(r);
             flat.put(w);
@@ -250,11 +325,11 @@ pub const RUNS: [Entry; 8] = [
         rust: |i, o| by_map(i, o, |map, r| map.body_torque(&list(r), r.a(), r.a(), r.a()).map(|v| v.to_vec())),
     },
     Entry {
-        number: 302,
+        number: 102,
         name: "project_controls",
         quick: 100_000,
         full: 2_000_000,
-        kept: 0,
+        kept: 20,
         make: |r, w| {
             let flat = maps::sound(r);
             flat.put(w);
@@ -265,22 +340,22 @@ pub const RUNS: [Entry; 8] = [
             let mut r = Reader(i);
             let (flat, mut u, limit) = (Flat::take(&mut r), list(&mut r), r.a());
             slew_project_controls(&flat.counts, &flat.numbers, &mut u, &limit);
-            o.given(0, &u);
+            o.given(0, &padded(u, ROW));
         },
         rust: |i, o| {
             by_map(i, o, |map, r| {
                 let (mut u, limit) = (list(r), r.a());
                 map.project_controls(&mut u, limit);
-                Ok(u)
+                Ok(padded(u, ROW))
             })
         },
     },
     Entry {
-        number: 303,
+        number: 103,
         name: "allocate_body_torque",
         quick: 100_000,
         full: 2_000_000,
-        kept: 0,
+        kept: 20,
         make: |r, w| {
             let mut flat = maps::sound(r);
             if r.one_in(4) {
@@ -299,16 +374,16 @@ pub const RUNS: [Entry; 8] = [
             let (mut out, mut place) = ([1.0; 20], 77);
             let number = slew_allocate_body_torque(&flat.counts, &flat.numbers, &tau, &mut out, &mut place);
             assert_eq!(place, usize::from(number == 6), "an allocation's place");
-            o.given(number as u64, &out[..flat.width().min(20)]);
+            o.given(number as u64, &out);
         },
-        rust: |i, o| by_map(i, o, |map, r| map.allocate(r.a())),
+        rust: |i, o| by_map(i, o, |map, r| map.allocate(r.a()).map(|u| padded(u, 20))),
     },
     Entry {
-        number: 304,
+        number: 104,
         name: "singularity",
         quick: 100_000,
         full: 2_000_000,
-        kept: 0,
+        kept: 20,
         make: |r, w| {
             maps::sound(r).put(w);
             w.all(&four(r));
@@ -323,11 +398,11 @@ pub const RUNS: [Entry; 8] = [
         rust: |i, o| by_map(i, o, |map, r| Ok(vec![map.singularity(r.a())])),
     },
     Entry {
-        number: 305,
+        number: 105,
         name: "power_excess",
         quick: 100_000,
         full: 2_000_000,
-        kept: 0,
+        kept: 20,
         make: |r, w| {
             let flat = maps::sound(r);
             flat.put(w);
@@ -342,11 +417,11 @@ pub const RUNS: [Entry; 8] = [
         rust: |i, o| by_map(i, o, |map, r| Ok(vec![map.power_excess(&list(r), r.a())])),
     },
     Entry {
-        number: 306,
+        number: 106,
         name: "wheel momenta",
         quick: 100_000,
         full: 2_000_000,
-        kept: 0,
+        kept: 20,
         make: |r, w| {
             maps::sound(r).put(w);
             let n = r.below(10) as usize;
@@ -368,18 +443,86 @@ pub const RUNS: [Entry; 8] = [
         },
     },
     Entry {
-        number: 307,
+        number: 200,
         name: "reconstruct",
         quick: 100_000,
         full: 2_000_000,
-        kept: 0,
-        make: |r, w| {
-            narrow(r).put(w);
-            w.all(&body(r));
-            w.n(r.below(2));
-            w.all(&decision(r));
-        },
+        kept: 20,
+        make: task,
         ours: run_by_port,
         rust: run_by_rust,
+    },
+    Entry {
+        number: 201,
+        name: "residuals",
+        quick: 100_000,
+        full: 2_000_000,
+        kept: 20,
+        make: task,
+        ours: residuals_by_port,
+        rust: residuals_by_rust,
+    },
+    Entry {
+        number: 107,
+        name: "wheel_momentum_rates",
+        quick: 100_000,
+        full: 2_000_000,
+        kept: 20,
+        make: |r, w| {
+            maps::sound(r).put(w);
+            let n = r.below(10) as usize;
+            row(r, w, n);
+        },
+        ours: |i, o| {
+            let mut r = Reader(i);
+            let (flat, u) = (Flat::take(&mut r), list(&mut r));
+            let mut out = [1.0; 8];
+            slew_wheel_momentum_rates(&flat.counts, &flat.numbers, &u, &mut out);
+            o.given(0, &out);
+        },
+        rust: |i, o| by_map(i, o, |map, r| Ok(padded(map.wheel_momentum_rates(&list(r)), 8))),
+    },
+    Entry {
+        number: 108,
+        name: "control_dim",
+        quick: 100_000,
+        full: 2_000_000,
+        kept: 20,
+        make: |r, w| maps::hostile(r).put(w),
+        ours: |i, o| {
+            let flat = Flat::take(&mut Reader(i));
+            o.n(slew_control_dim(&flat.counts, &flat.numbers) as u64);
+        },
+        // The map of a refused `prepare` is blank in the port: three controls.
+        rust: |i, o| {
+            o.n(prepared(&Flat::take(&mut Reader(i))).map_or(3, |map| map.control_dim() as u64));
+            true
+        },
+    },
+    Entry {
+        number: 109,
+        name: "pyramid_a",
+        quick: 100_000,
+        full: 2_000_000,
+        kept: 20,
+        make: |r, w| {
+            w.f(if r.one_in(6) { r.hostile() } else { 1.6 * r.unit() });
+            w.all(&four(r));
+        },
+        ours: |i, o| {
+            let mut r = Reader(i);
+            let (skew, delta) = (r.f(), r.a());
+            let mut out = [1.0; 12];
+            let number = slew_pyramid_a(skew, &delta, &mut out);
+            assert!(number == 0 || out.iter().all(|x| x.to_bits() == 0), "a refused Jacobian is zeros");
+            o.given(number as u64, &out);
+        },
+        rust: |i, o| {
+            let mut r = Reader(i);
+            libm::was_outside();
+            let a = rust::pyramid(r.f(), r.a());
+            o.given(if libm::was_outside() { 11 } else { 0 }, &a.concat());
+            true
+        },
     },
 ];

@@ -64,9 +64,16 @@ pub struct Entry {
     pub rust: fn(&[u64], &mut Words) -> bool,
 }
 
+impl Entry {
+    /// Whether the first word of the answer is a refusal's number.
+    pub fn refuses(&self) -> bool {
+        (100..150).contains(&self.number) && self.number != 108 || self.number >= 200
+    }
+}
+
 /// The number and place that document 01 gives to a refusal of the Rust.
 pub fn refusal(text: &str) -> (u64, u64) {
-    const TABLE: [(&str, u64, u64); 26] = [
+    const TABLE: [(&str, u64, u64); 29] = [
         ("planner quaternion", 5, 0),
         ("3x3 matrix is not invertible", 6, 0),
         ("inertia tensor is not symmetric", 6, 0),
@@ -93,6 +100,9 @@ pub fn refusal(text: &str) -> (u64, u64) {
         ("collocation did not meet the rest", 15, 0),
         ("collocation dynamics defects", 16, 0),
         ("collocation net body torque", 17, 0),
+        ("collocation body rate", 18, 0),
+        ("collocation stored momentum", 19, 0),
+        ("planner would exceed the sample limit", 20, 0),
     ];
     let found = TABLE.iter().find(|(head, _, _)| text.starts_with(head));
     found.map_or((99, 0), |(_, number, place)| (*number, *place))

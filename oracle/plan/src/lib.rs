@@ -4,3 +4,4 @@
 include!(concat!(env!("OUT_DIR"), "/root.rs"));
 
 pub mod probe;
+pub mod tally;

@@ -11,7 +11,7 @@ fn quat(q: [f64; 4]) -> Quat {
     Quat::new(q[0], q[1], q[2], q[3])
 }
 
-fn four(q: Quat) -> [f64; 4] {
+pub(crate) fn four(q: Quat) -> [f64; 4] {
     [q.w, q.x, q.y, q.z]
 }
 
@@ -265,6 +265,7 @@ pub struct Task {
 }
 
 /// The nodes of a run: time, attitude, rate, torque, body momentum, wheel momenta; and the defect.
+#[derive(Clone, Debug)]
 pub struct Nodes {
     pub times: Vec<f64>,
     pub quats: Vec<[f64; 4]>,
@@ -277,16 +278,20 @@ pub struct Nodes {
     pub defect: f64,
 }
 
-pub(crate) fn nodes(path: crate::scvx::CollocationPath) -> Nodes {
-    Nodes {
-        times: path.times,
-        quats: path.quats.into_iter().map(four).collect(),
-        omegas: path.omegas,
-        torques: path.torques,
-        momenta: path.momenta,
-        wheels: path.wheel_momenta,
-        duration: path.duration,
-        iterations: path.iterations,
-        defect: path.max_defect,
-    }
+/// The nodes of a `CollocationPath`, the published one's or the counting copy's.
+macro_rules! nodes_of {
+    ($path:expr) => {
+        crate::probe::Nodes {
+            times: $path.times,
+            quats: $path.quats.into_iter().map(crate::probe::four).collect(),
+            omegas: $path.omegas,
+            torques: $path.torques,
+            momenta: $path.momenta,
+            wheels: $path.wheel_momenta,
+            duration: $path.duration,
+            iterations: $path.iterations,
+            defect: $path.max_defect,
+        }
+    };
 }
+pub(crate) use nodes_of;

@@ -1,8 +1,8 @@
-//! Doors to what is private in scvx.rs. This module stands inside a copy of it, so it sees all of it. Nothing is computed here, but for `normal`:
+//! Doors to what is private in scvx.rs. This module stands inside each copy of it, so it sees all of it. Nothing is computed here, but for `normal`:
 //! the forming of the normal equations stands in the middle of `solve`, and its loops are repeated here word for word.
 
 use super::*;
-use crate::probe::{Nodes, Task, nodes};
+use crate::probe::{Nodes, Task, nodes_of};
 
 fn with<T>(task: &Task, of: impl FnOnce(&SolverProblem<'_>) -> T) -> T {
     let weights = task.weights;
@@ -33,7 +33,7 @@ fn decision(task: &Task, packed: &[f64]) -> Decision {
 
 /// One run of the step law on a packed decision: a duration and 16 rows.
 pub fn run(task: &Task, packed: &[f64]) -> Result<Nodes, PlanError> {
-    with(task, |problem| reconstruct(problem, &decision(task, packed)).map(nodes))
+    with(task, |problem| reconstruct(problem, &decision(task, packed)).map(|path| nodes_of!(path)))
 }
 
 /// The residuals of a packed decision.
@@ -53,7 +53,7 @@ pub fn keep(task: &Task, packed: &[f64]) -> Kept {
 }
 
 pub fn run_kept(task: &Task, kept: &Kept) -> Result<Nodes, PlanError> {
-    with(task, |problem| reconstruct(problem, &kept.0).map(nodes))
+    with(task, |problem| reconstruct(problem, &kept.0).map(|path| nodes_of!(path)))
 }
 
 /// The last rate of a run alone: what a benchmark reads.
@@ -85,6 +85,55 @@ pub fn eliminate(a: &mut [Vec<f64>], b: &mut [f64]) -> bool {
     solve_dense(a, b).is_ok()
 }
 
+/// `solve` from a seed.
 pub fn seeded(task: &Task, duration: f64, omegas: &[[f64; 3]], torques: &[[f64; 3]]) -> Result<Nodes, PlanError> {
-    with(task, |problem| solve(problem, duration, omegas, torques, None).map(nodes))
+    with(task, |problem| solve(problem, duration, omegas, torques, None).map(|path| nodes_of!(path)))
+}
+
+fn path_of(nodes: &Nodes) -> CollocationPath {
+    CollocationPath {
+        times: nodes.times.clone(),
+        quats: nodes.quats.iter().map(|q| Quat::new(q[0], q[1], q[2], q[3])).collect(),
+        omegas: nodes.omegas.clone(),
+        torques: nodes.torques.clone(),
+        momenta: nodes.momenta.clone(),
+        wheel_momenta: nodes.wheels.clone(),
+        duration: nodes.duration,
+        iterations: nodes.iterations,
+        max_defect: nodes.defect,
+    }
+}
+
+/// A problem of which `densify` and `interpolate` read the inertia alone.
+fn with_inertia<T>(inertia: [[f64; 3]; 3], of: impl FnOnce(&SolverProblem<'_>) -> T) -> T {
+    let actuators = ActuatorMap { wheels: Vec::new(), thrusters: Vec::new(), cmgs: None };
+    let still = Quat::new(1.0, 0.0, 0.0, 0.0);
+    let weights = Weights::minimum_time();
+    of(&SolverProblem { q0: still, qf: still, inertia, torque_limit: [1.0; 3], slew: None, weights, actuators: &actuators, keep_out: &[] })
+}
+
+fn fourteen(t: f64, q: Quat, w: [f64; 3], tau: [f64; 3], h: [f64; 3]) -> [f64; 14] {
+    [t, q.w, q.x, q.y, q.z, w[0], w[1], w[2], tau[0], tau[1], tau[2], h[0], h[1], h[2]]
+}
+
+/// One sample of a path at the time t: time, attitude, rate, torque, body momentum.
+pub fn sample_at(inertia: [[f64; 3]; 3], nodes: &Nodes, t: f64) -> Result<[f64; 14], PlanError> {
+    with_inertia(inertia, |problem| interpolate(problem, &path_of(nodes), t).map(|(q, w, tau, h)| fourteen(t, q, w, tau, h)))
+}
+
+/// All samples of a path.
+pub fn dense(inertia: [[f64; 3]; 3], nodes: &Nodes, requested: usize, alpha: f64) -> Result<Vec<[f64; 14]>, PlanError> {
+    let (t, q, w, tau, h) = with_inertia(inertia, |problem| densify(problem, &path_of(nodes), requested, alpha))?;
+    Ok((0..t.len()).map(|k| fourteen(t[k], q[k], w[k], tau[k], h[k])).collect())
+}
+
+/// A path kept over many samplings, so that a benchmark times them alone: how many samples, the last time.
+pub struct KeptPath(CollocationPath);
+
+pub fn keep_path(nodes: &Nodes) -> KeptPath {
+    KeptPath(path_of(nodes))
+}
+
+pub fn dense_kept(inertia: [[f64; 3]; 3], path: &KeptPath, requested: usize, alpha: f64) -> f64 {
+    with_inertia(inertia, |problem| densify(problem, &path.0, requested, alpha).map_or(f64::NAN, |list| list.1[list.0.len() - 1].w))
 }

@@ -165,12 +165,110 @@ fn runs() {
     }
 }
 
-fn main() {
-    if std::env::args().nth(1).as_deref() == Some("runs") {
-        return runs();
+/// The least time of a call in milliseconds over some turns.
+#[cfg(feature = "plans")]
+fn least(turns: u32, of: &mut dyn FnMut()) -> f64 {
+    (0..turns).map(|_| time(of, 1)).fold(f64::INFINITY, f64::min) * 1.0e-6
+}
+
+/// Whole plans of a family in which a path is found, five problems each, by turns: ours as a user calls it (checks, profile, seed, search, end checks, the
+/// workspace cleared after it, 374 numbers written); the Rust's `solve` on a prepared problem with its seed in place, with our angles and with the platform's.
+#[cfg(feature = "plans")]
+fn plans(turns: u32) {
+    use drive::plans::{FAMILIES, begun, by_rust, tame};
+    use quatopsy_plan::scvx::probe as scvx;
+    for family in FAMILIES {
+        let mut random = Random::new(17);
+        let mut sums = [0.0; 3];
+        let mut taken = 0;
+        while taken < 5 {
+            let mut plan = tame(&mut random, family);
+            plan.lent = plan.room();
+            if by_rust(&plan, false).number != 0 {
+                continue;
+            }
+            taken += 1;
+            let (task, duration, rates, torques) = begun(&plan).unwrap_or_else(|_| panic!("a problem that was planned"));
+            let mut ws = vec![0.0; plan.lent];
+            let mut out = Planned { counts: [0; 5], duration: 0.0, z: [0.0; 193], nodes: [[0.0; 22]; 17] };
+            let mut solve = || assert!(black_box(scvx::seeded(&task, duration, &rates, &torques)).is_ok());
+            for _ in 0..3 {
+                sums[0] += least(turns, &mut || assert_eq!(slew_plan_numbers(&plan.flat, &plan.body, plan.limited, &mut ws, black_box(&mut out)), 0));
+                sums[1] += least(turns, &mut solve);
+                libm::use_platform(true);
+                sums[2] += least(turns, &mut || {
+                    black_box(scvx::seeded(&task, duration, &rates, &torques).is_ok());
+                });
+                libm::use_platform(false);
+            }
+        }
+        let [ours, with_ours, unaltered] = sums.map(|x| x / 15.0);
+        println!(
+            "whole plan, {:14} ours {ours:>9.2} ms   Rust, our angles {with_ours:>9.2} ms, ratio {:.2}   Rust unaltered {unaltered:>9.2} ms, ratio {:.2}",
+            family.name,
+            ours / with_ours,
+            ours / unaltered
+        );
     }
-    leaves();
-    runs();
-    #[cfg(feature = "systems")]
-    systems();
+}
+
+/// Samples of a path, one call each, beside the Rust's `densify` of the whole list.
+#[cfg(feature = "plans")]
+fn samples() {
+    use drive::plans::{FAMILIES, by_rust, tame};
+    use quatopsy_plan::scvx::probe as scvx;
+    let mut random = Random::new(19);
+    let (plan, nodes) = loop {
+        let mut plan = tame(&mut random, FAMILIES[0]);
+        plan.lent = plan.room();
+        if let Some((nodes, _)) = by_rust(&plan, false).path {
+            break (plan, nodes);
+        }
+    };
+    let mut words = drive::words::Words::default();
+    drive::runs::put_nodes(&nodes, &mut words);
+    let mut reader = drive::words::Reader(&words.0);
+    let rows: [[f64; 22]; 17] = std::array::from_fn(|_| reader.a());
+    let mut j = [0.0; 9];
+    j.copy_from_slice(&plan.body[8..17]);
+    let tensor = [[j[0], j[1], j[2]], [j[3], j[4], j[5]], [j[6], j[7], j[8]]];
+    let kept = scvx::keep_path(&nodes);
+    let (requested, mut count) = (5000, 0);
+    assert_eq!(slew_sample_count(nodes.duration, requested, 1.0e-6, &mut count), 0);
+    quatopsy_schema::set_tolerances(plan.body[27], plan.body[28]);
+    ratio(
+        &format!("a dense sample of {count}"),
+        count as u32,
+        || {
+            let (mut out, mut place) = ([0.0; 14], 0);
+            for index in 0..count {
+                let number = slew_sample_path(&j, plan.body[27], nodes.duration, &rows, requested, 1.0e-6, index, &mut out, &mut place);
+                assert_eq!(number, 0);
+                black_box(&out);
+            }
+        },
+        || {
+            black_box(scvx::dense_kept(tensor, &kept, requested, 1.0e-6));
+        },
+    );
+}
+
+fn main() {
+    match std::env::args().nth(1).as_deref() {
+        Some("runs") => runs(),
+        #[cfg(feature = "plans")]
+        Some("plans") => plans(3),
+        #[cfg(feature = "plans")]
+        Some("samples") => samples(),
+        _ => {
+            leaves();
+            runs();
+            #[cfg(feature = "systems")]
+            systems();
+            #[cfg(feature = "plans")]
+            samples();
+            #[cfg(feature = "plans")]
+            plans(3);
+        }
+    }
 }

@@ -13,8 +13,8 @@ unsafe extern "C" {
 static PLATFORM: AtomicBool = AtomicBool::new(false);
 
 thread_local! {
-    static OUTSIDE: Cell<Option<u64>> = const { Cell::new(None) };
-    static STEPS: Cell<u64> = const { Cell::new(0) };
+    static MARK: Cell<(u64, u64)> = const { Cell::new((0, 0)) };
+    static OUTSIDE_AT: Cell<Option<(u64, u64)>> = const { Cell::new(None) };
 }
 
 /// From here on the angles are the platform's library's, or ours again.
@@ -24,30 +24,25 @@ pub fn use_platform(yes: bool) {
 
 /// Whether an argument was outside our functions' range since the last call, which is refusal 11.
 pub fn was_outside() -> bool {
-    outside_after().is_some()
+    outside_at().is_some()
 }
 
-/// How many lengths had been held to the tolerance when an argument was first outside our functions' range since the last call, if one was.
-pub fn outside_after() -> Option<u64> {
-    OUTSIDE.with(Cell::take)
-}
-
-/// One length more is held to the tolerance: a step of a forward run got that far.
+/// Where the computation stands from here on: two numbers that mean something to the caller.
 #[inline]
-pub fn step() {
-    STEPS.with(|n| n.set(n.get() + 1));
+pub fn mark(runs: u64, place: u64) {
+    MARK.with(|m| m.set((runs, place)));
 }
 
-/// How many since the last call.
-pub fn steps() -> u64 {
-    STEPS.with(Cell::take)
+/// Where it stood when an argument was first outside our functions' range since the last call, if one was.
+pub fn outside_at() -> Option<(u64, u64)> {
+    OUTSIDE_AT.with(Cell::take)
 }
 
 fn ours(x: f64, of: unsafe extern "C" fn(f64, &mut f64) -> bool) -> f64 {
     let mut answer = f64::NAN;
     // The functions take any float and write through a reference to one.
     if !unsafe { of(x, &mut answer) } {
-        OUTSIDE.with(|first| first.set(first.get().or(Some(STEPS.with(Cell::get)))));
+        OUTSIDE_AT.with(|first| first.set(first.get().or(Some(MARK.with(Cell::get)))));
     }
     answer
 }

@@ -25,10 +25,7 @@ impl Tolerance {
     #[inline]
     fn value(self) -> f64 {
         match self {
-            Self::Norm => {
-                libm::step();
-                NORM.with(Cell::get)
-            }
+            Self::Norm => NORM.with(Cell::get),
             Self::Tie => TIE.with(Cell::get),
         }
     }

@@ -1,0 +1,31 @@
+-- `export::sampled::slew_sample_path` meets its contract, by the contracts of what it calls. Assumes nothing.
+use borrow.Author.Needs.{needs}
+use Rattle.export.proofs.sampled.slew_sample_path.Statement.{statement}
+use Rattle.export.proofs.sampled.slew_sample_path.Tie as tie
+
+tensor-requires : tie.Need-tensor-requires
+tensor-requires c κs = search needs
+
+sample-requires : tie.Need-sample-requires
+sample-requires c κs = search needs
+
+sample-numbers-requires : tie.Need-sample-numbers-requires
+sample-numbers-requires c κs = search needs
+
+place-of-requires : tie.Need-place-of-requires
+place-of-requires c κs = search needs
+
+number-of-requires : tie.Need-number-of-requires
+number-of-requires c κs = search needs
+
+returns : tie.Need-returns
+returns c = (
+  rw (c .number-of .ensures, c .before .before .before .before .sample .ensures, c .before .before .before .before .before .tensor .ensures),
+  (
+    rw (c .before .before .sample-numbers .ensures, c .before .before .before .before .sample .ensures, c .before .before .before .before .before .tensor .ensures),
+    rw (c .before .place-of .ensures, c .before .before .before .before .sample .ensures, c .before .before .before .before .before .tensor .ensures),
+  ),
+)
+
+pub slew-sample-path-spec : {M : Type 1} → statement M
+slew-sample-path-spec = tie.close (tie.spec tensor-requires sample-requires sample-numbers-requires place-of-requires number-of-requires returns)

@@ -1,0 +1,40 @@
+-- `replay::plans::fill_all` meets its contract: the loop counts its numbers. Assumes nothing.
+use borrow.Author.Needs.{needs}
+use Prim.Native.Nat.{_≤_, _-_}
+use mathlib.Core.Path.{_≡_}
+use lib.ListN.{length, length-set}
+use Rattle.replay.proofs.plans.fill_all.Statement.{statement}
+use Rattle.replay.proofs.plans.fill_all.Tie as tie
+
+abbrev Inv-loop : tie.InvT-loop
+Inv-loop ws₀ fill n i₀ ws i = (i ≤ n) × (length ws ≡ length ws₀)
+
+abbrev μ-loop : tie.MeasureT-loop
+μ-loop ws₀ fill n i₀ ws i = n - i
+
+loop-holds : tie.Need-loop-holds Inv-loop μ-loop
+loop-holds c = search needs
+
+mul-ws : tie.Need-mul-ws Inv-loop μ-loop
+mul-ws c = search needs
+
+slice-write-ws : tie.Need-slice-write-ws Inv-loop μ-loop
+slice-write-ws c = search needs
+
+add-i : tie.Need-add-i Inv-loop μ-loop
+add-i c = search needs
+
+loop-less : tie.Need-loop-less Inv-loop μ-loop
+loop-less c = search needs
+
+loop-again : tie.Need-loop-again Inv-loop μ-loop
+loop-again c = (search needs, simp length-set (search needs))
+
+same-length : tie.Need-same-length Inv-loop μ-loop
+same-length c = search needs
+
+returns : tie.Need-returns Inv-loop μ-loop
+returns c = search needs
+
+pub fill-all-spec : {M : Type 1} → statement M
+fill-all-spec = tie.close (tie.spec Inv-loop μ-loop loop-holds mul-ws slice-write-ws add-i loop-less loop-again same-length returns)

@@ -1,0 +1,100 @@
+// Forward runs and residuals beside what is stored: what is declared, 29 numbers of the body, whether there is a slew limit, 193 of a decision.
+ghost use Prim.Native.Nat.{_<_};
+use crate::read::at;
+use crate::read::reals;
+use crate::read::same;
+use crate::read::same22;
+use crate::read::same79;
+use crate::rigs::counts;
+use crate::rigs::numbers;
+use export::paths::slew_reconstruct;
+use export::paths::slew_residuals;
+
+pub fn body(v: &[u64; 1024]) -> [f64; 29] {
+    let mut x = [0.0; 29];
+    reals(v, 111, &mut x);
+    x
+}
+
+fn decision(v: &[u64; 1024]) -> [f64; 193] {
+    let mut x = [0.0; 193];
+    reals(v, 141, &mut x);
+    x
+}
+
+// Whether the three words from 334 on are these: a refusal's number, place and runs.
+fn told(v: &[u64; 1024], number: usize, place: usize, runs: usize) -> bool {
+    at(v, 334) == number as u64 && at(v, 335) == place as u64 && at(v, 336) == runs as u64
+}
+
+// Whether the numbers of 17 nodes stand from k on.
+pub fn same_nodes(v: &[u64; 1024], k: usize, nodes: [[f64; 22]; 17]) -> bool
+    requires { ⌜ k < 500 ⌝ }
+{
+    let mut all = true;
+    let mut i: usize = 0;
+    while i < 17 {
+        let row = nodes[i];
+        all = all & same22(v, k + 22 * i, &row);
+        i += 1;
+    }
+    all
+}
+
+fn reconstruct(v: &[u64; 1024]) -> bool {
+    let c = counts(v);
+    let d = numbers(v);
+    let b = body(v);
+    let z = decision(v);
+    let limited = at(v, 140) != 0;
+    let mut nodes = [[0.0; 22]; 17];
+    let mut defect = 0.0;
+    let mut place: usize = 0;
+    let mut runs: usize = 0;
+    let refused = slew_reconstruct(
+        &c,
+        &d,
+        &b,
+        limited,
+        &z,
+        &mut nodes,
+        &mut defect,
+        &mut place,
+        &mut runs,
+    );
+    told(v, refused, place, runs)
+        && (refused != 0 || (same(v, 337, defect) && same_nodes(v, 338, nodes)))
+}
+
+fn residuals(v: &[u64; 1024]) -> bool {
+    let c = counts(v);
+    let d = numbers(v);
+    let b = body(v);
+    let z = decision(v);
+    let limited = at(v, 140) != 0;
+    let mut x = [0.0; 79];
+    let mut n: usize = 0;
+    let mut place: usize = 0;
+    let mut runs: usize = 0;
+    let refused = slew_residuals(
+        &c,
+        &d,
+        &b,
+        limited,
+        &z,
+        &mut x,
+        &mut n,
+        &mut place,
+        &mut runs,
+    );
+    told(v, refused, place, runs)
+        && (refused != 0 || (at(v, 337) == n as u64 && same79(v, 338, &x)))
+}
+
+pub fn holds(number: u64, v: &[u64; 1024]) -> bool {
+    match number {
+        200 => reconstruct(v),
+        201 => residuals(v),
+        _ => false,
+    }
+}

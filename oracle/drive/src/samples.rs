@@ -1,0 +1,245 @@
+//! Dense samples: `densify` and `interpolate` of scvx.rs, on paths of forward runs and on forged ones.
+
+use crate::ffi::*;
+use crate::plans::{self, Family};
+use crate::random::Random;
+use crate::runs;
+use crate::words::{Entry, Reader, Words, refusal};
+use quatopsy_plan::probe::{self as rust, Nodes, Tensor};
+use quatopsy_plan::scvx::probe as scvx;
+
+/// A path as the C interface takes it, with what its samples are asked for.
+struct Track {
+    inertia: [f64; 9],
+    tolerance: f64,
+    duration: f64,
+    nodes: [[f64; 22]; 17],
+    requested: usize,
+    alpha: f64,
+}
+
+impl Track {
+    fn put(&self, w: &mut Words) {
+        w.all(&self.inertia);
+        w.f(self.tolerance);
+        w.f(self.duration);
+        self.nodes.iter().for_each(|node| w.all(node));
+        w.n(self.requested as u64);
+        w.f(self.alpha);
+    }
+
+    fn take(r: &mut Reader<'_>) -> Self {
+        let (inertia, tolerance, duration) = (r.a(), r.f(), r.f());
+        let nodes = std::array::from_fn(|_| r.a());
+        Track { inertia, tolerance, duration, nodes, requested: r.n() as usize, alpha: r.f() }
+    }
+
+    /// As the Rust has it.
+    fn of_rust(&self) -> (Tensor, Nodes) {
+        let row = |k: usize, at: usize| -> [f64; 3] { std::array::from_fn(|l| self.nodes[k][at + l]) };
+        let nodes = Nodes {
+            times: (0..17).map(|k| self.nodes[k][0]).collect(),
+            quats: (0..17).map(|k| std::array::from_fn(|l| self.nodes[k][1 + l])).collect(),
+            omegas: (0..17).map(|k| row(k, 5)).collect(),
+            torques: (0..17).map(|k| row(k, 8)).collect(),
+            momenta: (0..17).map(|k| row(k, 11)).collect(),
+            wheels: vec![Vec::new(); 17],
+            duration: self.duration,
+            iterations: 0,
+            defect: 0.0,
+        };
+        (std::array::from_fn(|i| std::array::from_fn(|k| self.inertia[3 * i + k])), nodes)
+    }
+
+    /// The Rust's count, or none where it refuses: its own rule, but that a sum which overflows is refused.
+    fn count(&self) -> Option<usize> {
+        let dt_max = (2.0 * 1.0e-3 * 0.75) / self.alpha.max(1.0e-6);
+        let from_rate = ((self.duration / dt_max).ceil() as usize).checked_add(1)?;
+        let count = self.requested.max(from_rate).max(17);
+        (count <= 100_000).then_some(count)
+    }
+
+    fn ours(&self, index: usize, o: &mut Words) {
+        let (mut out, mut place) = ([1.0; 14], 77);
+        let t = self;
+        let number = slew_sample_path(&t.inertia, t.tolerance, t.duration, &t.nodes, t.requested, t.alpha, index, &mut out, &mut place);
+        assert!(number == 0 || out.iter().all(|x| x.to_bits() == 0), "beside a refusal the sample is zeros");
+        o.n(number as u64);
+        o.n(place as u64);
+        o.all(&out);
+    }
+
+    fn rust(&self, index: usize, o: &mut Words) {
+        let Some(count) = self.count() else { return refused(20, 0, o) };
+        if index >= count {
+            return refused(20, 1, o);
+        }
+        quatopsy_schema::set_tolerances(self.tolerance, 0.5);
+        let (inertia, nodes) = self.of_rust();
+        let t = self.duration * index as f64 / (count as f64 - 1.0);
+        libm::outside_at();
+        let answer = scvx::sample_at(inertia, &nodes, t);
+        match answer {
+            _ if libm::was_outside() => refused(11, index as u64, o),
+            Ok(sample) => {
+                o.n(0);
+                o.n(0);
+                o.all(&sample);
+            }
+            Err(err) => refused(refusal(&rust::words(err)).0, index as u64, o),
+        }
+    }
+}
+
+fn refused(number: u64, place: u64, o: &mut Words) {
+    o.n(number);
+    o.n(place);
+    o.all(&[0.0; 14]);
+}
+
+/// The nodes of a forward run, those of a run with numbers spoilt, or numbers of any kind.
+fn track(r: &mut Random) -> Track {
+    let b = runs::body(r);
+    let (mut duration, mut nodes) = run(r).unwrap_or((r.unit(), std::array::from_fn(|_| r.numbers())));
+    match r.below(6) {
+        0 => nodes = std::array::from_fn(|_| r.numbers()),
+        1 => {
+            let (k, at) = (r.below(17) as usize, r.below(14) as usize);
+            nodes[k][at] = r.hostile();
+        }
+        2 => nodes[r.below(17) as usize][0] = [f64::NAN, f64::INFINITY, 0.0, -0.0, duration][r.below(5) as usize],
+        3 => duration = r.hostile(),
+        _ => {}
+    }
+    let alpha = if r.one_in(8) { r.hostile() } else { r.unit() };
+    let requested = if r.one_in(8) { [0, 1, 17, 100_000, 100_001, usize::MAX][r.below(6) as usize] } else { r.below(2000) as usize };
+    let mut inertia = [0.0; 9];
+    inertia.copy_from_slice(&b[8..17]);
+    Track { inertia, tolerance: b[27], duration, nodes, requested, alpha }
+}
+
+/// A forward run of a problem in which paths are found, on a plain decision.
+fn run(r: &mut Random) -> Option<(f64, [[f64; 22]; 17])> {
+    let wheels = r.below(5) as usize;
+    let plan = plans::tame(r, Family { name: "wheels", wheels, thrusters: 0, cmgs: 0, pointing: false });
+    let task = runs::checked(&plan.flat, &plan.body, plan.limited).ok()?;
+    let mut z: Vec<f64> = (0..16 * task.map.control_dim()).map(|_| 0.02 * r.tame()).collect();
+    z.insert(0, 0.5 + 60.0 * r.unit());
+    let nodes = scvx::run(&task, &z).ok()?;
+    Some((z[0], rows(&nodes)))
+}
+
+/// Nodes as rows of 22 numbers.
+fn rows(nodes: &Nodes) -> [[f64; 22]; 17] {
+    let mut o = Words::default();
+    runs::put_nodes(nodes, &mut o);
+    let mut r = Reader(&o.0);
+    std::array::from_fn(|_| r.a())
+}
+
+pub const SAMPLES: [Entry; 2] = [
+    Entry {
+        number: 350,
+        name: "samples",
+        quick: 100_000,
+        full: 2_000_000,
+        kept: 30,
+        make: |r, w| {
+            let track = track(r);
+            track.put(w);
+            let count = track.count().unwrap_or(17) as u64;
+            w.n(match r.below(8) {
+                0 => 0,
+                1 => count - 1,
+                2 => count,
+                3 => r.word(),
+                _ => r.below(count),
+            });
+        },
+        ours: |i, o| {
+            let mut r = Reader(i);
+            let track = Track::take(&mut r);
+            track.ours(r.n() as usize, o);
+        },
+        rust: |i, o| {
+            let mut r = Reader(i);
+            let track = Track::take(&mut r);
+            track.rust(r.n() as usize, o);
+            true
+        },
+    },
+    Entry {
+        number: 351,
+        name: "sample_count",
+        quick: 100_000,
+        full: 2_000_000,
+        kept: 30,
+        make: |r, w| {
+            let (duration, alpha) = (r.positive(), r.positive());
+            w.f(duration);
+            w.n([r.below(2000), 100_000, 100_001, u64::MAX, 0][r.below(5) as usize]);
+            w.f(match r.below(4) {
+                // just at the limit: 99,999 steps
+                0 => r.near(99_999.0 * 0.0015 / duration),
+                _ => alpha,
+            });
+        },
+        ours: |i, o| {
+            let mut r = Reader(i);
+            let (duration, requested, alpha) = (r.f(), r.n(), r.f());
+            let mut count = 77;
+            let number = slew_sample_count(duration, requested as usize, alpha, &mut count);
+            assert!(number == 0 || count == 77, "a refused count is not written");
+            o.n(number as u64);
+            o.n(if number == 0 { count as u64 } else { 0 });
+        },
+        rust: |i, o| {
+            let mut r = Reader(i);
+            let (duration, requested, alpha) = (r.f(), r.n() as usize, r.f());
+            let track = Track { inertia: [0.0; 9], tolerance: 0.5, duration, nodes: [[0.0; 22]; 17], requested, alpha };
+            let count = track.count();
+            o.n(if count.is_some() { 0 } else { 20 });
+            o.n(count.unwrap_or(0) as u64);
+            true
+        },
+    },
+];
+
+/// Whole lists beside the Rust's `densify`: lists, samples, refused, mismatches.
+pub fn lists(count: u64, seed: u64) -> (u64, u64, u64, u64) {
+    let mut random = Random::new(seed ^ 0x5A);
+    let (mut samples, mut stopped, mut wrong) = (0, 0, 0);
+    for _ in 0..count {
+        let track = track(&mut random);
+        let Some(count) = track.count() else { continue };
+        quatopsy_schema::set_tolerances(track.tolerance, 0.5);
+        let (inertia, nodes) = track.of_rust();
+        libm::outside_at();
+        let list = scvx::dense(inertia, &nodes, track.requested, track.alpha);
+        let outside = libm::was_outside();
+        let mut ours = Vec::with_capacity(count);
+        let mut first = 0;
+        for index in 0..count {
+            let mut o = Words::default();
+            track.ours(index, &mut o);
+            first = o.0[0];
+            if first != 0 {
+                break;
+            }
+            ours.extend_from_slice(&o.0[2..]);
+        }
+        samples += count as u64;
+        stopped += u64::from(outside || list.is_err());
+        let same = match list {
+            _ if outside => first == 11 || first == 5,
+            Ok(list) => {
+                let mut o = Words::default();
+                list.iter().for_each(|sample| o.all(sample));
+                o.0 == ours
+            }
+            Err(err) => refusal(&rust::words(err)).0 == first,
+        };
+        wrong += u64::from(!same);
+    }
+    (count, samples, stopped, wrong)
+}

@@ -1,0 +1,114 @@
+//! What the counting copy of scvx.rs counts, on this thread: forward runs begun, where the search stands, how its rounds ended, where the time goes.
+
+use std::cell::RefCell;
+use std::time::Instant;
+
+pub const OTHER: usize = 0;
+pub const RUNS: usize = 1;
+pub const RESIDUALS: usize = 2;
+pub const NORMAL: usize = 3;
+pub const ELIMINATION: usize = 4;
+
+#[derive(Clone, Default, Debug)]
+pub struct Tally {
+    /// Forward runs begun, refused or not.
+    pub runs: u64,
+    /// The step of the run that stands last.
+    pub step: u64,
+    /// The node that the end checks stand at.
+    pub node: u64,
+    pub rounds: u64,
+    pub accepted: u64,
+    pub rejected: u64,
+    pub singular: u64,
+    /// Rounds whose decision is that of the round before.
+    pub repeated: u64,
+    /// Whether the round before left the decision as it was.
+    kept: bool,
+    /// The decision that the search ends with.
+    pub decision: Vec<f64>,
+    /// Nanoseconds by phase, if they are asked for.
+    pub spent: [u64; 5],
+    clock: Option<(usize, Instant)>,
+}
+
+thread_local! {
+    static TALLY: RefCell<Tally> = RefCell::default();
+}
+
+fn with(of: impl FnOnce(&mut Tally)) {
+    TALLY.with(|tally| of(&mut tally.borrow_mut()));
+}
+
+/// Starts anew; with a clock or without.
+pub fn begin(timed: bool) {
+    with(|t| *t = Tally { clock: timed.then(|| (OTHER, Instant::now())), ..Tally::default() });
+    libm::mark(0, 0);
+}
+
+/// What was counted since.
+pub fn end() -> Tally {
+    phase(OTHER);
+    TALLY.with(RefCell::take)
+}
+
+pub fn run() {
+    phase(RUNS);
+    with(|t| {
+        t.runs += 1;
+        t.step = 0;
+        libm::mark(t.runs, 0);
+    });
+}
+
+pub fn step(k: usize) {
+    with(|t| {
+        t.step = k as u64;
+        libm::mark(t.runs, k as u64);
+    });
+}
+
+/// From here on an angle outside the range is at place 0.
+pub fn outside_run() {
+    with(|t| libm::mark(t.runs, 0));
+}
+
+pub fn node(k: usize) {
+    with(|t| t.node = k as u64);
+}
+
+pub fn round() {
+    with(|t| {
+        t.rounds += 1;
+        t.repeated += u64::from(t.kept);
+        t.kept = false;
+    });
+}
+
+pub fn accepted() {
+    with(|t| t.accepted += 1);
+}
+
+pub fn rejected() {
+    with(|t| (t.rejected, t.kept) = (t.rejected + 1, true));
+}
+
+pub fn singular() {
+    with(|t| (t.singular, t.kept) = (t.singular + 1, true));
+    phase(OTHER);
+}
+
+pub fn decision(duration: f64, rows: &[Vec<f64>]) {
+    with(|t| t.decision = std::iter::once(duration).chain(rows.iter().flatten().copied()).collect());
+}
+
+/// What is done from here on.
+pub fn phase(next: usize) {
+    with(|t| {
+        if let Some((now, since)) = t.clock {
+            let instant = Instant::now();
+            t.spent[now] += (instant - since).as_nanos() as u64;
+            t.clock = Some((next, instant));
+        }
+    });
+}
