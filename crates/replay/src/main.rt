@@ -2,11 +2,9 @@
 // then the words in hexadecimal, floats by their bits; blocks of 65,536 bytes, filled up with empty lines), and each is run through the C interface and compared to the last bit, a NaN matching any NaN.
 mod courses;
 mod leaves;
-mod plans;
 mod read;
 mod rigs;
 mod runs;
-mod samples;
 mod shapes;
 mod tally;
 
@@ -28,13 +26,7 @@ fn holds(number: u64, v: &[u64; 1024]) -> bool {
     if number < 200 {
         return courses::holds(number, v);
     }
-    if number < 300 {
-        return runs::holds(number, v);
-    }
-    if number < 350 {
-        return plans::holds(v);
-    }
-    samples::holds(number, v)
+    runs::holds(number, v)
 }
 
 // One line more.

@@ -205,13 +205,6 @@ pub fn same12(v: &[u64; 1024], k: usize, x: &[f64; 12]) -> bool
     same_all(v, k, x)
 }
 
-// Whether the 14 floats from k on are these.
-pub fn same14(v: &[u64; 1024], k: usize, x: &[f64; 14]) -> bool
-    requires { ⌜ k < 900 ⌝ }
-{
-    same_all(v, k, x)
-}
-
 // Whether the 20 floats from k on are these.
 pub fn same20(v: &[u64; 1024], k: usize, x: &[f64; 20]) -> bool
     requires { ⌜ k < 900 ⌝ }
@@ -249,13 +242,6 @@ pub fn same51(v: &[u64; 1024], k: usize, x: &[f64; 51]) -> bool
 
 // Whether the 79 floats from k on are these.
 pub fn same79(v: &[u64; 1024], k: usize, x: &[f64; 79]) -> bool
-    requires { ⌜ k < 900 ⌝ }
-{
-    same_all(v, k, x)
-}
-
-// Whether the 193 floats from k on are these.
-pub fn same193(v: &[u64; 1024], k: usize, x: &[f64; 193]) -> bool
     requires { ⌜ k < 900 ⌝ }
 {
     same_all(v, k, x)

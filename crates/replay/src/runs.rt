@@ -1,5 +1,4 @@
 // Forward runs and residuals beside what is stored: what is declared, 29 numbers of the body, whether there is a slew limit, 193 of a decision.
-ghost use Prim.Native.Nat.{_<_};
 use crate::read::at;
 use crate::read::reals;
 use crate::read::same;
@@ -10,7 +9,7 @@ use crate::rigs::numbers;
 use export::paths::slew_reconstruct;
 use export::paths::slew_residuals;
 
-pub fn body(v: &[u64; 1024]) -> [f64; 29] {
+fn body(v: &[u64; 1024]) -> [f64; 29] {
     let mut x = [0.0; 29];
     reals(v, 111, &mut x);
     x
@@ -27,16 +26,14 @@ fn told(v: &[u64; 1024], number: usize, place: usize, runs: usize) -> bool {
     at(v, 334) == number as u64 && at(v, 335) == place as u64 && at(v, 336) == runs as u64
 }
 
-// Whether the numbers of 17 nodes stand from k on.
-pub fn same_nodes(v: &[u64; 1024], k: usize, nodes: [[f64; 22]; 17]) -> bool
-    requires { ⌜ k < 500 ⌝ }
-{
+// Whether the numbers of 17 nodes stand from 338 on.
+fn same_nodes(v: &[u64; 1024], nodes: [[f64; 22]; 17]) -> bool {
     let mut all = true;
-    let mut i: usize = 0;
-    while i < 17 {
-        let row = nodes[i];
-        all = all & same22(v, k + 22 * i, &row);
-        i += 1;
+    let mut k: usize = 0;
+    while k < 17 {
+        let row = nodes[k];
+        all = all & same22(v, 338 + 22 * k, &row);
+        k += 1;
     }
     all
 }
@@ -63,7 +60,7 @@ fn reconstruct(v: &[u64; 1024]) -> bool {
         &mut runs,
     );
     told(v, refused, place, runs)
-        && (refused != 0 || (same(v, 337, defect) && same_nodes(v, 338, nodes)))
+        && (refused != 0 || (same(v, 337, defect) && same_nodes(v, nodes)))
 }
 
 fn residuals(v: &[u64; 1024]) -> bool {

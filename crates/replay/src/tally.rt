@@ -88,8 +88,8 @@ pub fn print(t: Tally) {
     print_group(b"profile and seed: ", c[3], w[3]);
     print_group(b"forward runs, residuals: ", c[4], w[4]);
     print_group(b"normal equations, elimination: ", c[5], w[5]);
-    print_group(b"plans: ", c[6], w[6]);
-    print_group(b"dense samples: ", c[7], w[7]);
+    print_group(b"unknown: ", c[6], w[6]);
+    print_group(b"unknown: ", c[7], w[7]);
     if total(w) == 0 {
         io::write_all(STDOUT_FILENO, b"all ");
         io::print_decimal(STDOUT_FILENO, total(c));

@@ -6,10 +6,10 @@ use Rattle.replay.proofs.runs.same_nodes.Statement.{statement}
 use Rattle.replay.proofs.runs.same_nodes.Tie as tie
 
 abbrev Inv-loop : tie.InvT-loop
-Inv-loop v k nodes all₀ i₀ all i = i ≤ 17
+Inv-loop v nodes all₀ k₀ all k = k ≤ 17
 
 abbrev μ-loop : tie.MeasureT-loop
-μ-loop v k nodes all₀ i₀ all i = 17 - i
+μ-loop v nodes all₀ k₀ all k = 17 - k
 
 loop-holds : tie.Need-loop-holds Inv-loop μ-loop
 loop-holds c = omega arith
@@ -29,8 +29,8 @@ add-same22 c = search needs
 same22-requires : tie.Need-same22-requires Inv-loop μ-loop
 same22-requires c κs = search needs
 
-add-i : tie.Need-add-i Inv-loop μ-loop
-add-i c = search needs
+add-k : tie.Need-add-k Inv-loop μ-loop
+add-k c = search needs
 
 loop-less : tie.Need-loop-less Inv-loop μ-loop
 loop-less c = search needs
@@ -42,4 +42,4 @@ returns : tie.Need-returns Inv-loop μ-loop
 returns c = search needs
 
 pub same-nodes-spec : {M : Type 1} → statement M
-same-nodes-spec = tie.close (tie.spec Inv-loop μ-loop loop-holds mul-row array-copy-out-row mul-same22 add-same22 same22-requires add-i loop-less loop-again returns)
+same-nodes-spec = tie.close (tie.spec Inv-loop μ-loop loop-holds mul-row array-copy-out-row mul-same22 add-same22 same22-requires add-k loop-less loop-again returns)
