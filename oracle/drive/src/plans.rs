@@ -408,7 +408,7 @@ pub const PLANS: [Entry; 2] = [
         name: "plans",
         quick: 300,
         full: 20_000,
-        kept: 10,
+        kept: 0,
         make: |r, w| any(r).put(w),
         ours: plan_by_port,
         rust: plan_by_rust,

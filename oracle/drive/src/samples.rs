@@ -143,7 +143,7 @@ pub const SAMPLES: [Entry; 2] = [
         name: "samples",
         quick: 100_000,
         full: 2_000_000,
-        kept: 30,
+        kept: 0,
         make: |r, w| {
             let track = track(r);
             track.put(w);
@@ -173,7 +173,7 @@ pub const SAMPLES: [Entry; 2] = [
         name: "sample_count",
         quick: 100_000,
         full: 2_000_000,
-        kept: 30,
+        kept: 0,
         make: |r, w| {
             let (duration, alpha) = (r.positive(), r.positive());
             w.f(duration);

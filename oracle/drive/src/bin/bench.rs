@@ -165,10 +165,27 @@ fn runs() {
     }
 }
 
+/// Seconds that this thread has had of a processor: what others do beside it does not count.
+#[cfg(feature = "plans")]
+fn processor() -> f64 {
+    unsafe extern "C" {
+        fn clock_gettime(clock: i32, at: &mut [i64; 2]) -> i32;
+    }
+    let mut at = [0; 2];
+    // CLOCK_THREAD_CPUTIME_ID; a `timespec` is two words on x86-64
+    assert_eq!(unsafe { clock_gettime(3, &mut at) }, 0);
+    at[0] as f64 + at[1] as f64 * 1.0e-9
+}
+
 /// The least time of a call in milliseconds over some turns.
 #[cfg(feature = "plans")]
 fn least(turns: u32, of: &mut dyn FnMut()) -> f64 {
-    (0..turns).map(|_| time(of, 1)).fold(f64::INFINITY, f64::min) * 1.0e-6
+    let one = |_| {
+        let start = processor();
+        of();
+        processor() - start
+    };
+    (0..turns).map(one).fold(f64::INFINITY, f64::min) * 1.0e3
 }
 
 /// Whole plans of a family in which a path is found, five problems each, by turns: ours as a user calls it (checks, profile, seed, search, end checks, the
