@@ -3,6 +3,7 @@ pub mod Decisions
 pub mod Defects
 pub mod Steps
 pub mod StepLaws
+pub mod Leads
 pub mod Runs
 pub mod RunLaws
 pub mod Launch

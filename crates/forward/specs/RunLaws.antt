@@ -1,5 +1,5 @@
 -- Laws of the step law that the loop of a run leans on. Assumes nothing.
-use Prim.Native.Nat.{ℕ, _+_, _≤_, _<_}
+use Prim.Native.Nat.{ℕ, _+_, _-_, _≤_, _<_}
 use mathlib.Core.Path.{_≡_, refl, sym, ap, _∙_}
 use mathlib.Core.Bool.{Bool, true, false, cond}
 use mathlib.Core.List.{List}
@@ -27,6 +27,13 @@ going s d ns = record { fate = Going; s = s; defect = d; nodes = ns }
 turn-refused : (b : Body) (n : ℕ) (z : List Float) (k : ℕ) (c : Course) {i j : ℕ} → c .fate ≡ Refused i j → courseTurn b n z k c ≡ c
 unfolding courseTurn
 turn-refused b n z k c h = ap (λ (e : Fate). courseBy e b n z k c) h
+
+-- the loop makes a lead before it makes a step: where i leads are made, i - 1 steps are
+pub course-waits : {A : Type 0} (f : ℕ → A → A) (a : A) (i : ℕ) {s : A} → i ≡ 0 → s ≡ iter f a (i - 1) → s ≡ iter f a (i + 1 - 1)
+course-waits f a i h p = let e : i - 1 ≡ i + 1 - 1 = omega arith in rw e at p
+
+pub course-next : {A : Type 0} (f : ℕ → A → A) (a : A) (i : ℕ) {s r : A} → 0 < i → s ≡ iter f a (i - 1) → r ≡ f (i - 1) s → r ≡ iter f a (i + 1 - 1)
+course-next f a i h p q = let e : i - 1 + 1 ≡ i + 1 - 1 = omega arith in rw e at (iter-next f a (i - 1) p q)
 
 -- one turn of the loop, by the parts
 pub one-turn : (b : Body) (n : ℕ) (z : List Float) (k : ℕ) (s : State) (d : Float) (ns : List Node) {g : Stepped} {node : Node} {d2 : Float}

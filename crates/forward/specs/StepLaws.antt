@@ -1,6 +1,6 @@
 -- What a step needs of the pyramid's skew and matrix, and what it hands on. Assumes nothing.
 use Prim.Native.Nat.{ℕ, zero, suc, _+_, _≤_}
-use mathlib.Core.Path.{_≡_, refl, sym, ap, _∙_}
+use mathlib.Core.Path.{_≡_, refl}
 use mathlib.Core.Bool.{Bool, true, false, cond, _&&_}
 use lib.Dec.{eqb, eqb·suc-zero}
 use mathlib.Core.List.{List}
@@ -19,21 +19,16 @@ use Rattle.actuators.specs.declared.Jacobian.{Jacobian}
 use Rattle.actuators.specs.Maps.{gimbals, noCmgs}
 use Rattle.common.specs.Lists.{slice}
 use Rattle.geom.specs.Vec as Vec
-use Rattle.geom.specs.Quats.{quatMul, expSo3, normalized}
+use Rattle.geom.specs.Quats.{expSo3}
 use Rattle.geom.specs.declared.Quat.{Quat}
-use Rattle.geom.specs.declared.Normal.{Normal}
-use Rattle.geom.specs.declared.Normal.the-variants as Normal
-use Rattle.geom.specs.declared.Turned.{Turned}
-use Rattle.geom.specs.declared.Turned.the-variants as Turned
 use Rattle.controls.specs.Limits.{powerExcess}
 use Rattle.controls.specs.Parts.{Sized, width, axes, rowTorque, momentaNext}
 use Rattle.controls.specs.declared.Rig.{Rig}
-use Rattle.forward.specs.Steps.{Body, matrixAt, swing, swingBy, swungBy, noSwing, gimbalsNext, gimbalRow, stop, halt, slack, attitudeStep, powered, wheelMomenta, bodyMomentum, rateDot, rateNext, defectOf, turnOf, turnedStep, normedStep, ratedStep, torquedStep, step}
+use Rattle.forward.specs.Steps.{Body, matrixAt, swing, swingBy, swungBy, noSwing, gimbalsNext, gimbalRow, stop, slack, attitudeStep, powered, wheelMomenta, bodyMomentum, rateDot, rateNext, defectOf, turnOf, turnedStep, ratedStep, torquedStep, step}
 use Rattle.forward.specs.declared.Skew.{Skew}
 use Rattle.forward.specs.declared.Swung.{Swung}
 use Rattle.forward.specs.declared.State.{State}
 use Rattle.forward.specs.declared.Stepped.{Stepped}
-use Rattle.forward.specs.declared.Moved.{Moved}
 
 -- the sine and the cosine of the pyramid's skew
 abbrev pub SkewOf : Cmgs → Skew → Type 0
@@ -43,10 +38,6 @@ SkewOf (With p) k = bothOf (p .«skew_rad») ≡ Both.Are (k .sine) (k .cosine)
 -- a pyramid's matrix that is there
 abbrev pub Made : Cmgs → List Float → List Float → Type 0
 Made c d a = matrixAt c d ≡ record { fate = Going; a = a }
-
--- a step that goes on hands the matrix at its end to the next
-abbrev pub Handed : Cmgs → Moved → Type 0
-Handed c m = m .step .fate ≡ Going → Made c (m .step .s .delta) (m .a)
 
 -- a step whose defect is squared, with its root
 abbrev pub rooted : Stepped → Stepped
@@ -103,10 +94,6 @@ row-room r n s = room-by (r .«wheel_count») (r .«thruster_count») (r .cmgs) 
 
 -- ---- the end of a step, by the parts that the code works out
 
--- a step that halts hands nothing on
-pub halted : (c : Cmgs) {m : Moved} {n i : ℕ} {s : State} → m ≡ halt n i s → Handed c m
-halted c e h = absurd (refused-going (rw e at h))
-
 module _ (b : Body) (u : List Float) (k : ℕ) (s : State) (tau : List Float) (defect : Float) (w2 : List Float) (q2 : Quat) {g : Swung}
     (is : g ≡ swing (b .rig .cmgs) (gimbalRow (b .rig) u) (s .delta) (b .frame .dt) k) where
   pub ends-swung : {n i : ℕ} → g .fate ≡ Refused n i → stop n i s ≡ attitudeStep b u k s tau defect w2 q2
@@ -129,22 +116,9 @@ pub hands-on : (c : Cmgs) (u d : List Float) (dt : Float) (k : ℕ) {g : Swung} 
 hands-on c u d dt k is t = rw is (swing-matrix c u d dt k (rw is at t))
 
 -- ---- the start of a step, by the parts that the code works out
-module _ (b : Body) (u : List Float) (k : ℕ) (s : State) {a tau wd w2 v : List Float} {defect : Float} {x : Turned} (m : Made (b .rig .cmgs) (s .delta) a)
+module _ (b : Body) (u : List Float) (k : ℕ) (s : State) {a tau wd w2 v : List Float} {defect : Float} (m : Made (b .rig .cmgs) (s .delta) a)
     (t : tau ≡ rowTorque (b .rig) (b .wheels) (b .thrusters) u (s .w) (s .h) a) (d : wd ≡ rateDot (b .frame .j) (b .frame .jinv) (s .w) (s .h) tau)
-    (n : w2 ≡ rateNext (s .w) wd (b .frame .dt)) (f : defect ≡ defectOf (b .frame .j) (s .w) (s .h) tau wd) (g : v ≡ turnOf (s .w) w2 (b .frame .dt)) (e : x ≡ expSo3 v) where
-  turned-is : turnedStep x b u k s tau defect w2 ≡ step b u k s
+    (n : w2 ≡ rateNext (s .w) wd (b .frame .dt)) (f : defect ≡ defectOf (b .frame .j) (s .w) (s .h) tau wd) (g : v ≡ turnOf (s .w) w2 (b .frame .dt)) where
+  pub turned-is : turnedStep (expSo3 v) b u k s tau defect w2 ≡ step b u k s
   unfolding step torquedStep ratedStep
-  turned-is = rw (m, e, g, f, n, d, t) refl
-
-  pub stops-outside : x ≡ Turned.Outside → stop 11 k s ≡ step b u k s
-  stops-outside o = ap (λ (y : Turned). turnedStep y b u k s tau defect w2) (sym o) ∙ turned-is
-
-  module _ {r p : Quat} {y : Normal} (o : x ≡ Turned.Is r) (q : p ≡ quatMul (s .q) r) (l : y ≡ normalized (b .frame .tolerance) p) where
-    normed-is : normedStep y b u k s tau defect w2 ≡ step b u k s
-    normed-is = ap (λ (i : Normal). normedStep i b u k s tau defect w2) (l ∙ ap (normalized (b .frame .tolerance)) q) ∙ (ap (λ (i : Turned). turnedStep i b u k s tau defect w2) (sym o) ∙ turned-is)
-
-    pub stops-off : y ≡ Normal.Not → stop 5 2 s ≡ step b u k s
-    stops-off z = ap (λ (i : Normal). normedStep i b u k s tau defect w2) (sym z) ∙ normed-is
-
-    pub goes-on : {q2 : Quat} → y ≡ Normal.Is q2 → attitudeStep b u k s tau defect w2 q2 ≡ step b u k s
-    goes-on z = ap (λ (i : Normal). normedStep i b u k s tau defect w2) (sym z) ∙ normed-is
+  turned-is = rw (m, g, f, n, d, t) refl

@@ -27,7 +27,6 @@ use Rattle.forward.specs.declared.Frame.{Frame}
 use Rattle.forward.specs.declared.State.{State}
 use Rattle.forward.specs.declared.Swung.{Swung}
 use Rattle.forward.specs.declared.Stepped.{Stepped}
-use Rattle.forward.specs.declared.Moved.{Moved}
 
 -- What no step of a run changes: the actuators' counts, pyramid and tables, the inertia and its inverse, the norm tolerance, the time of a step.
 pub record Body : Type 0 where
@@ -43,10 +42,6 @@ bodyWith r wheels powers thrusters f = record { rig = r; wheels = wheels; powers
 -- a step that ends the run: the state as it was, no torque
 abbrev pub stop : ℕ → ℕ → State → Stepped
 stop n place s = record { fate = Refused n place; s = s; tau = Vec.zero3; defect = Vec.zero }
-
--- the same, with no matrix for a next step
-abbrev pub halt : ℕ → ℕ → State → Moved
-halt n place s = record { step = stop n place s; a = replicate 12 Vec.zero }
 
 -- ---- what the stages work out
 

@@ -46,10 +46,23 @@ pub struct Stepped {
     pub defect: f64,
 }
 
-// A step, its defect squared, with the pyramid's matrix at its end for the next step's torque.
-pub struct Moved {
-    pub step: Stepped,
+// What a step gives but for the attitude, on which no rate waits: how it ends where the attitude is not refused, the torque, the defect squared, the turn
+// and its length, the state at its end (with any attitude), the pyramid's matrix there.
+pub struct Lead {
+    pub fate: Fate,
+    pub tau: [f64; 3],
+    pub square: f64,
+    pub turn: [f64; 3],
+    pub length: f64,
+    pub s: State,
     pub a: [f64; 12],
+}
+
+// The attitude at a step's end, or refusal 11, or refusal 5.
+pub enum Attitude {
+    Is(Quat),
+    Outside,
+    Off,
 }
 
 // The sine and the cosine of a pyramid's skew, made once a run; zeros with no pyramid.

@@ -15,14 +15,20 @@ ghost use Rattle.forward.specs.Defects.{upright};
 ghost use Rattle.forward.specs.Steps as Steps;
 ghost use Rattle.forward.specs.StepLaws.{SkewOf, Made};
 ghost use Rattle.forward.specs.Launch as Launch;
+ghost use Rattle.forward.specs.Leads as Leads;
+ghost use Rattle.forward.specs.Decisions.{rowOf};
 ghost use Rattle.forward.specs.Runs as Runs;
 use super::Frame;
 use super::Launched;
+use super::Lead;
 use super::Node;
 use super::Run;
 use super::Skew;
 use super::State;
-use super::steps::step;
+use super::steps::attitude;
+use super::steps::join;
+use super::steps::lead;
+use super::steps::lead_from;
 use actuators::CmgPyramid;
 use actuators::Cmgs;
 use actuators::Power;
@@ -115,7 +121,33 @@ pub fn larger_square(a: f64, x: f64) -> f64
     if a < x { x } else { a }
 }
 
-// The run from a state whose pyramid matrix is a, n controls a row.
+// The lead of step i from where the lead l ends; there is none past the last step.
+pub fn ahead(
+    r: Rig,
+    wheels: &[f64; 24],
+    powers: [Power; 8],
+    thrusters: &[f64; 36],
+    f: Frame,
+    skew: Skew,
+    n: usize,
+    z: &[f64],
+    i: usize,
+    l: Lead,
+) -> Lead
+    requires { ⌜ (Sized r (gimbals (r .cmgs)) n) × (((n ≤ 12) × (length (now z) ≡ 193)) × SkewOf (r .cmgs) skew) ⌝ }
+    ensures { λ x. ⌜ (i < 16 → Made (r .cmgs) (l .s .delta) (l .a) → Leads.Leads (Steps.bodyWith r (now (wheels .entry)) powers (now (thrusters .entry)) f) (rowOf n (now (z .entry)) i) i (l .s) x) ⌝ }
+{
+    if i < 16 {
+        let at = 1 + i * n;
+        let end = at + n;
+        let s = l.s;
+        let a = l.a;
+        return lead(r, wheels, powers, thrusters, f, skew, &z[at..end], i, s, a);
+    }
+    l
+}
+
+// The run from a state whose pyramid matrix is a, n controls a row: the lead of step i is worked out before the attitude of the step before it.
 pub fn run_from(
     r: Rig,
     wheels: &[f64; 24],
@@ -133,30 +165,32 @@ pub fn run_from(
 {
     let dt = f.dt;
     let mut s = from;
-    let mut m = a;
+    let mut l = lead_from([0.0; 3], 0.0, [0.0; 3], 0.0, from, a);
     let blank = blank_node();
     let mut nodes = [blank; 17];
     let mut square = 0.0;
-    let mut k: usize = 0;
-    while k < 16 {
-        let at = 1 + k * n;
-        let end = at + n;
-        let moved = step(r, wheels, powers, thrusters, f, skew, &z[at..end], k, s, m);
-        let g = moved.step;
-        let fate = g.fate;
-        match fate {
-            Fate::Refused(number, place) => return refused_run(number, place),
-            Fate::Going => {}
+    let mut i: usize = 0;
+    while i < 17 {
+        let next = ahead(r, wheels, powers, thrusters, f, skew, n, &z, i, l);
+        if 0 < i {
+            let k = i - 1;
+            let q = s.q;
+            let turn = l.turn;
+            let g = join(attitude(q, turn, l.length, f.tolerance), k, l, s);
+            let fate = g.fate;
+            match fate {
+                Fate::Refused(number, place) => return refused_run(number, place),
+                Fate::Going => {}
+            }
+            let s2 = g.s;
+            let tau = g.tau;
+            let node = node_of(dt, k, s, tau);
+            nodes[k] = node;
+            square = larger_square(square, g.defect);
+            s = s2;
         }
-        let s2 = g.s;
-        let tau = g.tau;
-        let node = node_of(dt, k, s, tau);
-        nodes[k] = node;
-        square = larger_square(square, g.defect);
-        s = s2;
-        let m2 = moved.a;
-        m = m2;
-        k += 1;
+        l = next;
+        i += 1;
     }
     let before = nodes[15];
     let tau = before.tau;

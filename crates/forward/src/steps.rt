@@ -1,5 +1,6 @@
 // One step of a forward run, in stages. Carried over from `reconstruct` of quatopsy-plan/src/scvx.rs (Apache-2.0), changed: the actuators' tables are
-// lent, and the pyramid's matrix that the singularity test makes is handed to the next step's torque.
+// lent, the pyramid's matrix that the singularity test makes is handed to the next step's torque, and a step is worked out in two parts, its lead and its
+// attitude: no lead waits for an attitude, so the machine works on one step's attitude and the next step's lead at once.
 ghost use mathlib.Core.Path.{_≡_};
 ghost use Prim.Native.Nat.{_+_, _≤_};
 ghost use lib.ListN.{length};
@@ -8,11 +9,14 @@ ghost use Rattle.controls.specs.Parts.{Sized};
 ghost use Rattle.controls.specs.Limits.{powerExcess};
 ghost use Rattle.actuators.specs.declared.Cmgs.the-variants.{With};
 ghost use Rattle.forward.specs.Steps as Steps;
-ghost use Rattle.forward.specs.StepLaws.{SkewOf, Made, Handed, rooted};
+ghost use Rattle.forward.specs.StepLaws.{SkewOf, Made, rooted};
+ghost use Rattle.forward.specs.Leads as Leads;
+ghost use Rattle.geom.specs.Quats.{expAt};
 ghost use lib.Ieee.{binary64, lt};
 ghost use Rattle.float.specs.Sqrt.{sqrt};
+use super::Attitude;
 use super::Frame;
-use super::Moved;
+use super::Lead;
 use super::Skew;
 use super::State;
 use super::Stepped;
@@ -36,17 +40,6 @@ pub fn stop(number: usize, place: usize, s: State) -> Stepped
         s: s,
         tau: tau,
         defect: 0.0,
-    }
-}
-
-// The same, with no matrix.
-pub fn halt(number: usize, place: usize, s: State) -> Moved
-    ensures { λ r. ⌜ r ≡ Steps.halt number place s ⌝ }
-{
-    let a = [0.0; 12];
-    Moved {
-        step: stop(number, place, s),
-        a: a,
     }
 }
 
@@ -159,7 +152,74 @@ fn over_power(wheels: &[f64; 24], powers: [Power; 8], n: usize, u: &[f64], w: [f
     controls::inner::power_excess(wheels, powers, n, u, w) > 1.0e-9
 }
 
-// The end of a step whose torque, defect (squared), rate and attitude are known: momenta, gimbals and power.
+// A lead whose gimbals or power refuse the step.
+pub fn barred(number: usize, place: usize, l: Lead) -> Lead
+    ensures { λ r. ⌜ r ≡ Leads.barred number place l ⌝ }
+{
+    let tau = l.tau;
+    let turn = l.turn;
+    let s = l.s;
+    let a = l.a;
+    Lead {
+        fate: Fate::Refused(number, place),
+        tau: tau,
+        square: l.square,
+        turn: turn,
+        length: l.length,
+        s: s,
+        a: a,
+    }
+}
+
+// A lead of these parts that goes on.
+pub fn lead_from(
+    tau: [f64; 3],
+    square: f64,
+    turn: [f64; 3],
+    length: f64,
+    s: State,
+    a: [f64; 12],
+) -> Lead
+    ensures { λ r. ⌜ r ≡ Leads.leadFrom tau square turn length s a ⌝ }
+{
+    Lead {
+        fate: Fate::Going,
+        tau: tau,
+        square: square,
+        turn: turn,
+        length: length,
+        s: s,
+        a: a,
+    }
+}
+
+// A lead with the rate at its end, and the rest of the state as it was.
+pub fn lead_at(
+    tau: [f64; 3],
+    square: f64,
+    w2: [f64; 3],
+    turn: [f64; 3],
+    length: f64,
+    s: State,
+    a: [f64; 12],
+) -> Lead
+    ensures { λ r. ⌜ r ≡ Leads.leadAt tau square w2 turn length s a ⌝ }
+{
+    let q = s.q;
+    let h = s.h;
+    let hw = s.hw;
+    let d = s.delta;
+    let s2 = State {
+        q: q,
+        w: w2,
+        h: h,
+        hw: hw,
+        delta: d,
+    };
+    lead_from(tau, square, turn, length, s2, a)
+}
+
+// The lead l, whose torque, defect, turn and rate are known, with momenta, gimbals and power: of the step from s.
 pub fn settle(
     r: Rig,
     wheels: &[f64; 24],
@@ -170,13 +230,10 @@ pub fn settle(
     u: &[f64],
     k: usize,
     s: State,
-    tau: [f64; 3],
-    square: f64,
-    w2: [f64; 3],
-    q2: Quat,
-) -> Moved
+    l: Lead,
+) -> Lead
     requires { ⌜ (Sized r (gimbals (r .cmgs)) (length (now u))) × SkewOf (r .cmgs) skew ⌝ }
-    ensures { λ m. ⌜ (rooted (m .step) ≡ Steps.attitudeStep (Steps.bodyWith r (now (wheels .entry)) powers (now (thrusters .entry)) f) (now (u .entry)) k s tau (sqrt binary64 square) w2 q2) × Handed (r .cmgs) m ⌝ }
+    ensures { λ x. ⌜ Leads.Settled (Steps.bodyWith r (now (wheels .entry)) powers (now (thrusters .entry)) f) (now (u .entry)) k s l x ⌝ }
 {
     let dt = f.dt;
     let nw = r.wheel_count;
@@ -189,34 +246,33 @@ pub fn settle(
     let g = swing(cmgs, skew, &u[at..end], d, dt, k);
     let fate = g.fate;
     match fate {
-        Fate::Refused(number, place) => return halt(number, place, s),
+        Fate::Refused(number, place) => return barred(number, place, l),
         Fate::Going => {}
     }
     if over_power(wheels, powers, nw, &u[0..nw], w) {
-        return halt(13, k, s);
+        return barred(13, k, l);
     }
     let hw2 = controls::inner::momenta_next(nw, hw, &u[0..nw], dt);
     let h2 = controls::inner::axis_sum(wheels, nw, &hw2, [0.0; 3]);
+    let tau = l.tau;
+    let turn = l.turn;
+    let e = l.s;
+    let q = e.q;
+    let w2 = e.w;
     let d2 = g.delta;
     let a2 = g.a;
     let s2 = State {
-        q: q2,
+        q: q,
         w: w2,
         h: h2,
         hw: hw2,
         delta: d2,
     };
-    let step = Stepped {
-        fate: Fate::Going,
-        s: s2,
-        tau: tau,
-        defect: square,
-    };
-    Moved { step: step, a: a2 }
+    lead_from(tau, l.square, turn, l.length, s2, a2)
 }
 
-// Step k with the control row u, from the state s whose pyramid matrix is a; its defect stays squared.
-pub fn step(
+// The lead of step k with the control row u, from the state s, whatever its attitude, whose pyramid matrix is a.
+pub fn lead(
     r: Rig,
     wheels: &[f64; 24],
     powers: [Power; 8],
@@ -227,13 +283,12 @@ pub fn step(
     k: usize,
     s: State,
     a: [f64; 12],
-) -> Moved
-    requires { ⌜ (Sized r (gimbals (r .cmgs)) (length (now u))) × (SkewOf (r .cmgs) skew × Made (r .cmgs) (s .delta) a) ⌝ }
-    ensures { λ m. ⌜ (rooted (m .step) ≡ Steps.step (Steps.bodyWith r (now (wheels .entry)) powers (now (thrusters .entry)) f) (now (u .entry)) k s) × Handed (r .cmgs) m ⌝ }
+) -> Lead
+    requires { ⌜ (Sized r (gimbals (r .cmgs)) (length (now u))) × SkewOf (r .cmgs) skew ⌝ }
+    ensures { λ x. ⌜ (Made (r .cmgs) (s .delta) a → Leads.Leads (Steps.bodyWith r (now (wheels .entry)) powers (now (thrusters .entry)) f) (now (u .entry)) k s x) ⌝ }
 {
     let w = s.w;
     let h = s.h;
-    let q = s.q;
     let j = f.j;
     let jinv = f.jinv;
     let dt = f.dt;
@@ -241,25 +296,63 @@ pub fn step(
     let wd = rate_dot(j, jinv, w, h, tau);
     let w2 = rate_next(w, wd, dt);
     let square = defect_square(j, w, h, tau, wd);
-    let Turned::Is(e) = geom::exp_so3(turn_of(w, w2, dt)) else {
-        return halt(11, k, s);
+    let turn = turn_of(w, w2, dt);
+    let length = geom::norm3(turn);
+    let l = lead_at(tau, square, w2, turn, length, s, a);
+    settle(r, wheels, powers, thrusters, f, skew, u, k, s, l)
+}
+
+// The attitude q after a turn.
+pub fn attitude(q: Quat, turn: [f64; 3], length: f64, tolerance: f64) -> Attitude
+    ensures { λ r. ⌜ r ≡ Leads.turnedTo (expAt turn length) tolerance q ⌝ }
+{
+    let Turned::Is(e) = geom::exp_at(turn, length) else {
+        return Attitude::Outside;
     };
-    let Normal::Is(q2) = q.mul(e).normalized(f.tolerance) else {
-        return halt(5, 2, s);
+    let Normal::Is(q2) = q.mul(e).normalized(tolerance) else {
+        return Attitude::Off;
     };
-    settle(
-        r,
-        wheels,
-        powers,
-        thrusters,
-        f,
-        skew,
-        u,
-        k,
-        s,
-        tau,
-        square,
-        w2,
-        q2,
-    )
+    Attitude::Is(q2)
+}
+
+// The step from s that a lead and the attitude q2 give; its defect stays squared.
+pub fn joined_at(q2: Quat, l: Lead, s: State) -> Stepped
+    ensures { λ r. ⌜ rooted r ≡ Leads.joinedAt (l .fate) q2 l s ⌝ }
+{
+    let fate = l.fate;
+    match fate {
+        Fate::Refused(number, place) => stop(number, place, s),
+        Fate::Going => {
+            let tau = l.tau;
+            let e = l.s;
+            let w = e.w;
+            let h = e.h;
+            let hw = e.hw;
+            let delta = e.delta;
+            let s2 = State {
+                q: q2,
+                w: w,
+                h: h,
+                hw: hw,
+                delta: delta,
+            };
+            Stepped {
+                fate: Fate::Going,
+                s: s2,
+                tau: tau,
+                defect: l.square,
+            }
+        }
+    }
+}
+
+// Step k from s, of its lead and its attitude.
+pub fn join(t: Attitude, k: usize, l: Lead, s: State) -> Stepped
+    ensures { λ r. ⌜ rooted r ≡ Leads.joined t k l s ⌝ }
+{
+    match t {
+        Attitude::Outside => stop(11, k, s),
+        Attitude::Off => stop(5, 2, s),
+        Attitude::Is(q2) => joined_at(q2, l, s),
+    }
 }

@@ -264,10 +264,10 @@ pub fn unit3(v: [f64; 3]) -> Axis
     Axis::Is(v[0] * s, v[1] * s, v[2] * s)
 }
 
-pub fn exp_so3(phi: [f64; 3]) -> Turned
-    ensures { λ r. ⌜ r ≡ Quats.expSo3 phi ⌝ }
+// The turn by a rotation vector of length n.
+pub fn exp_at(phi: [f64; 3], n: f64) -> Turned
+    ensures { λ r. ⌜ r ≡ Quats.expAt phi n ⌝ }
 {
-    let n = norm3(phi);
     if n < 1.0e-16 {
         return Turned::Is(Quat {
             w: 1.0,
@@ -289,6 +289,12 @@ pub fn exp_so3(phi: [f64; 3]) -> Turned
         }
         Both::Outside => Turned::Outside,
     }
+}
+
+pub fn exp_so3(phi: [f64; 3]) -> Turned
+    ensures { λ r. ⌜ r ≡ Quats.expSo3 phi ⌝ }
+{
+    exp_at(phi, norm3(phi))
 }
 
 // The rotation vector of a quaternion whose scalar part is not below 0.

@@ -2,56 +2,51 @@ use lib.Ieee as Ieee
 use lib.Dec.{T}
 use Rattle.float.specs.Sqrt as Sqrt
 use Rattle.forward.specs.Defects.{upright}
-use Prim.Native.Nat.{ℕ, _≤_, _-_}
-use mathlib.Core.Path.{_≡_, refl, sym, ap, _∙_}
+use Prim.Native.Nat.{_≤_, _-_}
+use mathlib.Core.Path.{_≡_, refl, sym, _∙_}
+use mathlib.Core.Logic.{⊎-elim}
 use lib.ListN.{length}
-use Rattle.common.specs.Iter.{iter, iter-none, iter-next, row-end}
+use Rattle.common.specs.Iter.{iter, iter-none}
 use Rattle.forward.specs.Steps as Steps
-use Rattle.forward.specs.StepLaws.{Made}
+use Rattle.forward.specs.Leads.{Chased, chased-step, chased-first, chased-next}
 use Rattle.forward.specs.Runs as Runs
-use Rattle.forward.specs.RunLaws.{going, one-turn, refused-turn, ends-refused, ends-going}
+use Rattle.forward.specs.RunLaws.{going, course-waits, course-next, one-turn, refused-turn, ends-refused, ends-going}
 use native.Mathlib.Omega.{arith}
 use borrow.Author.Needs.{needs}
 use Rattle.forward.proofs.runs.run_from.Statement.{statement}
 use Rattle.forward.proofs.runs.run_from.Tie as tie
 
 abbrev Inv-loop : tie.InvT-loop
-Inv-loop r wheels powers thrusters f skew n z dt s₀ m₀ nodes₀ square₀ k₀ s m nodes square k =
-    (k ≤ 16) × ((length nodes ≡ 17) × ((going s (Sqrt.sqrt Ieee.binary64 square) nodes ≡ iter (Runs.courseTurn (Steps.bodyWith r wheels powers thrusters f) n z) (going s₀ square₀ nodes₀) k) × (T (upright square) × Made (r .cmgs) (s .delta) m)))
+Inv-loop r wheels powers thrusters f skew n z dt s₀ l₀ nodes₀ square₀ i₀ s l nodes square i =
+    (i ≤ 17) × ((length nodes ≡ 17) × ((going s (Sqrt.sqrt Ieee.binary64 square) nodes ≡ iter (Runs.courseTurn (Steps.bodyWith r wheels powers thrusters f) n z) (going s₀ square₀ nodes₀) (i - 1)) × (T (upright square) × Chased (Steps.bodyWith r wheels powers thrusters f) n z i s l)))
 
 abbrev μ-loop : tie.MeasureT-loop
-μ-loop r wheels powers thrusters f skew n z dt s₀ m₀ nodes₀ square₀ k₀ s m nodes square k = 16 - k
+μ-loop r wheels powers thrusters f skew n z dt s₀ l₀ nodes₀ square₀ i₀ s l nodes square i = 17 - i
+
+lead-from-requires : tie.Need-lead-from-requires Inv-loop μ-loop
+lead-from-requires c κs = search needs
 
 blank-node-requires : tie.Need-blank-node-requires Inv-loop μ-loop
 blank-node-requires c κs = search needs
 
 loop-holds : tie.Need-loop-holds Inv-loop μ-loop
 unfolding Sqrt.sqrt Ieee.ofBits
-loop-holds c = (search needs, (search needs, (iter-none _ _, (tt, c .before .pre .1 .1 .1))))
+loop-holds c = (search needs, (search needs, (iter-none _ _, (tt, record { first = λ e. rw (c .before .lead-from .ensures) (refl, c .before .before .pre .1 .1 .1); later = λ h. absurd (omega arith) }))))
 
-mul-at : tie.Need-mul-at Inv-loop μ-loop
-mul-at c = omega (arith, row-end (c .before .loop .k) 16 (c .before .before .before .args .n) (search needs), c .before .before .before .pre .1 .0)
+slice-aggregate-ahead : tie.Need-slice-aggregate-ahead Inv-loop μ-loop
+slice-aggregate-ahead c = sym (c .before .before .before .before .before .good .1 .1 .1 .1 .1 .1 .1 .0 .1 .0 .1)
 
-add-at : tie.Need-add-at Inv-loop μ-loop
-add-at c = omega (arith, row-end (c .before .loop .k) 16 (c .before .before .before .args .n) (search needs), c .before .before .before .pre .1 .0)
+ahead-requires : tie.Need-ahead-requires Inv-loop μ-loop
+ahead-requires c κs = (c .before .before .before .before .before .pre .0, ((c .before .before .before .before .before .pre .1 .0, c .before .before .before .before .before .good .1 .1 .1 .1 .1 .1 .1 .0 .1 .0 .1), c .before .before .before .before .before .pre .1 .1 .0))
 
-add-end : tie.Need-add-end Inv-loop μ-loop
-add-end c = omega (arith, row-end (c .before .loop .k) 16 (c .before .before .before .args .n) (search needs), c .before .before .before .pre .1 .0)
+sub-k : tie.Need-sub-k Inv-loop μ-loop
+sub-k c = search needs
 
-mul-step : tie.Need-mul-step Inv-loop μ-loop
-mul-step c = omega (arith, row-end (c .before .loop .k) 16 (c .before .before .before .args .n) (search needs), c .before .before .before .pre .1 .0)
+attitude-requires : tie.Need-attitude-requires Inv-loop μ-loop
+attitude-requires c κs = search needs
 
-sub-step : tie.Need-sub-step Inv-loop μ-loop
-sub-step c = search needs
-
-part-step-start : tie.Need-part-step-start Inv-loop μ-loop
-part-step-start c = search needs
-
-part-step-end : tie.Need-part-step-end Inv-loop μ-loop
-part-step-end c = omega (arith, row-end (c .before .before .loop .k) 16 (c .before .before .before .before .args .n) (search needs), c .before .before .before .before .pre .1 .0)
-
-step-requires : tie.Need-step-requires Inv-loop μ-loop
-step-requires c κs = search needs
+join-requires : tie.Need-join-requires Inv-loop μ-loop
+join-requires c κs = search needs
 
 enum-known-fate : tie.Need-enum-known-fate Inv-loop μ-loop
 enum-known-fate c = search needs
@@ -61,31 +56,53 @@ refused-run-requires c κs = search needs
 
 returns : tie.Need-returns Inv-loop μ-loop
 unfolding Ieee.ofBits
-returns c = c .refused-run .ensures ∙ ends-refused _ _ _ _ _ _ (search needs) (rw (c .before .before .before .before .before .before .before .before .before .before .blank-node .ensures) at (c .before .before .before .before .before .before .before .before .before .loop .inv .1 .1 .0)) (refused-turn _ _ _ _ _ _ _ (c .before .before .before .before .before .step .ensures .0) (c .before .before .fate .given .1))
+returns c =
+    let l = c .before .before .before .before .before .before .before .before .before .before .before .before in
+    let t = c .before .before .before .before .before .before .before .before .before .before .before .loop-test .taken in
+    let u = c .before .before .before .before .before .before .before .before .if1 .taken in
+    c .refused-run .ensures
+    ∙ ends-refused _ _ _ _ _ _ (omega (arith, t, u)) (rw (l .before .blank-node .ensures) at (l .loop .inv .1 .1 .0))
+    (refused-turn _ _ _ _ _ _ _ (chased-step _ _ _ _ (l .loop .inv .1 .1 .1 .1) u t (c .before .before .before .before .before .attitude .ensures) (c .before .before .before .before .join .ensures)) (c .before .before .fate .given .1))
 
 enum-told : tie.Need-enum-told Inv-loop μ-loop
 enum-told c = search needs
 
 node-of-requires : tie.Need-node-of-requires Inv-loop μ-loop
-node-of-requires c κs = search needs
+node-of-requires c κs = omega arith
 
 mul-nodes : tie.Need-mul-nodes Inv-loop μ-loop
-mul-nodes c = search needs
+mul-nodes c = omega arith
 
 array-set-from-nodes : tie.Need-array-set-from-nodes Inv-loop μ-loop
-array-set-from-nodes c = search needs
+array-set-from-nodes c = omega arith
 
 larger-square-requires : tie.Need-larger-square-requires Inv-loop μ-loop
-larger-square-requires c κs = c .before .before .before .before .before .before .before .before .before .before .loop .inv .1 .1 .1 .0
+larger-square-requires c κs = c .before .before .before .before .before .before .before .before .before .before .before .before .before .loop .inv .1 .1 .1 .0
 
-add-k : tie.Need-add-k Inv-loop μ-loop
-add-k c = search needs
+add-i : tie.Need-add-i Inv-loop μ-loop
+add-i c = search needs
 
 loop-less : tie.Need-loop-less Inv-loop μ-loop
 loop-less c = search needs
 
 loop-again : tie.Need-loop-again Inv-loop μ-loop
-loop-again c = (search needs, (search needs, (iter-next _ _ _ (c .before .before .before .before .before .before .before .before .before .before .before .before .loop .inv .1 .1 .0) (one-turn _ _ _ _ _ _ _ (c .before .before .before .before .before .before .before .before .step .ensures .0) (c .before .before .node-of .ensures) (c .before .larger-square .ensures .1) (c .before .before .before .before .before .enum-told .given .1)), (c .before .larger-square .ensures .0, c .before .before .before .before .before .before .before .before .step .ensures .1 (c .before .before .before .before .before .enum-told .given .1)))))
+loop-again c =
+    let v = c .before .before .before .before .loop .inv in
+    let a = c .before .ahead .ensures in
+    ⊎-elim
+    (λ w. rw (w .11, w .12, w .13) (
+      omega arith,
+      (
+        search needs,
+        (
+          course-next _ _ _ (w .0 .taken) (v .1 .1 .0)
+              (one-turn _ _ _ _ _ _ _ (chased-step _ _ _ _ (v .1 .1 .1 .1) (w .0 .taken) (search needs) (w .3 .ensures) (w .4 .ensures)) (w .9 .ensures) (w .10 .ensures .1) (w .6 .given .1)),
+          (w .10 .ensures .0, chased-next _ _ _ _ (v .1 .1 .1 .1) a (w .0 .taken) (search needs) (w .3 .ensures) (w .4 .ensures) (w .6 .given .1)),
+        ),
+      ),
+    ))
+    (λ w. rw (w .1, w .2, w .3) (omega arith, (search needs, (course-waits _ _ _ (omega arith) (v .1 .1 .0), (v .1 .1 .1 .0, chased-first _ _ _ _ (v .1 .1 .1 .1) a (omega arith))))))
+    (c .if1 .came)
 
 array-copy-out-before : tie.Need-array-copy-out-before Inv-loop μ-loop
 array-copy-out-before c = search needs
@@ -103,7 +120,7 @@ returns-2 : tie.Need-returns-2 Inv-loop μ-loop
 unfolding Ieee.ofBits
 returns-2 c =
     let l = c .before .before .before .before .before in
-    let e : l .loop .k ≡ 16 = omega arith in
+    let e : l .loop .i - 1 ≡ 16 = omega arith in
     rw (c .sqrt .ensures, c .before .node-of2 .ensures)
     (ends-going _ _ _ _ (going (l .loop .s) (Sqrt.sqrt Ieee.binary64 (l .loop .square)) (l .loop .nodes)) (rw (← e) (rw (l .before .blank-node .ensures) at (l .loop .inv .1 .1 .0))) refl)
 
@@ -113,16 +130,14 @@ run-from-spec =
     (tie.spec
     Inv-loop
     μ-loop
+    lead-from-requires
     blank-node-requires
     loop-holds
-    mul-at
-    add-at
-    add-end
-    mul-step
-    sub-step
-    part-step-start
-    part-step-end
-    step-requires
+    slice-aggregate-ahead
+    ahead-requires
+    sub-k
+    attitude-requires
+    join-requires
     enum-known-fate
     refused-run-requires
     returns
@@ -131,7 +146,7 @@ run-from-spec =
     mul-nodes
     array-set-from-nodes
     larger-square-requires
-    add-k
+    add-i
     loop-less
     loop-again
     array-copy-out-before

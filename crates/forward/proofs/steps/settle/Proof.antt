@@ -1,6 +1,7 @@
 use mathlib.Core.Path.{refl, sym, _∙_}
 use lib.Ieee as Ieee
-use Rattle.forward.specs.StepLaws.{rooted-stop, row-room, halted, ends-swung, ends-powered, ends-settled, hands-on}
+use Rattle.forward.specs.StepLaws.{row-room, ends-swung, ends-powered, ends-settled, hands-on}
+use Rattle.forward.specs.Leads.{facing, settled-barred, settled-going}
 use native.Mathlib.Omega.{arith}
 use borrow.Author.Needs.{needs}
 use Rattle.forward.proofs.steps.settle.Statement.{statement}
@@ -27,11 +28,11 @@ swing-requires c κs = (omega (arith, row-room _ _ (c .before .before .before .b
 enum-known-fate : tie.Need-enum-known-fate
 enum-known-fate c = search needs
 
-halt-requires : tie.Need-halt-requires
-halt-requires c κs = search needs
+barred-requires : tie.Need-barred-requires
+barred-requires c κs = search needs
 
 returns : tie.Need-returns
-returns c = (rw (c .halt .ensures) (rooted-stop _ _ _ ∙ ends-swung _ _ _ _ _ _ _ _ (c .before .before .before .before .swing .ensures) (c .before .before .fate .given .1)), halted (c .before .before .before .before .before .before .before .before .before .before .before .args .r .cmgs) (c .halt .ensures))
+returns c = settled-barred _ _ _ _ _ (c .barred .ensures) (λ q q2. ends-swung _ _ _ (facing q (c .before .before .before .before .before .before .before .before .before .before .before .args .s)) _ _ _ q2 (c .before .before .before .before .swing .ensures) (c .before .before .fate .given .1))
 
 enum-told : tie.Need-enum-told
 enum-told c = search needs
@@ -48,12 +49,12 @@ part-over-power-end c = omega (arith, row-room _ _ (c .before .before .before .b
 over-power-requires : tie.Need-over-power-requires
 over-power-requires c κs = search needs
 
-halt-requires-2 : tie.Need-halt-requires-2
-halt-requires-2 c κs = search needs
+barred-requires-2 : tie.Need-barred-requires-2
+barred-requires-2 c κs = search needs
 
 returns-2 : tie.Need-returns-2
 unfolding Ieee.ofBits
-returns-2 c = (rw (c .halt2 .ensures) (rooted-stop _ _ _ ∙ ends-powered _ _ _ _ _ _ _ _ (c .before .before .before .before .before .before .swing .ensures) (c .before .before .before .before .enum-told .given .1) refl (sym (c .before .before .over-power .ensures) ∙ c .before .if1 .taken)), halted (c .before .before .before .before .before .before .before .before .before .before .before .before .before .args .r .cmgs) (c .halt2 .ensures))
+returns-2 c = settled-barred _ _ _ _ _ (c .barred2 .ensures) (λ q q2. ends-powered _ _ _ (facing q (c .before .before .before .before .before .before .before .before .before .before .before .before .before .args .s)) _ _ _ q2 (c .before .before .before .before .before .before .swing .ensures) (c .before .before .before .before .enum-told .given .1) refl (sym (c .before .before .over-power .ensures) ∙ c .before .if1 .taken))
 
 sub-momenta-next : tie.Need-sub-momenta-next
 sub-momenta-next c = search needs
@@ -73,9 +74,12 @@ slice-aggregate-axis-sum c = search needs
 axis-sum-requires : tie.Need-axis-sum-requires
 axis-sum-requires c κs = search needs
 
+lead-from-requires : tie.Need-lead-from-requires
+lead-from-requires c κs = search needs
+
 returns-3 : tie.Need-returns-3
 unfolding Ieee.ofBits
-returns-3 c = (ends-settled _ _ _ _ _ _ _ _ (c .before .before .before .before .before .before .before .before .before .before .before .before .swing .ensures) (c .before .before .before .before .before .before .before .before .before .before .enum-told .given .1) refl (sym (c .before .before .before .before .before .before .before .before .over-power .ensures) ∙ c .before .before .before .before .before .before .before .if1 .left) (c .before .before .before .before .before .momenta-next .ensures) (c .before .before .axis-sum .ensures), λ h. hands-on _ _ _ _ _ (c .before .before .before .before .before .before .before .before .before .before .before .before .swing .ensures) (c .before .before .before .before .before .before .before .before .before .before .enum-told .given .1))
+returns-3 c = settled-going _ _ _ _ _ (c .lead-from .ensures) (λ q q2. ends-settled _ _ _ (facing q (c .before .before .before .before .before .before .before .before .before .before .before .before .before .before .before .before .before .before .before .before .before .before .before .before .before .args .s)) _ _ _ q2 (c .before .before .before .before .before .before .before .before .before .before .before .before .before .before .before .before .before .before .swing .ensures) (c .before .before .before .before .before .before .before .before .before .before .before .before .before .before .before .before .enum-told .given .1) refl (sym (c .before .before .before .before .before .before .before .before .before .before .before .before .before .before .over-power .ensures) ∙ c .before .before .before .before .before .before .before .before .before .before .before .before .before .if1 .left) (c .before .before .before .before .before .before .before .before .before .before .before .momenta-next .ensures) (c .before .before .before .before .before .before .before .before .axis-sum .ensures)) (hands-on _ _ _ _ _ (c .before .before .before .before .before .before .before .before .before .before .before .before .before .before .before .before .before .before .swing .ensures) (c .before .before .before .before .before .before .before .before .before .before .before .before .before .before .before .before .enum-told .given .1))
 
 pub settle-spec : {M : Type 1} → statement M
 settle-spec =
@@ -88,14 +92,14 @@ settle-spec =
     part-swing-end
     swing-requires
     enum-known-fate
-    halt-requires
+    barred-requires
     returns
     enum-told
     sub-over-power
     part-over-power-start
     part-over-power-end
     over-power-requires
-    halt-requires-2
+    barred-requires-2
     returns-2
     sub-momenta-next
     part-momenta-next-start
@@ -103,4 +107,5 @@ settle-spec =
     momenta-next-requires
     slice-aggregate-axis-sum
     axis-sum-requires
+    lead-from-requires
     returns-3)
