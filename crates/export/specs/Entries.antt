@@ -10,9 +10,9 @@ use Rattle.problem.specs.Problems.{check}
 use Rattle.problem.specs.declared.CheckedProblem.{CheckedProblem}
 use Rattle.planner.specs.Plans.{plan, planFrom, profiled}
 use Rattle.planner.specs.declared.Planned.{Planned}
-use Rattle.export.specs.Declared.{problem}
-use Rattle.export.specs.Outcomes.{ofProfiled}
-use Rattle.export.specs.Paths.{place}
+use Rattle.export_problem.specs.Declared.{problem}
+use Rattle.export_leaves.specs.Outcomes.{ofProfiled}
+use Rattle.export_runs.specs.Paths.{place}
 
 -- with our own seed, on a workspace of `size` numbers
 abbrev pub own : List ℕ → List Float → List Float → Bool → ℕ → Planned

@@ -1,7 +1,2 @@
--- What the contracts of the C interface cite besides the libraries' own definitions.
-pub mod Packed
-pub mod Outcomes
-pub mod Systems
-pub mod Declared
-pub mod Paths
+-- What the contracts of a controller's C interface cite besides the libraries' own definitions.
 pub mod Entries

@@ -7,10 +7,10 @@ ghost use lib.ListN.{length};
 ghost use Rattle.planner.specs.Plans as Plans;
 ghost use Rattle.samples.specs.Rows as Rows;
 ghost use Rattle.export.specs.Entries as Entries;
-ghost use Rattle.export.specs.Paths as Paths;
-use super::declared::problem_of;
-use super::paths::number_of;
-use super::paths::place_of;
+ghost use Rattle.export_runs.specs.Paths as Paths;
+use export_problem::problem_of;
+use export_runs::paths::number_of;
+use export_runs::paths::place_of;
 use planner::Planned;
 use samples::rows::rows;
 

@@ -2,16 +2,16 @@
 // attitude, rate, torque and body momentum. Beside a refusal the sample is zeros.
 ghost use mathlib.Core.Path.{_≡_};
 ghost use Rattle.geom.specs.Vec as Vec;
+ghost use Rattle.sample_text.specs.SampleTexts as SampleTexts;
 ghost use Rattle.samples.specs.Answers as Answers;
 ghost use Rattle.samples.specs.Counts as Counts;
 ghost use Rattle.samples.specs.Samples as Samples;
-ghost use Rattle.export.specs.Outcomes as Outcomes;
-ghost use Rattle.export.specs.Packed as Packed;
-ghost use Rattle.export.specs.Paths as Paths;
-use super::paths::number_of;
-use super::paths::place_of;
+ghost use Rattle.export_leaves.specs.Outcomes as Outcomes;
+ghost use Rattle.export_runs.specs.Paths as Paths;
+use export_runs::paths::number_of;
+use export_runs::paths::place_of;
+use sample_text::numbers_of;
 use samples::Count;
-use samples::PathSample;
 
 // A refusal's number, or 0, and then the count is put into `out`.
 fn put_count(n: Count, out: &mut usize) -> usize
@@ -41,32 +41,6 @@ pub extern "C" fn slew_sample_count(
     put_count(samples::sample_count(duration, requested, alpha), out)
 }
 
-// The numbers of a sample.
-fn sample_numbers(s: PathSample) -> [f64; 14]
-    ensures { λ r. ⌜ r ≡ Packed.sampleNumbers s ⌝ }
-{
-    let q = s.q;
-    let w = s.w;
-    let u = s.tau;
-    let h = s.h;
-    [
-        s.t,
-        q.w,
-        q.x,
-        q.y,
-        q.z,
-        w[0],
-        w[1],
-        w[2],
-        u[0],
-        u[1],
-        u[2],
-        h[0],
-        h[1],
-        h[2],
-    ]
-}
-
 // Sample number index of a path.
 #[no_mangle]
 pub extern "C" fn slew_sample_path(
@@ -81,14 +55,14 @@ pub extern "C" fn slew_sample_path(
     place: &mut usize,
 ) -> usize
     ensures { λ r. ⌜ r ≡ Paths.number (Samples.sample (Vec.tensor (now (j .entry))) tolerance duration (now (nodes .entry)) requested alpha index .fate) ⌝ }
-    ensures { λ _. ⌜ now (out .exit) ≡ Packed.sampleNumbers (Samples.sample (Vec.tensor (now (j .entry))) tolerance duration (now (nodes .entry)) requested alpha index .sample) ⌝ }
+    ensures { λ _. ⌜ now (out .exit) ≡ SampleTexts.numbers (Samples.sample (Vec.tensor (now (j .entry))) tolerance duration (now (nodes .entry)) requested alpha index .sample) ⌝ }
     ensures { λ _. ⌜ now (place .exit) ≡ Paths.place (Samples.sample (Vec.tensor (now (j .entry))) tolerance duration (now (nodes .entry)) requested alpha index .fate) ⌝ }
 {
     let inertia = geom::tensor(*j);
     let made = samples::sample(inertia, tolerance, duration, nodes, requested, alpha, index);
     let fate = made.fate;
     let s = made.sample;
-    *out = sample_numbers(s);
+    *out = numbers_of(s);
     *place = place_of(fate);
     number_of(fate)
 }

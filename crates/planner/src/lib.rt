@@ -194,7 +194,7 @@ fn with_profile_seed(p: CheckedProblem, seed: Seed, ws: &mut [f64]) -> Planned
 }
 
 // The profile of a checked problem.
-fn profiled(p: CheckedProblem) -> Profiled
+pub fn profiled(p: CheckedProblem) -> Profiled
     ensures { λ r. ⌜ r ≡ Plans.profiled p ⌝ }
 {
     let inertia = p.inertia;

@@ -9,8 +9,8 @@ tensor-requires c κs = search needs
 sample-requires : tie.Need-sample-requires
 sample-requires c κs = search needs
 
-sample-numbers-requires : tie.Need-sample-numbers-requires
-sample-numbers-requires c κs = search needs
+numbers-of-requires : tie.Need-numbers-of-requires
+numbers-of-requires c κs = search needs
 
 place-of-requires : tie.Need-place-of-requires
 place-of-requires c κs = search needs
@@ -22,10 +22,10 @@ returns : tie.Need-returns
 returns c = (
   rw (c .number-of .ensures, c .before .before .before .before .sample .ensures, c .before .before .before .before .before .tensor .ensures),
   (
-    rw (c .before .before .sample-numbers .ensures, c .before .before .before .before .sample .ensures, c .before .before .before .before .before .tensor .ensures),
+    rw (c .before .before .numbers-of .ensures, c .before .before .before .before .sample .ensures, c .before .before .before .before .before .tensor .ensures),
     rw (c .before .place-of .ensures, c .before .before .before .before .sample .ensures, c .before .before .before .before .before .tensor .ensures),
   ),
 )
 
 pub slew-sample-path-spec : {M : Type 1} → statement M
-slew-sample-path-spec = tie.close (tie.spec tensor-requires sample-requires sample-numbers-requires place-of-requires number-of-requires returns)
+slew-sample-path-spec = tie.close (tie.spec tensor-requires sample-requires numbers-of-requires place-of-requires number-of-requires returns)

@@ -1,0 +1,2 @@
+-- What is declared, of its numbers.
+pub mod Declared

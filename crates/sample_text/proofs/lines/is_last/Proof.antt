@@ -1,0 +1,21 @@
+-- `sample_text::lines::is_last` meets its contract. Assumes nothing.
+use Rattle.sample_text.specs.SampleLines.{isLast}
+use Rattle.sample_text.specs.SampleLineLaws.{not-last}
+use borrow.Author.Needs.{needs}
+use Rattle.sample_text.proofs.lines.is_last.Statement.{statement}
+use Rattle.sample_text.proofs.lines.is_last.Tie as tie
+
+returns : tie.Need-returns
+unfolding isLast
+returns c = rw (← c .before .before .sample-count .ensures, c .enum-told .given .1)
+
+returns-2 : tie.Need-returns-2
+unfolding isLast
+returns-2 c = rw (← c .before .before .before .before .sample-count .ensures, c .before .before .counted .given .1)
+
+returns-3 : tie.Need-returns-3
+unfolding isLast
+returns-3 c = rw (← c .before .before .before .before .sample-count .ensures, c .before .before .counted .given .1) (not-last (c .if1 .left))
+
+pub is-last-spec : {M : Type 1} → statement M
+is-last-spec = tie.close (tie.spec (λ c κs. search needs) (λ c. search needs) (λ c. search needs) (λ c. search needs) returns returns-2 returns-3)

@@ -1,0 +1,16 @@
+-- `sample_text::sample_course` meets its contract. Assumes nothing.
+use borrow.Author.Needs.{needs}
+use Rattle.sample_text.specs.SampleTexts.{sampleCourse}
+use Rattle.sample_text.proofs.sample_course.Statement.{statement}
+use Rattle.sample_text.proofs.sample_course.Tie as tie
+
+returns : tie.Need-returns
+unfolding sampleCourse
+returns c = rw (c .refused .ensures, c .before .before .fate .given .1)
+
+returns-2 : tie.Need-returns-2
+unfolding sampleCourse
+returns-2 c = rw (c .sample-of .ensures, c .before .enum-told .given .1)
+
+pub sample-course-spec : {M : Type 1} → statement M
+sample-course-spec = tie.close (tie.spec (λ c. search needs) (λ c κs. search needs) (λ c. search needs) (λ c κs. search needs) returns returns-2)
