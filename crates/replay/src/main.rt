@@ -1,40 +1,40 @@
-// Replays stored answers of the published Rust: standard input holds a case a line (a function's number, how many words go in, how many come out,
-// then the words in hexadecimal, floats by their bits; blocks of 65,536 bytes, filled up with empty lines), and each is run through the C interface and compared to the last bit, a NaN matching any NaN.
-mod courses;
-mod leaves;
-mod read;
-mod rigs;
+// Runs stored answers of the published Rust again: standard input holds a case a line (README.md has the form), and each is run through the C interface
+// and compared to the last bit, a NaN matching any NaN. Blocks of 65,536 bytes, which no line crosses, are filled up with empty lines.
 mod runs;
-mod shapes;
-mod tally;
+mod samples;
 
+use cases::read;
+use cases::read::Case;
+use cases::tally;
+use cases::tally::Tally;
 use libc::STDIN_FILENO;
-use read::Case;
-use tally::Tally;
 
 // Whether the port gives what is stored: the words that go in first, then those that come out.
 fn holds(number: u64, v: &[u64; 1024]) -> bool {
-    if number < 50 {
-        return leaves::holds(number, v);
-    }
-    if number < 100 {
-        return shapes::holds(number, v);
-    }
-    if number < 150 {
-        return rigs::holds(number, v);
-    }
     if number < 200 {
-        return courses::holds(number, v);
+        return leaf_cases::holds(number, v);
     }
-    runs::holds(number, v)
+    if number < 250 {
+        return runs::holds(number, v);
+    }
+    samples::holds(number, v)
 }
 
-// One line more.
+// The group of a function: fifty numbers a group, those of whole plans and systems left out.
+fn group(number: u64) -> u64 {
+    match number {
+        0..=249 => number / 50,
+        350..=399 => 5,
+        _ => 7,
+    }
+}
+
+// One line more. A line that does not end where its words do is wrong.
 fn turn(s: &[u8], c: Case, t: Tally) -> Tally {
     let mut words = [0u64; 1024];
     let n = read::words(s, c.next, c.count, &mut words);
-    let right = holds(c.number, &words);
-    t.with(c.number, right, n)
+    let right = holds(c.number, &words) && read::stands_before(s, n, b'\n');
+    t.with(group(c.number), right, n)
 }
 
 // The line at the tally's place, if there is one; an empty line is passed over.
@@ -60,11 +60,24 @@ fn run(s: &[u8], start: Tally) -> Tally {
     t
 }
 
-// The next block of the input: 65,536 bytes, which no line crosses.
+// The next block of the input.
 fn block(t: Tally) -> Tally {
     let mut space = io::large_buffer();
     let n = io::read_full(STDIN_FILENO, &mut space);
     run(&space[..n], t.from(0))
+}
+
+// All groups' lines, and the last.
+fn print(t: Tally) {
+    let c = t.cases;
+    let w = t.wrong;
+    tally::print_group(b"whole root, floats, angles: ", c[0], w[0]);
+    tally::print_group(b"attitudes, vectors, tensors: ", c[1], w[1]);
+    tally::print_group(b"actuators, control rows: ", c[2], w[2]);
+    tally::print_group(b"profile and seed: ", c[3], w[3]);
+    tally::print_group(b"forward runs, residuals: ", c[4], w[4]);
+    tally::print_group(b"dense samples: ", c[5], w[5]);
+    tally::print_total(t);
 }
 
 fn main() {
@@ -74,5 +87,5 @@ fn main() {
         t = block(t);
         k += 1;
     }
-    tally::print(t);
+    print(t);
 }

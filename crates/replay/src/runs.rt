@@ -1,13 +1,13 @@
 // Forward runs and residuals beside what is stored: what is declared, 29 numbers of the body, whether there is a slew limit, 193 of a decision.
-use crate::read::at;
-use crate::read::reals;
-use crate::read::same;
-use crate::read::same22;
-use crate::read::same79;
-use crate::rigs::counts;
-use crate::rigs::numbers;
-use export::paths::slew_reconstruct;
-use export::paths::slew_residuals;
+use cases::declared::counts;
+use cases::declared::numbers;
+use cases::read::at;
+use cases::read::reals;
+use cases::read::same;
+use cases::read::same22;
+use cases::read::same79;
+use export_runs::paths::slew_reconstruct;
+use export_runs::paths::slew_residuals;
 
 fn body(v: &[u64; 1024]) -> [f64; 29] {
     let mut x = [0.0; 29];
