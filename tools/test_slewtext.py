@@ -108,6 +108,11 @@ class Answers(unittest.TestCase):
         text = "(samples\n (sample " + " ".join(["3FF"] * 14) + "))\n"
         self.assertEqual(slewtext.csv(slewtext.NODE, slewtext.read_samples(text)).splitlines()[1], ",".join(["1.0"] * 14))
 
+    def test_samples_that_are_not_whole(self):
+        sample = " (sample " + " ".join(["3FF"] * 14) + ")\n"
+        for rest in ("", "(refused\n (number 5)\n (place 3)\n (runs 0))\n"):
+            self.assertRaises(slewtext.Fault, slewtext.read_samples, "(samples\n" + sample + rest)
+
     def test_a_damaged_path(self):
         self.assertRaises(slewtext.Fault, slewtext.read_path, path_text().replace(" (row 3FE BFE)\n", "", 1))
         self.assertRaises(slewtext.Fault, slewtext.read_path, "(refused\n (number 7)\n (place 0)\n (runs 0))\n")

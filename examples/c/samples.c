@@ -1,0 +1,50 @@
+/* Plans the slew of examples/quarter-turn.toml, declared in numbers, and prints its dense samples as CSV. */
+#include <stdio.h>
+
+#include "slew.h"
+
+/* No wheels, no thrusters, no pyramid: three body torques. */
+static const size_t counts[11];
+static const double actuators[100];
+static const double body[29] = {
+    1, 0, 0, 0,                                     /* q0 */
+    0.7071067811865476, 0, 0, 0.7071067811865475, /* qf: a quarter turn about z */
+    10, 0, 0, 0, 12, 0, 0, 0, 8,                    /* inertia */
+    0.5, 0.5, 0.5,                                  /* torque limits */
+    0,                                              /* slew limit: none */
+    1, 0, 0, 0, 0, 0,                               /* weights: time alone */
+    9.5367431640625e-07, 9.5367431640625e-07,       /* norm and tie tolerance, 2^-20 */
+};
+static double workspace[SLEW_WORKSPACE(3, 28)];
+static double decision[193], nodes[374];
+
+static int refused(const char *what, size_t number, size_t place)
+{
+    fprintf(stderr, "%s: refused, number %zu, place %zu\n", what, number, place);
+    return 1;
+}
+
+int main(void)
+{
+    size_t told[5], place, count;
+    double duration, profile[22], sample[14];
+    size_t number = slew_plan_numbers(counts, actuators, body, false, workspace, SLEW_WORKSPACE(3, 28), told, &duration, decision, nodes);
+    if (number)
+        return refused("plan", number, told[0]);
+    number = slew_problem_profile(counts, actuators, body, false, profile, &place);
+    if (number)
+        return refused("profile", number, place);
+    number = slew_sample_count(duration, 17, profile[1], &count);
+    if (number)
+        return refused("count", number, 0);
+
+    puts("t,qw,qx,qy,qz,wx,wy,wz,tx,ty,tz,hx,hy,hz");
+    for (size_t index = 0; index < count; index++) {
+        number = slew_sample_path(body + 8, body[27], duration, nodes, 17, profile[1], index, sample, &place);
+        if (number)
+            return refused("sample", number, place);
+        for (size_t k = 0; k < 14; k++)
+            printf("%.9f%c", sample[k], k < 13 ? ',' : '\n');
+    }
+    return 0;
+}

@@ -1,0 +1,108 @@
+/* The slew planner, as a controller calls it from C or C++ on x86-64. Link target/staticlib/libexport.a, which `rt staticlib export` writes.
+ *
+ * Every function here is proved to answer what the definitions say, for every value of its arguments, NaN and infinities included, and to end. Nothing is
+ * allocated, nothing is kept between calls, nothing is read or written but what is lent: calls from several threads need only different buffers.
+ *
+ * The caller's part: a pointer is to as many members as its count or its array says, and not null, even where the count is 0; what is lent for writing
+ * overlaps nothing else that is lent; floats round to nearest and subnormals are kept, as in every program that has not changed this; the thread has
+ * 256 kB of stack (over the examples a call used up to 107 kB).
+ *
+ * A refusal is its number of 1 to 21, with a place and the forward runs begun (README.md, "Refusals"); 0 is no refusal. */
+#ifndef SLEW_H
+#define SLEW_H
+
+#include <stdbool.h>
+#include <stddef.h>
+#include <stdint.h>
+
+#ifdef __cplusplus
+extern "C" {
+#endif
+
+/* How many doubles the workspace needs for rows of `controls` controls: 3 with no actuators, else the wheels, the thrusters, and 4 for a gyro pyramid.
+ * `residuals` is 28, or 79 where the pointing weight is above 0. A longer workspace serves as well; a shorter one is refusal 9. 3 controls: 4,179, with
+ * pointing 6,882; 4 controls: 6,547, with pointing 10,066. A row has at most 12 controls: SLEW_WORKSPACE_MOST (53,970) serves every problem. */
+#define SLEW_WORKSPACE(controls, residuals) \
+    ((1 + 16 * (size_t)(controls)) * (1 + 16 * (size_t)(controls) + (residuals) + 6) + 4 * (size_t)(residuals))
+#define SLEW_WORKSPACE_MOST SLEW_WORKSPACE(12, 79)
+
+/* The least size of the buffer that takes an answer's text, in bytes. */
+#define SLEW_ANSWER 16384
+
+/* Plans the problem of a text (README.md, "A problem's text") with the planner's own seed. The answer is the text that the program slew prints, a path or a
+ * refusal, without a final zero; what is returned is how many bytes it has. A refusal begins with "(refused". What stood behind the answer in `out` stays.
+ *
+ * An `out` of less than SLEW_ANSWER bytes gets nothing: 0 is returned and no run begins. The workspace is untouched where no forward run began, and all
+ * +0.0 otherwise. */
+size_t slew_plan(const uint8_t *text, size_t text_count,
+                 double *workspace, size_t workspace_count,
+                 uint8_t *out, size_t out_count);
+
+/* As slew_plan, with a caller's seed: its duration, then 17 rates and 17 torques, three numbers a node: 103 numbers. Another count is refusal 10. Of
+ * the rates only the count matters, and the last torque is not read. */
+size_t slew_plan_from(const uint8_t *text, size_t text_count,
+                      const double *seed, size_t seed_count,
+                      double *workspace, size_t workspace_count,
+                      uint8_t *out, size_t out_count);
+
+/* One dense sample, number `index` from 0, of the path that slew_plan finds of a text. `requested` and `alpha` as in slew_sample_count: with an alpha of 0
+ * a path of up to 24,000 s has `requested` samples, and at least 17. Returns 0 and puts 14 numbers into `out`: time, attitude, rate, torque, body momentum.
+ * Or returns a refusal's number, and puts its place and its runs into the first two of `out`. What stands behind those stays. The workspace is left as by
+ * slew_plan.
+ *
+ * An `out` of less than 14 numbers gets nothing: 99 is returned and no run begins. Each call plans anew: for many samples of a path call slew_plan_numbers
+ * once, then slew_sample_path. */
+uint64_t slew_sample(const uint8_t *text, size_t text_count,
+                     double *workspace, size_t workspace_count,
+                     size_t requested, double alpha, size_t index,
+                     double *out, size_t out_count);
+
+/* A problem in numbers, for the functions below.
+ *
+ * counts: wheels, thrusters, 1 where there is a gyro pyramid (else 0); for each of eight wheels 1 where it has a power limit (else 0).
+ * actuators: eight wheel axes of three numbers (0 to 23), their largest torques (24 to 31), momenta (32 to 39), powers (40 to 47); twelve thruster axes
+ *   (48 to 83), their largest torques (84 to 95); the pyramid's skew, momentum of a wheel, largest gimbal rate, smallest measure (96 to 99). What stands for
+ *   actuators that are not there is ignored.
+ * body: q0 and qf, scalar first (0 to 7); the inertia by rows (8 to 16); the torque limits (17 to 19); the slew limit (20), read where `limited` is true;
+ *   the weights of time, control, energy, pointing, smoothness, momentum (21 to 26); the norm and the tie tolerance (27, 28).
+ * Units: kg m2, N m, N m s, W, rad, rad/s, s. */
+
+/* Plans it with the planner's own seed. Returns 0, or a refusal's number.
+ *
+ * told: a refusal's place (else 0), the forward runs begun; of a path the controls in a row, its wheels, its iterations.
+ * duration, decision, nodes: the path: its duration; the duration and 16 rows of controls, one row after another, zeros behind them; 17 nodes of 22
+ *   numbers, one after another: time, attitude, rate, torque, body momentum, eight wheel momenta. Beside a refusal all of them are zeros.
+ * The workspace is untouched where no forward run began, and all +0.0 otherwise. */
+size_t slew_plan_numbers(const size_t counts[11], const double actuators[100], const double body[29], bool limited,
+                         double *workspace, size_t workspace_count,
+                         size_t told[5], double *duration, double decision[193], double nodes[374]);
+
+/* The same with a caller's seed: a duration, 17 rates and 17 torques of three numbers (51 each; other counts are refusal 10).
+ * Of the rates only the count matters, and the last torque is not read. */
+size_t slew_plan_from_numbers(const size_t counts[11], const double actuators[100], const double body[29], bool limited,
+                              double seed_duration, const double *rates, size_t rates_count, const double *torques, size_t torques_count,
+                              double *workspace, size_t workspace_count,
+                              size_t told[5], double *duration, double decision[193], double nodes[374]);
+
+/* The bang-coast-bang profile from which the planner's own seed is taken. Returns 0 and the 22 numbers: angle, acceleration, time of acceleration, time of
+ * coast, duration, peak rate (0 to 5), axis (6 to 8), inertia by rows (9 to 17), q0 (18 to 21). Or a refusal's number (1 to 7, 11), and leaves `profile`
+ * as it was. `place` gets the refusal's place, or 0. */
+size_t slew_problem_profile(const size_t counts[11], const double actuators[100], const double body[29], bool limited,
+                            double profile[22], size_t *place);
+
+/* How many dense samples a path of this duration has: the most of `requested`, 17, and what an acceleration of `alpha` (number 1 of the profile) asks for.
+ * Returns 0 and the count, or 20 where it is over 100,000, and leaves `count` as it was. */
+size_t slew_sample_count(double duration, size_t requested, double alpha, size_t *count);
+
+/* Dense sample number `index`, from 0, of a path: time, attitude, rate, torque, body momentum. `inertia` (by rows) and `tolerance` (the norm tolerance) are
+ * the problem's, `duration` and `nodes` the path's. Returns 0, or a refusal's number (5 and 11 at the sample, 20 for too many samples or an index that is
+ * not below the count); beside a refusal the sample is zeros. `place` gets the refusal's place, or 0. */
+size_t slew_sample_path(const double inertia[9], double tolerance, double duration, const double nodes[374],
+                        size_t requested, double alpha, size_t index,
+                        double sample[14], size_t *place);
+
+#ifdef __cplusplus
+}
+#endif
+
+#endif
