@@ -18,9 +18,10 @@ fn told(o: &mut Words, placed: bool, answer: Result<Vec<f64>, PlanError>) -> boo
             (number, place, Vec::new())
         }
     };
-    o.n(number);
     if placed {
-        o.n(place);
+        o.placed(number, place);
+    } else {
+        o.number(number);
     }
     o.all(&values);
     true
@@ -87,17 +88,16 @@ fn seed_words(o: &mut Words, omegas: &[A3], torques: &[A3]) {
     omegas.iter().chain(torques).for_each(|v| o.all(v));
 }
 
-macro_rules! entry {
-    ($number:expr, $name:expr, $kept:expr, $make:expr, $ours:expr, $rust:expr) => {
-        Entry { number: $number, name: $name, quick: 60_000, full: 2_000_000, kept: $kept, make: $make, ours: $ours, rust: $rust }
-    };
+/// Inputs of a quick run, of a full run, and kept.
+const fn sizes(kept: u64) -> [u64; 3] {
+    [60_000, 2_000_000, kept]
 }
 
 pub const COURSES: [Entry; 10] = [
-    entry!(
+    Entry::new(
         150,
         "switch_times",
-        40,
+        sizes(40),
         |r, w| {
             w.f(r.positive());
             w.f(r.positive());
@@ -116,10 +116,10 @@ pub const COURSES: [Entry; 10] = [
             told(o, false, rust::switch_times(theta, alpha, limit(with, slew)).map(|(a, c, p)| vec![a, c, p]))
         }
     ),
-    entry!(
+    Entry::new(
         151,
         "alpha_from_box",
-        40,
+        sizes(40),
         |r, w| {
             w.all(&r.tensor());
             w.all(&r.axis());
@@ -138,17 +138,17 @@ pub const COURSES: [Entry; 10] = [
             told(o, false, rust::alpha_from_box(rows(r.a()), r.a(), r.a()).map(|a| vec![a]))
         }
     ),
-    entry!(
+    Entry::new(
         152,
         "bang_coast_bang",
-        60,
+        sizes(60),
         problem,
         |i, o| {
             let mut r = Reader(i);
             let (q0, qf, j, limit, with, slew, tie) = (r.a(), r.a(), r.a(), r.a(), r.n(), r.f(), r.f());
             let (mut v, mut place) = ([0.0; 22], 77);
             let number = slew_bang_coast_bang(&q0, &qf, &j, &limit, with != 0, slew, tie, &mut v, &mut place);
-            o.0.extend([number as u64, place as u64]);
+            o.placed(number as u64, place as u64);
             if number == 0 {
                 o.all(&v);
             }
@@ -162,15 +162,15 @@ pub const COURSES: [Entry; 10] = [
             told(o, true, rust::bang_coast_bang(q0, qf, rows(j), box_limit, limit(with, slew)).map(|p| p.numbers().to_vec()))
         }
     ),
-    entry!(153, "angle", 25, shape_time, |i, o| timed(i, o, |p, t| slew_profile_angle(p, t)), |i, o| timed_rust(i, o, |p, t| vec![p.angle(t)])),
-    entry!(154, "rate", 25, shape_time, |i, o| timed(i, o, |p, t| slew_profile_rate(p, t)), |i, o| timed_rust(i, o, |p, t| vec![p.rate(t)])),
-    entry!(155, "alpha_signed", 25, shape_time, |i, o| timed(i, o, |p, t| slew_profile_alpha_signed(p, t)), |i, o| {
+    Entry::new(153, "angle", sizes(25), shape_time, |i, o| timed(i, o, |p, t| slew_profile_angle(p, t)), |i, o| timed_rust(i, o, |p, t| vec![p.angle(t)])),
+    Entry::new(154, "rate", sizes(25), shape_time, |i, o| timed(i, o, |p, t| slew_profile_rate(p, t)), |i, o| timed_rust(i, o, |p, t| vec![p.rate(t)])),
+    Entry::new(155, "alpha_signed", sizes(25), shape_time, |i, o| timed(i, o, |p, t| slew_profile_alpha_signed(p, t)), |i, o| {
         timed_rust(i, o, |p, t| vec![p.alpha_signed(t)])
     }),
-    entry!(
+    Entry::new(
         156,
         "omega_vec",
-        25,
+        sizes(25),
         shape_time,
         |i, o| {
             let mut r = Reader(i);
@@ -181,10 +181,10 @@ pub const COURSES: [Entry; 10] = [
         },
         |i, o| timed_rust(i, o, |p, t| p.omega_vec(t).to_vec())
     ),
-    entry!(
+    Entry::new(
         157,
         "torque_vec",
-        25,
+        sizes(25),
         shape_time,
         |i, o| {
             let mut r = Reader(i);
@@ -195,10 +195,10 @@ pub const COURSES: [Entry; 10] = [
         },
         |i, o| timed_rust(i, o, |p, t| p.torque_vec(t).to_vec())
     ),
-    entry!(
+    Entry::new(
         158,
         "quaternion",
-        25,
+        sizes(25),
         shape_time,
         |i, o| {
             let mut r = Reader(i);
@@ -214,10 +214,10 @@ pub const COURSES: [Entry; 10] = [
             crate::shapes::told(o, Ok(q))
         }
     ),
-    entry!(
+    Entry::new(
         159,
         "seed",
-        8,
+        sizes(8),
         shape,
         |i, o| {
             let (mut omegas, mut torques) = ([0.0; 51], [0.0; 51]);

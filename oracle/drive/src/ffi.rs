@@ -97,9 +97,7 @@ unsafe extern "C" {
         place: &mut usize,
         runs: &mut usize,
     ) -> usize;
-    #[cfg(feature = "plans")]
     pub safe fn slew_sample_count(duration: f64, requested: usize, alpha: f64, out: &mut usize) -> usize;
-    #[cfg(feature = "plans")]
     pub safe fn slew_sample_path(
         j: &A9,
         tolerance: f64,
@@ -111,6 +109,7 @@ unsafe extern "C" {
         out: &mut [f64; 14],
         place: &mut usize,
     ) -> usize;
+    pub safe fn slew_problem_profile(c: &Counts, v: &Numbers, b: &[f64; 29], limited: bool, out: &mut [f64; 22], place: &mut usize) -> usize;
     pub safe fn slew_control_dim(c: &Counts, v: &Numbers) -> usize;
     pub safe fn slew_pyramid_a(skew: f64, delta: &A4, out: &mut [f64; 12]) -> usize;
 }
@@ -153,7 +152,6 @@ pub fn slew_wheel_momentum_rates(c: &Counts, v: &Numbers, u: &[f64], out: &mut [
 }
 
 /// Functions over slices: a slice is a pointer and a length there.
-#[cfg(feature = "systems")]
 mod slices {
     unsafe extern "C" {
         pub fn slew_solve_dense(a: *mut f64, a_len: usize, b: *mut f64, b_len: usize) -> bool;
@@ -170,13 +168,11 @@ mod slices {
     }
 }
 
-#[cfg(feature = "systems")]
 pub fn slew_solve_dense(a: &mut [f64], b: &mut [f64]) -> bool {
     // two slices that do not overlap, each with its own length
     unsafe { slices::slew_solve_dense(a.as_mut_ptr(), a.len(), b.as_mut_ptr(), b.len()) }
 }
 
-#[cfg(feature = "systems")]
 pub fn slew_damped_step(v: &mut [f64], m: usize, r: &[f64], lambda: f64, g: &mut [f64]) -> bool {
     // three slices that do not overlap, each with its own length
     unsafe { slices::slew_damped_step(v.as_mut_ptr(), v.len(), m, r.as_ptr(), r.len(), lambda, g.as_mut_ptr(), g.len()) }
@@ -190,7 +186,6 @@ pub struct Planned {
     pub nodes: [[f64; 22]; 17],
 }
 
-#[cfg(feature = "plans")]
 mod entries {
     use super::{Counts, Numbers};
     unsafe extern "C" {
@@ -227,14 +222,12 @@ mod entries {
 }
 
 /// Our entry's seed; the workspace is a slice.
-#[cfg(feature = "plans")]
 pub fn slew_plan_numbers(flat: &crate::maps::Flat, b: &[f64; 29], limited: bool, ws: &mut [f64], o: &mut Planned) -> usize {
     let (c, v) = (&flat.counts, &flat.numbers);
     unsafe { entries::slew_plan_numbers(c, v, b, limited, ws.as_mut_ptr(), ws.len(), &mut o.counts, &mut o.duration, &mut o.z, &mut o.nodes) }
 }
 
 /// A caller's seed: three slices that do not overlap.
-#[cfg(feature = "plans")]
 pub fn slew_plan_from_numbers(flat: &crate::maps::Flat, b: &[f64; 29], limited: bool, seed: &crate::plans::Seed, ws: &mut [f64], o: &mut Planned) -> usize {
     let (c, v, rates, torques) = (&flat.counts, &flat.numbers, &seed.rates, &seed.torques);
     let (r, t) = ((rates.as_ptr(), rates.len()), (torques.as_ptr(), torques.len()));
@@ -244,4 +237,49 @@ pub fn slew_plan_from_numbers(flat: &crate::maps::Flat, b: &[f64; 29], limited: 
             c, v, b, limited, seed.duration, r.0, r.1, t.0, t.1, lent.0, lent.1, &mut o.counts, &mut o.duration, &mut o.z, &mut o.nodes,
         )
     }
+}
+
+/// The entries over a problem's text: each slice is a pointer and a length.
+mod texts {
+    unsafe extern "C" {
+        pub fn slew_plan(text: *const u8, text_len: usize, ws: *mut f64, ws_len: usize, out: *mut u8, out_len: usize) -> usize;
+        pub fn slew_plan_from(
+            text: *const u8,
+            text_len: usize,
+            seed: *const f64,
+            seed_len: usize,
+            ws: *mut f64,
+            ws_len: usize,
+            out: *mut u8,
+            out_len: usize,
+        ) -> usize;
+        pub fn slew_sample(
+            text: *const u8,
+            text_len: usize,
+            ws: *mut f64,
+            ws_len: usize,
+            requested: usize,
+            alpha: f64,
+            index: usize,
+            out: *mut f64,
+            out_len: usize,
+        ) -> u64;
+    }
+}
+
+/// A text's plan, printed; how many bytes.
+pub fn slew_plan(text: &[u8], ws: &mut [f64], out: &mut [u8]) -> usize {
+    unsafe { texts::slew_plan(text.as_ptr(), text.len(), ws.as_mut_ptr(), ws.len(), out.as_mut_ptr(), out.len()) }
+}
+
+/// The same from a caller's seed.
+pub fn slew_plan_from(text: &[u8], seed: &[f64], ws: &mut [f64], out: &mut [u8]) -> usize {
+    let (t, s) = ((text.as_ptr(), text.len()), (seed.as_ptr(), seed.len()));
+    unsafe { texts::slew_plan_from(t.0, t.1, s.0, s.1, ws.as_mut_ptr(), ws.len(), out.as_mut_ptr(), out.len()) }
+}
+
+/// A dense sample of a text's plan; its refusal's number.
+pub fn slew_sample(text: &[u8], ws: &mut [f64], requested: usize, alpha: f64, index: usize, out: &mut [f64]) -> u64 {
+    let (t, lent) = ((text.as_ptr(), text.len()), (ws.as_mut_ptr(), ws.len()));
+    unsafe { texts::slew_sample(t.0, t.1, lent.0, lent.1, requested, alpha, index, out.as_mut_ptr(), out.len()) }
 }

@@ -8,7 +8,7 @@ use crate::words::{Entry, Reader, Words};
 fn some(out: &mut Words, answer: Option<f64>) {
     match answer {
         Some(x) => out.given(0, &[x]),
-        None => out.n(11),
+        None => out.number(11),
     }
 }
 
@@ -122,65 +122,58 @@ fn for_arc(r: &mut Random, w: &mut Words) {
     w.f(x);
 }
 
-pub const LEAVES: [Entry; 12] = [
-    Entry {
-        number: 1,
-        name: "isqrt",
-        quick: 200_000,
-        full: 10_000_000,
-        kept: 40,
-        make: for_isqrt,
-        ours: |i, o| o.n(slew_isqrt(i[0], i[1])),
-        rust: |i, o| {
+/// Inputs of a quick run, of a full run, and kept.
+const SIZES: [u64; 3] = [200_000, 10_000_000, 40];
+
+pub const LEAVES: [Entry; 8] = [
+    Entry::new(
+        1,
+        "isqrt",
+        SIZES,
+        for_isqrt,
+        |i, o| o.n(slew_isqrt(i[0], i[1])),
+        |i, o| {
             o.n(recipes::isqrt(u128::from(i[0]) << 64 | u128::from(i[1])) as u64);
             true
         },
-    },
-    Entry {
-        number: 2,
-        name: "abs",
-        quick: 200_000,
-        full: 10_000_000,
-        kept: 40,
-        make: one_hostile,
-        ours: |i, o| o.f(slew_abs(Reader(i).f())),
-        rust: |i, o| {
+    ),
+    Entry::new(
+        2,
+        "abs",
+        SIZES,
+        one_hostile,
+        |i, o| o.f(slew_abs(Reader(i).f())),
+        |i, o| {
             o.f(Reader(i).f().abs());
             true
         },
-    },
-    Entry {
-        number: 3,
-        name: "max",
-        quick: 200_000,
-        full: 10_000_000,
-        kept: 40,
-        make: two_hostile,
-        ours: |i, o| pair(i, o, |a, b| slew_max(a, b)),
-        rust: |i, o| pair_true(i, o, f64::max),
-    },
-    Entry {
-        number: 4,
-        name: "min",
-        quick: 200_000,
-        full: 10_000_000,
-        kept: 40,
-        make: two_hostile,
-        ours: |i, o| pair(i, o, |a, b| slew_min(a, b)),
-        rust: |i, o| pair_true(i, o, f64::min),
-    },
-    Entry {
-        number: 5,
-        name: "clamp",
-        quick: 200_000,
-        full: 10_000_000,
-        kept: 40,
-        make: three_hostile,
-        ours: |i, o| {
+    ),
+    Entry::new(
+        3,
+        "max",
+        SIZES,
+        two_hostile,
+        |i, o| pair(i, o, |a, b| slew_max(a, b)),
+        |i, o| pair_true(i, o, f64::max),
+    ),
+    Entry::new(
+        4,
+        "min",
+        SIZES,
+        two_hostile,
+        |i, o| pair(i, o, |a, b| slew_min(a, b)),
+        |i, o| pair_true(i, o, f64::min),
+    ),
+    Entry::new(
+        5,
+        "clamp",
+        SIZES,
+        three_hostile,
+        |i, o| {
             let [x, low, high] = Reader(i).a();
             o.f(slew_clamp(x, low, high));
         },
-        rust: |i, o| {
+        |i, o| {
             let [x, low, high] = Reader(i).a();
             // there the Rust panics
             if !(low <= high) {
@@ -189,107 +182,140 @@ pub const LEAVES: [Entry; 12] = [
             o.f(x.clamp(low, high));
             true
         },
-    },
-    Entry {
-        number: 6,
-        name: "is_finite",
-        quick: 200_000,
-        full: 10_000_000,
-        kept: 40,
-        make: one_hostile,
-        ours: |i, o| o.n(u64::from(slew_is_finite(Reader(i).f()))),
-        rust: |i, o| {
+    ),
+    Entry::new(
+        6,
+        "is_finite",
+        SIZES,
+        one_hostile,
+        |i, o| o.n(u64::from(slew_is_finite(Reader(i).f()))),
+        |i, o| {
             o.n(u64::from(Reader(i).f().is_finite()));
             true
         },
-    },
-    Entry {
-        number: 7,
-        name: "ceil",
-        quick: 200_000,
-        full: 10_000_000,
-        kept: 40,
-        make: one_hostile,
-        ours: |i, o| o.f(slew_ceil(Reader(i).f())),
-        rust: |i, o| {
+    ),
+    Entry::new(
+        7,
+        "ceil",
+        SIZES,
+        one_hostile,
+        |i, o| o.f(slew_ceil(Reader(i).f())),
+        |i, o| {
             o.f(Reader(i).f().ceil());
             true
         },
-    },
-    Entry {
-        number: 8,
-        name: "sqrt",
-        quick: 2_000_000,
-        full: 100_000_000,
-        kept: 40,
-        make: for_root,
-        ours: |i, o| o.f(slew_sqrt(Reader(i).f())),
-        rust: |i, o| {
+    ),
+    Entry::new(
+        8,
+        "sqrt",
+        [2_000_000, 100_000_000, 40],
+        for_root,
+        |i, o| o.f(slew_sqrt(Reader(i).f())),
+        |i, o| {
             o.f(Reader(i).f().sqrt());
             true
         },
-    },
-    Entry {
-        number: 9,
-        name: "sin",
-        quick: 500_000,
-        full: 10_000_000,
-        kept: 40,
-        make: for_turn,
-        ours: |i, o| angle(o, Reader(i).f(), |x, a| slew_sin(x, a)),
-        rust: |i, o| {
+    ),
+];
+
+/// The angles beside document 01's recipes, and beside the platform's library.
+pub const ANGLES: [Entry; 7] = [
+    Entry::new(
+        9,
+        "sin",
+        [500_000, 10_000_000, 40],
+        for_turn,
+        |i, o| angle(o, Reader(i).f(), |x, a| slew_sin(x, a)),
+        |i, o| {
             some(o, recipes::sin(Reader(i).f()));
             true
         },
-    },
-    Entry {
-        number: 10,
-        name: "cos",
-        quick: 500_000,
-        full: 10_000_000,
-        kept: 40,
-        make: for_turn,
-        ours: |i, o| angle(o, Reader(i).f(), |x, a| slew_cos(x, a)),
-        rust: |i, o| {
+    ),
+    Entry::new(
+        10,
+        "cos",
+        [500_000, 10_000_000, 40],
+        for_turn,
+        |i, o| angle(o, Reader(i).f(), |x, a| slew_cos(x, a)),
+        |i, o| {
             some(o, recipes::cos(Reader(i).f()));
             true
         },
-    },
-    Entry {
-        number: 11,
-        name: "acos",
-        quick: 300_000,
-        full: 10_000_000,
-        kept: 40,
-        make: for_arc,
-        ours: |i, o| angle(o, Reader(i).f(), |x, a| slew_acos(x, a)),
-        rust: |i, o| {
+    ),
+    Entry::new(
+        11,
+        "acos",
+        [300_000, 10_000_000, 40],
+        for_arc,
+        |i, o| angle(o, Reader(i).f(), |x, a| slew_acos(x, a)),
+        |i, o| {
             some(o, recipes::acos(Reader(i).f()));
             true
         },
-    },
-    Entry {
-        number: 12,
-        name: "sin_cos",
-        quick: 500_000,
-        full: 10_000_000,
-        kept: 40,
-        make: for_turn,
-        ours: |i, o| {
+    ),
+    Entry::new(
+        12,
+        "sin_cos",
+        [500_000, 10_000_000, 40],
+        for_turn,
+        |i, o| {
             let mut both = [0.0; 2];
             let given = slew_sin_cos(Reader(i).f(), &mut both);
             o.given(if given { 0 } else { 11 }, &both);
         },
-        rust: |i, o| {
+        |i, o| {
             let x = Reader(i).f();
             match (recipes::sin(x), recipes::cos(x)) {
                 (Some(s), Some(c)) => o.given(0, &[s, c]),
-                _ => o.n(11),
+                _ => o.number(11),
             }
             true
         },
-    },
+    ),
+    Entry::new(20, "sin, platform", BESIDE, for_platform, |i, o| near(i, o, SIN), |i, o| off(i, o, SIN)),
+    Entry::new(21, "cos, platform", BESIDE, for_platform, |i, o| near(i, o, COS), |i, o| off(i, o, COS)),
+    Entry::new(22, "acos, platform", BESIDE, for_platform_arc, |i, o| near(i, o, ACOS), |i, o| off(i, o, ACOS)),
 ];
+
+const BESIDE: [u64; 3] = [300_000, 10_000_000, 0];
+
+/// Ours, and the platform's.
+type Beside = (fn(f64, &mut f64) -> bool, fn(f64) -> f64);
+const SIN: Beside = (|x, a| slew_sin(x, a), f64::sin);
+const COS: Beside = (|x, a| slew_cos(x, a), f64::cos);
+const ACOS: Beside = (|x, a| slew_acos(x, a), f64::acos);
+
+/// Up to 1,024 in size, in one of three up to 10.
+fn for_platform(r: &mut Random, w: &mut Words) {
+    let span = if r.one_in(3) { 10.0 } else { 1024.0 };
+    w.f(span * (2.0 * r.unit() - 1.0));
+}
+
+/// From 0 to 1, in one of three near 1.
+fn for_platform_arc(r: &mut Random, w: &mut Words) {
+    w.f(if r.one_in(3) { 1.0 - 0.01 * r.unit() } else { r.unit() });
+}
+
+/// How far ours is from the platform's; infinite where ours refuses.
+fn distance(x: f64, (ours, library): Beside) -> f64 {
+    let mut answer = 0.0;
+    if ours(x, &mut answer) { (answer - library(x)).abs() } else { f64::INFINITY }
+}
+
+/// Whether it is within 2^-48.
+fn near(i: &[u64], o: &mut Words, both: Beside) {
+    o.n(u64::from(distance(Reader(i).f(), both) <= (2.0f64).powi(-48)));
+}
+
+/// It must be; how far it is is counted.
+fn off(i: &[u64], o: &mut Words, both: Beside) -> bool {
+    const UP_TO: [(&str, i32); 5] = [("off by at most 2^-53", -53), ("2^-52", -52), ("2^-51", -51), ("2^-50", -50), ("2^-49", -49)];
+    let far = distance(Reader(i).f(), both);
+    o.n(1);
+    let name = UP_TO.iter().find(|(_, power)| far <= (2.0f64).powi(*power)).map_or("more than 2^-49", |(name, _)| name);
+    o.met(name, 1);
+    true
+}
 
 /// Where the two are zeros of different signs the Rust leaves the answer's sign free: both answers count as +0 then.
 fn pair(i: &[u64], o: &mut Words, of: fn(f64, f64) -> f64) {

@@ -6,12 +6,19 @@ pub mod recipes;
 pub mod words;
 
 pub mod courses;
+pub mod damage;
+pub mod edges;
 pub mod leaves;
+pub mod libraries;
 pub mod maps;
 pub mod plans;
+pub mod problems;
+pub mod pulses;
 pub mod runs;
-#[cfg(feature = "plans")]
 pub mod samples;
 pub mod shapes;
-#[cfg(feature = "systems")]
+pub mod shrink;
+pub mod store;
 pub mod systems;
+pub mod table;
+pub mod texts;

@@ -1,28 +1,47 @@
-//! compare [--full] [--seed N] [--only NAME] [--store FILE]: each function of the port beside the Rust's, bit for bit.
+//! compare [--minutes M] [--seed N] [--only NAME] [--store FILE] [--full]: each function of the port beside the Rust's, bit for bit.
 
+use drive::libraries::{LIBRARIES, Library};
 use drive::random::Random;
+use drive::shrink::{self, Answers};
+use drive::store;
+use drive::table::{self, Row};
+use drive::texts;
 use drive::words::{Entry, Words};
-#[cfg(feature = "systems")]
-use drive::systems;
-use drive::{courses, leaves, runs, shapes};
-use std::fmt::Write as _;
 use std::process::ExitCode;
+use std::time::{Duration, Instant};
 
+const USAGE: &str = "usage: compare [--minutes M] [--seed N] [--only NAME] [--store FILE] [--full]";
+
+/// How often the table so far goes to standard error.
+const PARTIAL: Duration = Duration::from_secs(600);
+
+#[derive(Default)]
 struct Options {
+    minutes: Option<f64>,
     full: bool,
     seed: u64,
     only: Option<String>,
     store: Option<String>,
 }
 
+fn number<T: std::str::FromStr>(text: &str) -> Result<T, String> {
+    text.parse().map_err(|_| format!("{text} is no number"))
+}
+
+/// Above 0, and no NaN: the run must end.
+fn minutes(text: &str) -> Result<f64, String> {
+    number(text).and_then(|x: f64| if x > 0.0 { Ok(x) } else { Err(format!("{text} minutes are not above 0")) })
+}
+
 fn options() -> Result<Options, String> {
-    let mut options = Options { full: false, seed: 1, only: None, store: None };
+    let mut options = Options { seed: 1, ..Options::default() };
     let mut args = std::env::args().skip(1);
     while let Some(arg) = args.next() {
         let mut value = || args.next().ok_or(format!("{arg} wants a value"));
         match arg.as_str() {
+            "--minutes" => options.minutes = Some(minutes(&value()?)?),
             "--full" => options.full = true,
-            "--seed" => options.seed = value()?.parse().map_err(|_| "the seed is a number".to_string())?,
+            "--seed" => options.seed = number(&value()?)?,
             "--only" => options.only = Some(value()?),
             "--store" => options.store = Some(value()?),
             _ => return Err(format!("unknown option {arg}")),
@@ -31,162 +50,115 @@ fn options() -> Result<Options, String> {
     Ok(options)
 }
 
-/// Inputs, skipped, mismatches.
-type Counts = (u64, u64, u64);
-
-/// Where the answers differ, and the input as it would be stored.
-fn show(entry: &Entry, inputs: &Words, ours: &Words, rust: &Words) {
-    println!("  {}: ours has {} words, the Rust {}", entry.name, ours.0.len(), rust.0.len());
-    let differ = (0..ours.0.len().max(rust.0.len())).filter(|k| ours.0.get(*k) != rust.0.get(*k));
-    for k in differ.take(4) {
-        let told = |w: Option<&u64>| w.map_or("nothing".to_string(), |w| format!("{w:016x} ({:e})", f64::from_bits(*w)));
-        println!("    word {k}: ours {} the Rust {}", told(ours.0.get(k)), told(rust.0.get(k)));
-    }
-    let text: Vec<String> = inputs.0.iter().map(|w| format!("{w:x}")).collect();
-    println!("    in {}", text.join(" "));
+/// The functions asked for, by their own name or their library's.
+fn chosen(only: Option<&str>) -> Vec<(&'static Library, &'static Entry)> {
+    const ALL: &[Library] = &LIBRARIES;
+    let each = ALL.iter().flat_map(|library| library.entries.iter().map(move |entry| (library, entry)));
+    each.filter(|(library, entry)| only.is_none_or(|name| entry.name == name || library.name == name)).collect()
 }
 
-fn compare(entry: &Entry, count: u64, seed: u64) -> Counts {
-    let mut random = Random::new(seed ^ u64::from(entry.number) << 32);
-    let (mut inputs, mut ours, mut rust) = (Words::default(), Words::default(), Words::default());
-    let (mut skipped, mut wrong) = (0, 0);
-    let mut refusals = [0u64; 22];
-    for _ in 0..count {
-        inputs.clear();
-        ours.clear();
-        rust.clear();
-        (entry.make)(&mut random, &mut inputs);
-        if !(entry.rust)(&inputs.0, &mut rust) {
-            skipped += 1;
+/// The input's words that are not 0, and the words of both answers that differ.
+fn show(entry: &Entry, inputs: &[u64], answers: &Answers) {
+    if entry.cuts() {
+        return show_texts(inputs, answers);
+    }
+    let told = |w: Option<&u64>| w.map_or("nothing".to_string(), |w| format!("{w:x} ({:e})", f64::from_bits(*w)));
+    println!("{} ({}): the answers differ. The smallest input found has {} words, 0 but for these:", entry.name, entry.number, inputs.len());
+    for (k, word) in inputs.iter().enumerate().filter(|(_, word)| **word != 0) {
+        println!("  word {k}: {}", told(Some(word)));
+    }
+    let (Some(ours), Some(rust)) = (&answers.ours, &answers.rust) else {
+        println!("  ours panics: {}, the Rust panics: {}", answers.ours.is_none(), answers.rust.is_none());
+        return;
+    };
+    println!("  ours has {} words, the Rust {}", ours.0.len(), rust.0.len());
+    let differ: Vec<usize> = (0..ours.0.len().max(rust.0.len())).filter(|k| ours.0.get(*k) != rust.0.get(*k)).collect();
+    for k in differ.iter().take(8) {
+        println!("  word {k}: ours {}, the Rust {}", told(ours.0.get(*k)), told(rust.0.get(*k)));
+    }
+    if differ.len() > 8 {
+        println!("  and {} words more", differ.len() - 8);
+    }
+}
+
+/// The same of texts.
+fn show_texts(inputs: &[u64], answers: &Answers) {
+    let told = |answer: &Option<Words>| answer.as_ref().map_or("a panic".to_string(), texts::answer_shown);
+    println!("texts: the answers differ. The smallest one found:\n{}\nours: {}\nthe Rust: {}", texts::shown(inputs), told(&answers.ours), told(&answers.rust));
+}
+
+/// One round of a function: a hundredth of a quick run, with inputs of this round's own.
+fn round(row: &mut Row, seed: u64) {
+    let start = Instant::now();
+    let mut random = Random::of_round(seed, row.entry.number, row.rounds);
+    for _ in 0..(row.entry.quick / 100).max(1) {
+        let mut inputs = Words::default();
+        (row.entry.make)(&mut random, &mut inputs);
+        row.inputs += 1;
+        let Some(answers) = Answers::of(row.entry, &inputs.0) else {
+            row.skipped += 1;
             continue;
+        };
+        if let Some(rust) = &answers.rust {
+            row.see(&rust.1);
         }
-        (entry.ours)(&inputs.0, &mut ours);
-        refusals[rust.0.first().map_or(0, |n| *n as usize % 22)] += 1;
-        if ours.0 != rust.0 {
-            if wrong < 3 {
-                show(entry, &inputs, &ours, &rust);
-            }
-            wrong += 1;
+        row.wrong += u64::from(!answers.agree());
+        if row.wrong == 1 && !answers.agree() {
+            let (smallest, answers) = shrink::smallest(row.entry, &inputs.0).unwrap_or((inputs.0, answers));
+            show(row.entry, &smallest, &answers);
         }
     }
-    if entry.refuses() {
-        let told: Vec<String> = (0..22).filter(|n| refusals[*n] > 0).map(|n| format!("{n}: {}", refusals[n])).collect();
-        println!("  {}, answers by refusal number (0: given): {}", entry.name, told.join(", "));
-    }
-    (count, skipped, wrong)
+    row.rounds += 1;
+    row.seconds += start.elapsed().as_secs_f64();
 }
 
-/// The platform's library within 2^-48 of ours, up to 1,024 in size.
-fn platform(count: u64, seed: u64) -> u64 {
-    type Angle = fn(f64, &mut f64) -> bool;
-    let table: [(&str, Angle, fn(f64) -> f64, f64); 3] = [
-        ("sin", |x, a| drive::ffi::slew_sin(x, a), f64::sin, 2048.0),
-        ("cos", |x, a| drive::ffi::slew_cos(x, a), f64::cos, 2048.0),
-        ("acos", |x, a| drive::ffi::slew_acos(x, a), f64::acos, 1.0),
-    ];
-    let mut wrong = 0;
-    for (name, ours, library, span) in table {
-        let mut random = Random::new(seed);
-        let mut most = 0.0f64;
-        let mut here = 0;
-        for k in 0..count {
-            let unit = if k % 3 == 0 { random.unit() * 0.01 } else { random.unit() };
-            let x = if span > 1.0 { (unit - 0.5) * span } else if k % 3 == 0 { 1.0 - unit } else { unit };
-            let mut answer = 0.0;
-            assert!(ours(x, &mut answer), "{name} refuses {x:e}");
-            let off = (answer - library(x)).abs();
-            most = most.max(off);
-            here += u64::from(!(off <= (2.0f64).powi(-48)));
-        }
-        println!("{name:24} {count:>11} inputs beside the platform's: {here} off by more than 2^-48, most 2^{:.2}", most.log2());
-        wrong += here;
+/// The row whose turn it is: the one that has had the least of its share, or the first that has not had its inputs.
+fn next<'a>(rows: &'a mut [Row], options: &Options, start: Instant) -> Option<&'a mut Row> {
+    let Some(minutes) = options.minutes else {
+        return rows.iter_mut().find(|row| row.inputs < if options.full { row.entry.full } else { row.entry.quick });
+    };
+    if start.elapsed().as_secs_f64() >= 60.0 * minutes {
+        return None;
     }
-    wrong
+    let had = |row: &Row| row.seconds * row.library.entries.len() as f64 / f64::from(row.library.share);
+    rows.iter_mut().min_by(|a, b| had(a).total_cmp(&had(b)))
 }
 
-/// No line of the stored text crosses a multiple of this many bytes: empty lines fill up.
-const BLOCK: usize = 65_536;
-
-fn store(entries: &[&Entry], path: &str, seed: u64) -> std::io::Result<()> {
-    let mut text = String::new();
-    let mut cases = 0;
-    for entry in entries {
-        let mut random = Random::new(seed ^ u64::from(entry.number) << 32);
-        let (mut inputs, mut rust) = (Words::default(), Words::default());
-        let mut kept = 0;
-        while kept < entry.kept {
-            inputs.clear();
-            rust.clear();
-            (entry.make)(&mut random, &mut inputs);
-            if !(entry.rust)(&inputs.0, &mut rust) {
-                continue;
-            }
-            kept += 1;
-            let mut line = format!("{:x} {:x} {:x}", entry.number, inputs.0.len(), rust.0.len());
-            for word in inputs.0.iter().chain(&rust.0) {
-                write!(line, " {word:x}").expect("a string");
-            }
-            line.push('\n');
-            while text.len() % BLOCK + line.len() > BLOCK {
-                text.push('\n');
-            }
-            text.push_str(&line);
+/// Compares until the time or the inputs are over; whether no answer differed.
+fn compare(rows: &mut [Row], options: &Options) -> bool {
+    let start = Instant::now();
+    let mut told = start;
+    let args: Vec<String> = std::env::args().skip(1).map(|arg| if arg.contains(' ') { format!("\"{arg}\"") } else { arg }).collect();
+    let how = || format!("seed {}, {:.1} minutes: oracle/compare {}", options.seed, start.elapsed().as_secs_f64() / 60.0, args.join(" "));
+    while let Some(row) = next(rows, options, start) {
+        round(row, options.seed);
+        if told.elapsed() >= PARTIAL {
+            told = Instant::now();
+            eprintln!("so far:\n{}", table::text(rows, &how()));
         }
-        cases += kept;
     }
-    std::fs::write(path, text)?;
-    println!("{cases} cases stored in {path}");
-    Ok(())
+    print!("{}", table::text(rows, &how()));
+    rows.iter().all(|row| row.wrong == 0)
 }
 
 fn main() -> ExitCode {
     let options = match options() {
         Ok(options) => options,
         Err(text) => {
-            eprintln!("{text}\nusage: compare [--full] [--seed N] [--only NAME] [--store FILE]");
+            eprintln!("{text}\n{USAGE}");
             return ExitCode::from(2);
         }
     };
-    let all = leaves::LEAVES.iter().chain(&shapes::SHAPES).chain(&courses::COURSES).chain(&runs::RUNS);
-    #[cfg(feature = "systems")]
-    let all = all.chain(&systems::SYSTEMS);
-    #[cfg(feature = "plans")]
-    let all = all.chain(&drive::plans::PLANS).chain(&drive::samples::SAMPLES);
-    let chosen: Vec<&Entry> = all.filter(|entry| options.only.as_ref().is_none_or(|name| entry.name == name)).collect();
+    let chosen = chosen(options.only.as_deref());
+    if chosen.is_empty() {
+        eprintln!("no function of that name");
+        return ExitCode::from(2);
+    }
     if let Some(path) = &options.store {
-        return match store(&chosen, path, options.seed) {
-            Ok(()) => ExitCode::SUCCESS,
-            Err(err) => {
-                eprintln!("{path}: {err}");
-                ExitCode::from(2)
-            }
-        };
+        let stored = store::store(&chosen, path, options.seed);
+        stored.as_ref().map_or_else(|err| eprintln!("{path}: {err}"), |cases| println!("{cases} cases stored in {path}"));
+        return if stored.is_ok() { ExitCode::SUCCESS } else { ExitCode::from(2) };
     }
-    let (mut inputs, mut wrong) = (0, 0);
-    for entry in &chosen {
-        let (count, skipped, bad) = compare(entry, if options.full { entry.full } else { entry.quick }, options.seed);
-        println!("{:24} {count:>11} inputs {skipped:>9} without an answer of the Rust {bad:>6} mismatches", entry.name);
-        inputs += count - skipped;
-        wrong += bad;
-    }
-    #[cfg(feature = "systems")]
-    if options.only.is_none() || options.only.as_deref() == Some("systems") {
-        let (count, largest) = if options.full { (100_000, 193) } else { (3_000, 60) };
-        let (count, singular, bad) = systems::compare(count, options.seed, largest);
-        println!("{:24} {count:>11} systems of up to {largest}, {singular} singular {bad:>6} mismatches", "normal equations, step");
-        inputs += count;
-        wrong += bad;
-    }
-    #[cfg(feature = "plans")]
-    if options.only.is_none() || options.only.as_deref() == Some("lists") {
-        let (count, samples, stopped, bad) = drive::samples::lists(if options.full { 20_000 } else { 500 }, options.seed);
-        println!("{:24} {count:>11} lists of samples, {samples} samples, {stopped} lists refused {bad:>6} mismatches", "dense samples");
-        inputs += samples;
-        wrong += bad;
-    }
-    if options.only.is_none() {
-        wrong += platform(if options.full { 10_000_000 } else { 300_000 }, options.seed);
-    }
-    println!("{inputs} inputs compared, {wrong} mismatches");
-    if wrong == 0 { ExitCode::SUCCESS } else { ExitCode::FAILURE }
+    let mut rows: Vec<Row> = chosen.iter().map(|(library, entry)| Row::new(library, entry)).collect();
+    if compare(&mut rows, &options) { ExitCode::SUCCESS } else { ExitCode::FAILURE }
 }

@@ -67,6 +67,28 @@ impl Flat {
         flat
     }
 
+    /// Without wheel, thruster or pyramid (kind 0, 1, 2) number k; false where there is none.
+    pub fn remove(&mut self, kind: usize, k: usize) -> bool {
+        let count = self.counts[kind];
+        if k >= count || count > [8, 12, 1][kind] {
+            return false;
+        }
+        self.counts[kind] -= 1;
+        match kind {
+            0 => {
+                self.numbers.copy_within(3 * k + 3..24, 3 * k);
+                [24, 32, 40].iter().for_each(|first| self.numbers.copy_within(first + k + 1..first + 8, first + k));
+                self.counts.copy_within(k + 4..11, k + 3);
+            }
+            1 => {
+                self.numbers.copy_within(51 + 3 * k..84, 48 + 3 * k);
+                self.numbers.copy_within(85 + k..96, 84 + k);
+            }
+            _ => {}
+        }
+        true
+    }
+
     pub fn empty(&self) -> bool {
         self.counts[0] == 0 && self.counts[1] == 0 && self.counts[2] == 0
     }
@@ -89,7 +111,12 @@ pub fn kinds(r: &mut Random) -> (usize, usize, usize) {
 
 /// Actuators that `prepare` takes.
 pub fn sound(r: &mut Random) -> Flat {
-    let (wheels, thrusters, cmgs) = kinds(r);
+    let kinds = kinds(r);
+    sound_of(r, kinds)
+}
+
+/// The same with so many wheels, thrusters, pyramids.
+pub fn sound_of(r: &mut Random, (wheels, thrusters, cmgs): (usize, usize, usize)) -> Flat {
     let mut flat = Flat { counts: [0; 11], numbers: [0.0; 100] };
     flat.counts[..3].copy_from_slice(&[wheels, thrusters, cmgs]);
     for k in 0..wheels {

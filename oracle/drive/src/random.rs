@@ -13,6 +13,11 @@ impl Random {
         Random(seed)
     }
 
+    /// The inputs of one round of a function: the seed and both numbers scattered first, so that no two rounds share a stretch.
+    pub fn of_round(seed: u64, function: u32, round: u64) -> Self {
+        Random(Random(seed).word() ^ Random(u64::from(function) << 32 ^ round).word())
+    }
+
     /// 64 random bits (splitmix64).
     pub fn word(&mut self) -> u64 {
         self.0 = self.0.wrapping_add(0x9E37_79B9_7F4A_7C15);

@@ -9,13 +9,13 @@ use quatopsy_plan::probe::{self as rust, Nodes, Tensor};
 use quatopsy_plan::scvx::probe as scvx;
 
 /// A path as the C interface takes it, with what its samples are asked for.
-struct Track {
-    inertia: [f64; 9],
-    tolerance: f64,
-    duration: f64,
-    nodes: [[f64; 22]; 17],
-    requested: usize,
-    alpha: f64,
+pub struct Track {
+    pub inertia: [f64; 9],
+    pub tolerance: f64,
+    pub duration: f64,
+    pub nodes: [[f64; 22]; 17],
+    pub requested: usize,
+    pub alpha: f64,
 }
 
 impl Track {
@@ -52,7 +52,7 @@ impl Track {
     }
 
     /// The Rust's count, or none where it refuses: its own rule, but that a sum which overflows is refused.
-    fn count(&self) -> Option<usize> {
+    pub fn count(&self) -> Option<usize> {
         let dt_max = (2.0 * 1.0e-3 * 0.75) / self.alpha.max(1.0e-6);
         let from_rate = ((self.duration / dt_max).ceil() as usize).checked_add(1)?;
         let count = self.requested.max(from_rate).max(17);
@@ -64,12 +64,11 @@ impl Track {
         let t = self;
         let number = slew_sample_path(&t.inertia, t.tolerance, t.duration, &t.nodes, t.requested, t.alpha, index, &mut out, &mut place);
         assert!(number == 0 || out.iter().all(|x| x.to_bits() == 0), "beside a refusal the sample is zeros");
-        o.n(number as u64);
-        o.n(place as u64);
+        o.placed(number as u64, place as u64);
         o.all(&out);
     }
 
-    fn rust(&self, index: usize, o: &mut Words) {
+    pub fn rust(&self, index: usize, o: &mut Words) {
         let Some(count) = self.count() else { return refused(20, 0, o) };
         if index >= count {
             return refused(20, 1, o);
@@ -82,8 +81,7 @@ impl Track {
         match answer {
             _ if libm::was_outside() => refused(11, index as u64, o),
             Ok(sample) => {
-                o.n(0);
-                o.n(0);
+                o.placed(0, 0);
                 o.all(&sample);
             }
             Err(err) => refused(refusal(&rust::words(err)).0, index as u64, o),
@@ -92,8 +90,7 @@ impl Track {
 }
 
 fn refused(number: u64, place: u64, o: &mut Words) {
-    o.n(number);
-    o.n(place);
+    o.placed(number, place);
     o.all(&[0.0; 14]);
 }
 
@@ -130,21 +127,60 @@ fn run(r: &mut Random) -> Option<(f64, [[f64; 22]; 17])> {
 }
 
 /// Nodes as rows of 22 numbers.
-fn rows(nodes: &Nodes) -> [[f64; 22]; 17] {
+pub fn rows(nodes: &Nodes) -> [[f64; 22]; 17] {
     let mut o = Words::default();
     runs::put_nodes(nodes, &mut o);
     let mut r = Reader(&o.0);
     std::array::from_fn(|_| r.a())
 }
 
-pub const SAMPLES: [Entry; 2] = [
-    Entry {
-        number: 350,
-        name: "samples",
-        quick: 100_000,
-        full: 2_000_000,
-        kept: 0,
-        make: |r, w| {
+/// A whole list, sample by sample: the first refusal's number, or 0 and the samples.
+fn list_by_port(i: &[u64], o: &mut Words) {
+    let track = Track::take(&mut Reader(i));
+    let mut given = Vec::new();
+    for index in 0..track.count().unwrap_or(1) {
+        let mut one = Words::default();
+        track.ours(index, &mut one);
+        if one.0[0] != 0 {
+            return o.number(one.0[0]);
+        }
+        given.extend_from_slice(&one.0[2..]);
+    }
+    o.number(0);
+    o.0.extend(given);
+}
+
+/// The same by the Rust's `densify`, which names no sample.
+fn list_by_rust(i: &[u64], o: &mut Words) -> bool {
+    let track = Track::take(&mut Reader(i));
+    if track.count().is_none() {
+        o.number(20);
+        return true;
+    }
+    quatopsy_schema::set_tolerances(track.tolerance, 0.5);
+    let (inertia, nodes) = track.of_rust();
+    libm::outside_at();
+    match scvx::dense(inertia, &nodes, track.requested, track.alpha) {
+        _ if libm::was_outside() => o.number(11),
+        Ok(list) => {
+            o.number(0);
+            list.iter().for_each(|sample| o.all(sample));
+            o.met("samples of whole lists", list.len() as u64);
+        }
+        Err(err) => o.number(refusal(&rust::words(err)).0),
+    }
+    true
+}
+
+/// Inputs of a quick run, of a full run, and kept.
+const SIZES: [u64; 3] = [100_000, 2_000_000, 60];
+
+pub const SAMPLES: [Entry; 3] = [
+    Entry::new(
+        350,
+        "samples",
+        SIZES,
+        |r, w| {
             let track = track(r);
             track.put(w);
             let count = track.count().unwrap_or(17) as u64;
@@ -156,25 +192,23 @@ pub const SAMPLES: [Entry; 2] = [
                 _ => r.below(count),
             });
         },
-        ours: |i, o| {
+        |i, o| {
             let mut r = Reader(i);
             let track = Track::take(&mut r);
             track.ours(r.n() as usize, o);
         },
-        rust: |i, o| {
+        |i, o| {
             let mut r = Reader(i);
             let track = Track::take(&mut r);
             track.rust(r.n() as usize, o);
             true
         },
-    },
-    Entry {
-        number: 351,
-        name: "sample_count",
-        quick: 100_000,
-        full: 2_000_000,
-        kept: 0,
-        make: |r, w| {
+    ),
+    Entry::new(
+        351,
+        "sample_count",
+        SIZES,
+        |r, w| {
             let (duration, alpha) = (r.positive(), r.positive());
             w.f(duration);
             w.n([r.below(2000), 100_000, 100_001, u64::MAX, 0][r.below(5) as usize]);
@@ -184,7 +218,7 @@ pub const SAMPLES: [Entry; 2] = [
                 _ => alpha,
             });
         },
-        ours: |i, o| {
+        |i, o| {
             let mut r = Reader(i);
             let (duration, requested, alpha) = (r.f(), r.n(), r.f());
             let mut count = 77;
@@ -193,53 +227,15 @@ pub const SAMPLES: [Entry; 2] = [
             o.n(number as u64);
             o.n(if number == 0 { count as u64 } else { 0 });
         },
-        rust: |i, o| {
+        |i, o| {
             let mut r = Reader(i);
             let (duration, requested, alpha) = (r.f(), r.n() as usize, r.f());
             let track = Track { inertia: [0.0; 9], tolerance: 0.5, duration, nodes: [[0.0; 22]; 17], requested, alpha };
             let count = track.count();
-            o.n(if count.is_some() { 0 } else { 20 });
+            o.number(if count.is_some() { 0 } else { 20 });
             o.n(count.unwrap_or(0) as u64);
             true
         },
-    },
+    ),
+    Entry::new(352, "sample lists", [500, 20_000, 0], |r, w| track(r).put(w), list_by_port, list_by_rust),
 ];
-
-/// Whole lists beside the Rust's `densify`: lists, samples, refused, mismatches.
-pub fn lists(count: u64, seed: u64) -> (u64, u64, u64, u64) {
-    let mut random = Random::new(seed ^ 0x5A);
-    let (mut samples, mut stopped, mut wrong) = (0, 0, 0);
-    for _ in 0..count {
-        let track = track(&mut random);
-        let Some(count) = track.count() else { continue };
-        quatopsy_schema::set_tolerances(track.tolerance, 0.5);
-        let (inertia, nodes) = track.of_rust();
-        libm::outside_at();
-        let list = scvx::dense(inertia, &nodes, track.requested, track.alpha);
-        let outside = libm::was_outside();
-        let mut ours = Vec::with_capacity(count);
-        let mut first = 0;
-        for index in 0..count {
-            let mut o = Words::default();
-            track.ours(index, &mut o);
-            first = o.0[0];
-            if first != 0 {
-                break;
-            }
-            ours.extend_from_slice(&o.0[2..]);
-        }
-        samples += count as u64;
-        stopped += u64::from(outside || list.is_err());
-        let same = match list {
-            _ if outside => first == 11 || first == 5,
-            Ok(list) => {
-                let mut o = Words::default();
-                list.iter().for_each(|sample| o.all(sample));
-                o.0 == ours
-            }
-            Err(err) => refusal(&rust::words(err)).0 == first,
-        };
-        wrong += u64::from(!same);
-    }
-    (count, samples, stopped, wrong)
-}

@@ -18,9 +18,9 @@ pub fn flat(j: [A3; 3]) -> A9 {
 pub fn told<const N: usize>(o: &mut Words, answer: Result<[f64; N], PlanError>) -> bool {
     let outside = libm::was_outside();
     match answer {
-        _ if outside => o.n(11),
+        _ if outside => o.number(11),
         Ok(v) => o.given(0, &v),
-        Err(err) => o.n(refusal(&rust::words(err)).0),
+        Err(err) => o.number(refusal(&rust::words(err)).0),
     }
     true
 }
@@ -63,14 +63,8 @@ fn tolerance(r: &mut Random) -> f64 {
     }
 }
 
-const QUICK: u64 = 60_000;
-const FULL: u64 = 2_000_000;
-
-macro_rules! entry {
-    ($number:expr, $name:expr, $make:expr, $ours:expr, $rust:expr) => {
-        Entry { number: $number, name: $name, quick: QUICK, full: FULL, kept: 25, make: $make, ours: $ours, rust: $rust }
-    };
-}
+/// Inputs of a quick run, of a full run, and kept.
+const SIZES: [u64; 3] = [60_000, 2_000_000, 25];
 
 fn out<const N: usize>(o: &mut Words, of: impl FnOnce(&mut [f64; N])) {
     let mut v = [0.0; N];
@@ -95,13 +89,14 @@ fn said(o: &mut Words, b: bool) -> bool {
 }
 
 pub const SHAPES: [Entry; 26] = [
-    entry!(50, "quat_is_finite", q4, |i, o| o.n(u64::from(slew_quat_is_finite(&Reader(i).a()))), |i, o| {
+    Entry::new(50, "quat_is_finite", SIZES, q4, |i, o| o.n(u64::from(slew_quat_is_finite(&Reader(i).a()))), |i, o| {
         said(o, rust::q_is_finite(Reader(i).a()))
     }),
-    entry!(51, "quat_norm", q4, |i, o| o.f(slew_quat_norm(&Reader(i).a())), |i, o| yes(o, &[rust::q_norm(Reader(i).a())])),
-    entry!(
+    Entry::new(51, "quat_norm", SIZES, q4, |i, o| o.f(slew_quat_norm(&Reader(i).a())), |i, o| yes(o, &[rust::q_norm(Reader(i).a())])),
+    Entry::new(
         52,
         "quat_dot",
+        SIZES,
         q4q4,
         |i, o| {
             let mut r = Reader(i);
@@ -112,9 +107,10 @@ pub const SHAPES: [Entry; 26] = [
             yes(o, &[rust::q_dot(r.a(), r.a())])
         }
     ),
-    entry!(
+    Entry::new(
         53,
         "quat_scale",
+        SIZES,
         q4any,
         |i, o| {
             let mut r = Reader(i);
@@ -126,13 +122,14 @@ pub const SHAPES: [Entry; 26] = [
             yes(o, &rust::q_scale(r.a(), r.f()))
         }
     ),
-    entry!(54, "quat_negate", q4, |i, o| out(o, |v| slew_quat_negate(&Reader(i).a(), v)), |i, o| yes(o, &rust::q_negate(Reader(i).a()))),
-    entry!(55, "quat_conjugate", q4, |i, o| out(o, |v| slew_quat_conjugate(&Reader(i).a(), v)), |i, o| {
+    Entry::new(54, "quat_negate", SIZES, q4, |i, o| out(o, |v| slew_quat_negate(&Reader(i).a(), v)), |i, o| yes(o, &rust::q_negate(Reader(i).a()))),
+    Entry::new(55, "quat_conjugate", SIZES, q4, |i, o| out(o, |v| slew_quat_conjugate(&Reader(i).a(), v)), |i, o| {
         yes(o, &rust::q_conjugate(Reader(i).a()))
     }),
-    entry!(
+    Entry::new(
         56,
         "quat_mul",
+        SIZES,
         q4q4,
         |i, o| {
             let mut r = Reader(i);
@@ -144,9 +141,10 @@ pub const SHAPES: [Entry; 26] = [
             yes(o, &rust::q_mul(r.a(), r.a()))
         }
     ),
-    entry!(
+    Entry::new(
         57,
         "quat_normalized",
+        SIZES,
         |r, w| {
             q4(r, w);
             w.f(tolerance(r));
@@ -163,9 +161,10 @@ pub const SHAPES: [Entry; 26] = [
             told(o, rust::q_normalized(q))
         }
     ),
-    entry!(
+    Entry::new(
         58,
         "exp_so3",
+        SIZES,
         |r, w| {
             let v: A3 = if r.one_in(4) {
                 let v: A3 = r.numbers();
@@ -182,14 +181,15 @@ pub const SHAPES: [Entry; 26] = [
             told(o, Ok(q))
         }
     ),
-    entry!(59, "log_so3", q4, |i, o| may(o, |v| slew_log_so3(&Reader(i).a(), v)), |i, o| {
+    Entry::new(59, "log_so3", SIZES, q4, |i, o| may(o, |v| slew_log_so3(&Reader(i).a(), v)), |i, o| {
         libm::was_outside();
         let v = rust::log_so3(Reader(i).a());
         told(o, Ok(v))
     }),
-    entry!(
+    Entry::new(
         60,
         "apply_tensor",
+        SIZES,
         |r, w| {
             j9(r, w);
             v3(r, w);
@@ -204,17 +204,18 @@ pub const SHAPES: [Entry; 26] = [
             yes(o, &rust::apply_tensor(rows(r.a()), r.a()))
         }
     ),
-    entry!(61, "invert3", j9, |i, o| may(o, |v| slew_invert3(&Reader(i).a(), v)), |i, o| {
+    Entry::new(61, "invert3", SIZES, j9, |i, o| may(o, |v| slew_invert3(&Reader(i).a(), v)), |i, o| {
         told(o, rust::invert3(rows(Reader(i).a())).map(flat))
     }),
-    entry!(62, "invert_spd", j9, |i, o| may(o, |v| slew_invert_spd(&Reader(i).a(), v)), |i, o| {
+    Entry::new(62, "invert_spd", SIZES, j9, |i, o| may(o, |v| slew_invert_spd(&Reader(i).a(), v)), |i, o| {
         told(o, rust::invert_spd(rows(Reader(i).a())).map(flat))
     }),
-    entry!(63, "det3", j9, |i, o| o.f(slew_det3(&Reader(i).a())), |i, o| yes(o, &[rust::det3(rows(Reader(i).a()))])),
-    entry!(64, "is_spd", j9, |i, o| o.n(u64::from(slew_is_spd(&Reader(i).a()))), |i, o| said(o, rust::is_spd(rows(Reader(i).a())))),
-    entry!(
+    Entry::new(63, "det3", SIZES, j9, |i, o| o.f(slew_det3(&Reader(i).a())), |i, o| yes(o, &[rust::det3(rows(Reader(i).a()))])),
+    Entry::new(64, "is_spd", SIZES, j9, |i, o| o.n(u64::from(slew_is_spd(&Reader(i).a()))), |i, o| said(o, rust::is_spd(rows(Reader(i).a())))),
+    Entry::new(
         65,
         "euler_lhs",
+        SIZES,
         |r, w| {
             j9(r, w);
             v3v3(r, w);
@@ -230,9 +231,10 @@ pub const SHAPES: [Entry; 26] = [
             yes(o, &rust::euler_lhs(rows(r.a()), r.a(), r.a(), r.a()))
         }
     ),
-    entry!(
+    Entry::new(
         66,
         "cross",
+        SIZES,
         v3v3,
         |i, o| {
             let mut r = Reader(i);
@@ -244,9 +246,10 @@ pub const SHAPES: [Entry; 26] = [
             yes(o, &rust::cross(r.a(), r.a()))
         }
     ),
-    entry!(
+    Entry::new(
         67,
         "add3",
+        SIZES,
         v3v3,
         |i, o| {
             let mut r = Reader(i);
@@ -258,9 +261,10 @@ pub const SHAPES: [Entry; 26] = [
             yes(o, &rust::add3(r.a(), r.a()))
         }
     ),
-    entry!(
+    Entry::new(
         68,
         "sub3",
+        SIZES,
         v3v3,
         |i, o| {
             let mut r = Reader(i);
@@ -272,9 +276,10 @@ pub const SHAPES: [Entry; 26] = [
             yes(o, &rust::sub3(r.a(), r.a()))
         }
     ),
-    entry!(
+    Entry::new(
         69,
         "scale3",
+        SIZES,
         v3f,
         |i, o| {
             let mut r = Reader(i);
@@ -286,9 +291,10 @@ pub const SHAPES: [Entry; 26] = [
             yes(o, &rust::scale3(r.a(), r.f()))
         }
     ),
-    entry!(
+    Entry::new(
         70,
         "dot3",
+        SIZES,
         v3v3,
         |i, o| {
             let mut r = Reader(i);
@@ -301,10 +307,11 @@ pub const SHAPES: [Entry; 26] = [
             yes(o, &[rust::apply_tensor([a, a, a], b)[0]])
         }
     ),
-    entry!(71, "norm3", v3, |i, o| o.f(slew_norm3(&Reader(i).a())), |i, o| yes(o, &[rust::norm3(Reader(i).a())])),
-    entry!(
+    Entry::new(71, "norm3", SIZES, v3, |i, o| o.f(slew_norm3(&Reader(i).a())), |i, o| yes(o, &[rust::norm3(Reader(i).a())])),
+    Entry::new(
         72,
         "unit3",
+        SIZES,
         |r, w| {
             let v = r.axis();
             w.all(&v);
@@ -312,9 +319,10 @@ pub const SHAPES: [Entry; 26] = [
         |i, o| may(o, |v| slew_unit3(&Reader(i).a(), v)),
         |i, o| told(o, rust::unit3(Reader(i).a()))
     ),
-    entry!(
+    Entry::new(
         73,
         "torque_excess",
+        SIZES,
         v3v3,
         |i, o| {
             let mut r = Reader(i);
@@ -325,9 +333,10 @@ pub const SHAPES: [Entry; 26] = [
             yes(o, &[rust::torque_excess(r.a(), r.a())])
         }
     ),
-    entry!(
+    Entry::new(
         74,
         "rest",
+        SIZES,
         v3f,
         |i, o| {
             let mut r = Reader(i);
@@ -339,9 +348,10 @@ pub const SHAPES: [Entry; 26] = [
             said(o, rust::rest(r.a(), r.f()))
         }
     ),
-    entry!(
+    Entry::new(
         75,
         "body_euler_torque",
+        SIZES,
         |r, w| {
             j9(r, w);
             v3v3(r, w);

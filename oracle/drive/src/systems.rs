@@ -2,7 +2,7 @@
 
 use crate::ffi::*;
 use crate::random::Random;
-use crate::words::{Entry, Reader, Words, bits};
+use crate::words::{Entry, Reader, Words};
 use quatopsy_plan::scvx::probe as rust;
 
 /// A Jacobian by rows, residuals, a damping factor.
@@ -49,36 +49,32 @@ pub fn system(r: &mut Random, n: usize, m: usize) -> System {
     System { n, m, jac, r: residuals, lambda }
 }
 
-/// Whether the elimination went through, and the solution by its bits.
-#[derive(PartialEq)]
-pub struct Answer {
-    pub through: bool,
-    pub solution: Vec<u64>,
+impl System {
+    /// The unknowns, the rows, the damping factor, the residuals, the Jacobian by columns.
+    fn put(&self, w: &mut Words) {
+        w.n(self.n as u64);
+        w.n(self.m as u64);
+        w.f(self.lambda);
+        w.all(&self.r);
+        w.all(&room(self)[..self.m * self.n]);
+    }
+
+    fn take(i: &[u64]) -> Self {
+        let mut r = Reader(i);
+        let (n, m, lambda) = (r.n() as usize, r.n() as usize, r.f());
+        let (residuals, columns) = (r.list(m), r.list(m * n));
+        let jac = (0..m * n).map(|k| columns[k % n * m + k / n]).collect();
+        System { n, m, jac, r: residuals, lambda }
+    }
+
+    /// The matrix and the right side as the Rust forms them.
+    fn formed(&self) -> (Vec<Vec<f64>>, Vec<f64>) {
+        let jac: Vec<Vec<f64>> = self.jac.chunks(self.n).map(<[f64]>::to_vec).collect();
+        rust::normal(&jac, &self.r, self.n, self.lambda)
+    }
 }
 
-fn all(v: &[f64]) -> Vec<u64> {
-    v.iter().map(|x| bits(*x)).collect()
-}
-
-/// The Rust's answer, and the port's elimination of the system that the Rust formed.
-pub fn by_rust(s: &System) -> (Answer, Answer) {
-    let jac: Vec<Vec<f64>> = s.jac.chunks(s.n).map(<[f64]>::to_vec).collect();
-    let (mut a, mut g) = rust::normal(&jac, &s.r, s.n, s.lambda);
-    let alone = eliminated_by_port(&a, &g);
-    let through = rust::eliminate(&mut a, &mut g);
-    let answer = Answer { through, solution: if through { all(&g) } else { Vec::new() } };
-    (answer, alone)
-}
-
-/// The same by the port: the Jacobian by columns and room for the matrix, then the step.
-pub fn by_port(s: &System) -> Answer {
-    let mut room = room(s);
-    let mut g = vec![0.0; s.n];
-    let through = slew_damped_step(&mut room, s.m, &s.r, s.lambda, &mut g);
-    Answer { through, solution: if through { all(&g) } else { Vec::new() } }
-}
-
-/// The workspace that the port's step takes.
+/// The workspace that the port's step takes: the Jacobian by columns and room for the matrix.
 pub fn room(s: &System) -> Vec<f64> {
     let mut room = vec![0.0; s.n * (s.m + s.n)];
     for c in 0..s.n {
@@ -89,65 +85,44 @@ pub fn room(s: &System) -> Vec<f64> {
     room
 }
 
-/// The elimination alone, on the system that the Rust formed.
-pub fn eliminated_by_port(a: &[Vec<f64>], g: &[f64]) -> Answer {
-    let (mut a, mut g) = (a.concat(), g.to_vec());
-    let through = slew_solve_dense(&mut a, &mut g);
-    Answer { through, solution: if through { all(&g) } else { Vec::new() } }
-}
-
-/// Systems compared, of which singular, mismatches.
-pub fn compare(count: u64, seed: u64, largest: usize) -> (u64, u64, u64) {
-    let mut random = Random::new(seed ^ 0xD0);
-    let (mut wrong, mut singular) = (0, 0);
-    for k in 0..count {
-        let n = 1 + random.below(largest as u64) as usize;
-        let m = if k % 2 == 0 { 28 } else { 79 };
-        let s = system(&mut random, n, m);
-        let ours = by_port(&s);
-        let (theirs, alone) = by_rust(&s);
-        singular += u64::from(!theirs.through);
-        if ours != theirs || alone != theirs {
-            if wrong < 3 {
-                println!("  system {k}: n {n}, rows {m}, lambda {:e}: step {}, elimination alone {}", s.lambda, ours == theirs, alone == theirs);
-            }
-            wrong += 1;
-        }
+/// Whether an elimination went through, and what it found.
+fn told(o: &mut Words, through: bool, solution: &[f64]) {
+    o.n(u64::from(through));
+    if through {
+        o.all(solution);
     }
-    (count, singular, wrong)
 }
 
-fn small(i: &[u64]) -> System {
-    let mut r = Reader(i);
-    let n = r.n() as usize;
-    let (lambda, residuals, columns) = (r.f(), r.list(28), r.list(28 * n));
-    let jac = (0..28 * n).map(|k| columns[k % n * 28 + k / n]).collect();
-    System { n, m: 28, jac, r: residuals, lambda }
+/// The whole step, then the elimination alone of the system that the Rust formed.
+fn by_port(i: &[u64], o: &mut Words) {
+    let s = System::take(i);
+    let (mut lent, mut step) = (room(&s), vec![0.0; s.n]);
+    let through = slew_damped_step(&mut lent, s.m, &s.r, s.lambda, &mut step);
+    told(o, through, &step);
+    let (a, mut g) = s.formed();
+    let through = slew_solve_dense(&mut a.concat(), &mut g);
+    told(o, through, &g);
 }
 
-fn told(o: &mut Words, answer: &Answer) {
-    o.n(u64::from(answer.through));
-    o.0.extend(&answer.solution);
+/// The Rust's answer, which both must give.
+fn by_rust(i: &[u64], o: &mut Words) -> bool {
+    let s = System::take(i);
+    let (mut a, mut g) = s.formed();
+    let through = rust::eliminate(&mut a, &mut g);
+    told(o, through, &g);
+    told(o, through, &g);
+    o.met("singular systems", u64::from(!through));
+    o.met("solutions with a NaN", u64::from(through && g.iter().any(|x| x.is_nan())));
+    true
 }
 
-/// Systems of up to eight unknowns and 28 rows: their number, the damping factor, the residuals, the Jacobian by columns.
-pub const SYSTEMS: [Entry; 1] = [Entry {
-    number: 250,
-    name: "small systems",
-    quick: 20_000,
-    full: 300_000,
-    kept: 0,
-    make: |r, w| {
-        let n = 1 + r.below(8) as usize;
-        let s = system(r, n, 28);
-        w.n(n as u64);
-        w.f(s.lambda);
-        w.all(&s.r);
-        w.all(&room(&s)[..28 * n]);
-    },
-    ours: |i, o| told(o, &by_port(&small(i))),
-    rust: |i, o| {
-        told(o, &by_rust(&small(i)).0);
-        true
-    },
-}];
+fn any(r: &mut Random, largest: u64, w: &mut Words) {
+    let (n, m) = (1 + r.below(largest) as usize, [28, 79][r.below(2) as usize]);
+    system(r, n, m).put(w);
+}
+
+/// Systems of up to 60 unknowns, and of up to the 193 of twelve controls.
+pub const SYSTEMS: [Entry; 2] = [
+    Entry::new(250, "systems", [3_000, 50_000, 0], |r, w| any(r, 60, w), by_port, by_rust),
+    Entry::new(251, "large systems", [300, 50_000, 0], |r, w| any(r, 193, w), by_port, by_rust),
+];

@@ -6,13 +6,18 @@ pub fn bits(x: f64) -> u64 {
     if x.is_nan() { NAN } else { x.to_bits() }
 }
 
+/// What the table counts of an answer besides: the refusal's number (0: given) and place, and the branches met.
 #[derive(Default, Clone, Debug)]
-pub struct Words(pub Vec<u64>);
+pub struct Seen {
+    pub refusal: Option<(u64, u64)>,
+    pub branches: Vec<(&'static str, u64)>,
+}
+
+/// The words, and what the table counts of them.
+#[derive(Default, Clone, Debug)]
+pub struct Words(pub Vec<u64>, pub Seen);
 
 impl Words {
-    pub fn clear(&mut self) {
-        self.0.clear();
-    }
     pub fn n(&mut self, x: u64) {
         self.0.push(x);
     }
@@ -22,9 +27,24 @@ impl Words {
     pub fn all(&mut self, v: &[f64]) {
         v.iter().for_each(|x| self.f(*x));
     }
+    /// A refusal's number, 0 for an answer that is given, where no place is told.
+    pub fn number(&mut self, number: u64) {
+        self.n(number);
+        self.1.refusal = Some((number, 0));
+    }
+    /// A refusal's number and place.
+    pub fn placed(&mut self, number: u64, place: u64) {
+        self.n(number);
+        self.n(place);
+        self.1.refusal = Some((number, place));
+    }
+    /// A branch was met so many times: no word of the answer.
+    pub fn met(&mut self, branch: &'static str, times: u64) {
+        self.1.branches.push((branch, times));
+    }
     /// A refusal's number, or 0 and what was given.
     pub fn given(&mut self, number: u64, v: &[f64]) {
-        self.n(number);
+        self.number(number);
         if number == 0 {
             self.all(v);
         }
@@ -65,9 +85,32 @@ pub struct Entry {
 }
 
 impl Entry {
-    /// Whether the first word of the answer is a refusal's number.
-    pub fn refuses(&self) -> bool {
-        (100..150).contains(&self.number) && self.number != 108 || self.number >= 200
+    /// With its inputs of a quick run, of a full run, and kept.
+    pub const fn new(
+        number: u32,
+        name: &'static str,
+        [quick, full, kept]: [u64; 3],
+        make: fn(&mut crate::random::Random, &mut Words),
+        ours: fn(&[u64], &mut Words),
+        rust: fn(&[u64], &mut Words) -> bool,
+    ) -> Self {
+        Entry { number, name, quick, full, kept, make, ours, rust }
+    }
+
+    /// The Rust's answer, with no angle outside left over from the one before; false where it has none.
+    pub fn by_rust(&self, inputs: &[u64], o: &mut Words) -> bool {
+        libm::outside_at();
+        (self.rust)(inputs, o)
+    }
+
+    /// Whether a case begins with declared actuators (maps.rs).
+    pub fn declares(&self) -> bool {
+        matches!(self.number, 100..=108 | 200 | 201 | 300..=303 | 340 | 460..=462)
+    }
+
+    /// Whether words may be taken out of a case: texts, a byte a word.
+    pub fn cuts(&self) -> bool {
+        (400..410).contains(&self.number)
     }
 }
 

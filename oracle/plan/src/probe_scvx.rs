@@ -61,6 +61,11 @@ pub fn run_end(task: &Task, kept: &Kept) -> f64 {
     with(task, |problem| reconstruct(problem, &kept.0).map_or(f64::NAN, |path| path.omegas[16][0]))
 }
 
+/// The length of the residuals alone.
+pub fn length_kept(task: &Task, kept: &Kept) -> f64 {
+    with(task, |problem| residual_norm(problem, &kept.0).unwrap_or(f64::NAN))
+}
+
 /// The normal matrix and the right side, as `solve` forms them.
 pub fn normal(jac: &[Vec<f64>], r: &[f64], n_z: usize, lambda: f64) -> (Vec<Vec<f64>>, Vec<f64>) {
     let mut a = vec![vec![0.0; n_z]; n_z];

@@ -25,6 +25,10 @@ pub struct Tally {
     pub repeated: u64,
     /// Whether the round before left the decision as it was.
     kept: bool,
+    /// Trials whose length is that of the best so far.
+    pub equal: u64,
+    /// Rounds whose length is a NaN.
+    pub nan: u64,
     /// The decision that the search ends with.
     pub decision: Vec<f64>,
     /// Nanoseconds by phase, if they are asked for.
@@ -83,6 +87,14 @@ pub fn round() {
         t.repeated += u64::from(t.kept);
         t.kept = false;
     });
+}
+
+pub fn length(length: f64) {
+    with(|t| t.nan += u64::from(length.is_nan()));
+}
+
+pub fn trial(length: f64, best: f64) {
+    with(|t| t.equal += u64::from(length == best));
 }
 
 pub fn accepted() {

@@ -1,9 +1,11 @@
-//! Links the archive of the crate export: `rt staticlib export` writes it.
+//! Links the archives of the C interface: `oracle/archives` makes them.
 use std::path::Path;
 
 fn main() {
     let folder = Path::new(env!("CARGO_MANIFEST_DIR")).join("../../../target/staticlib");
     println!("cargo:rustc-link-search=native={}", folder.display());
-    println!("cargo:rustc-link-lib=static:-bundle=export");
-    println!("cargo:rerun-if-changed={}", folder.join("libexport.a").display());
+    for name in ["export_leaves", "export_runs", "export"] {
+        println!("cargo:rustc-link-lib=static:-bundle={name}");
+        println!("cargo:rerun-if-changed={}", folder.join(format!("lib{name}.a")).display());
+    }
 }
