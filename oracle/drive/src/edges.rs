@@ -5,6 +5,7 @@ use crate::maps::Flat;
 use crate::plans::{self, PLANS, Plan, Seed};
 use crate::random::Random;
 use crate::runs::RUNS;
+use crate::samples::{SAMPLES, Track};
 use crate::shapes::SHAPES;
 use crate::systems::SYSTEMS;
 use crate::words::{Entry, Words};
@@ -146,7 +147,23 @@ fn steps(r: &mut Random, w: &mut Words) {
     w.all(&z);
 }
 
-pub const EDGES: [Entry; 14] = [
+/// Lists so long in time that the rate decides how many samples they have, at rates about the smallest that counts.
+fn long_lists(r: &mut Random, w: &mut Words) {
+    let duration = 3.0e4 + 1.0e6 * r.unit();
+    let mut nodes = [[0.0; 22]; 17];
+    for (k, node) in nodes.iter_mut().enumerate() {
+        node[..6].copy_from_slice(&[k as f64 * (duration / 16.0), 1.0, 0.0, 0.0, 0.0, 1.0e-7 * r.tame()]);
+    }
+    let alpha = match r.below(4) {
+        0 => at(r, 1.0e-6),
+        1 => [0.0, -0.0, -1.0, f64::NAN][r.below(4) as usize],
+        _ => 2.0e-6 * r.unit(),
+    };
+    let inertia = [1.0, 0.0, 0.0, 0.0, 2.0, 0.0, 0.0, 0.0, 3.0];
+    Track { inertia, tolerance: 1.0e-6, duration, nodes, requested: r.below(20) as usize, alpha }.put(w);
+}
+
+pub const EDGES: [Entry; 15] = [
     Entry { number: 450, name: "switch_times, edges", kept: 0, make: switches, ..COURSES[0] },
     Entry { number: 451, name: "alpha_from_box, edges", kept: 0, make: boxes, ..COURSES[1] },
     Entry { number: 452, name: "bang_coast_bang, edges", kept: 0, make: ties, ..COURSES[2] },
@@ -160,6 +177,7 @@ pub const EDGES: [Entry; 14] = [
     Entry { number: 460, name: "reconstruct, edges", quick: 20_000, kept: 0, make: steps, ..RUNS[7] },
     Entry { number: 461, name: "residuals, edges", quick: 20_000, kept: 0, make: steps, ..RUNS[8] },
     Entry { number: 462, name: "allocate_body_torque, edges", kept: 0, make: allocations, ..RUNS[3] },
+    Entry { number: 464, name: "sample lists, edges", kept: 0, make: long_lists, ..SAMPLES[2] },
     Entry { number: 463, name: "invert3, mirrored", kept: 0, make: |r, w| w.all(&std::array::from_fn::<f64, 9, _>(|_| r.tame())), ..SHAPES[11] },
 ];
 
@@ -241,16 +259,28 @@ fn short(r: &mut Random) -> Plan {
     seeded(r, (flat, b), duration)
 }
 
-/// Trials of equal length: the duration moves by steps of its last place, and no residual shows it beside the end attitude, which nothing can move.
-fn equal(r: &mut Random) -> Plan {
+/// The duration moves by small steps, and little of it shows beside the end attitude, which nothing can move: the time's weight is 10 to this power.
+fn unmoved(r: &mut Random, exponent: f64) -> Plan {
     let (flat, mut b) = still(0, 0, 0);
     (0..3).for_each(|k| b[17 + k] = TINY);
-    b[21] = (10.0f64).powf(-12.0 - 4.0 * r.unit());
+    b[21] = (10.0f64).powf(exponent);
     let duration = 1.0 + 20.0 * r.unit();
     let mut plan = seeded(r, (flat, b), duration);
-    let half = 1.0e-5 + 4.0e-5 * r.unit();
-    plan.body[4..8].copy_from_slice(&[half.cos(), half.sin(), 0.0, 0.0]);
+    let turn: [f64; 3] = std::array::from_fn(|_| 2.0e-5 * r.unit());
+    plan.body[5..8].copy_from_slice(&turn);
     plan
+}
+
+/// Trials of equal length.
+fn equal(r: &mut Random) -> Plan {
+    let exponent = -12.0 - 4.0 * r.unit();
+    unmoved(r, exponent)
+}
+
+/// Trials whose length differs by a step of its last place, or not, as its squares are summed.
+fn nearly(r: &mut Random) -> Plan {
+    let exponent = -8.3 - 0.7 * r.unit();
+    unmoved(r, exponent)
 }
 
 /// An end rate at 0.0001: just below it about one axis, and a little about another.
@@ -343,7 +373,7 @@ fn heavy(r: &mut Random) -> Plan {
     plan
 }
 
-const KINDS: [fn(&mut Random) -> Plan; 11] = [short, equal, end_rate, slew, torque, momentum, twins, slow, overflow, durations, heavy];
+const KINDS: [fn(&mut Random) -> Plan; 12] = [short, equal, nearly, end_rate, slew, torque, momentum, twins, slow, overflow, durations, heavy];
 
 /// A plan at a limit of the search or of the end checks.
 fn limits(r: &mut Random, w: &mut Words) {

@@ -19,7 +19,7 @@ pub struct Track {
 }
 
 impl Track {
-    fn put(&self, w: &mut Words) {
+    pub fn put(&self, w: &mut Words) {
         w.all(&self.inertia);
         w.f(self.tolerance);
         w.f(self.duration);
