@@ -1,5 +1,6 @@
 mod Tests
 mod Division
+mod Quick
 mod Bits
 mod Rounding
 mod Regions

@@ -14,6 +14,15 @@ use Rattle.angles.specs.Arcs.{arcTerm, arcSum}
 abbrev pub nextOf : ℕ → ℕ → ℕ → ℕ
 nextOf u d t = t * u / 2 ^ 60 * u / 2 ^ 60 / d
 
+-- the upper word of (16u)²
+abbrev pub squareOf : ℕ → ℕ
+squareOf u = u * 16 * (u * 16) / 2 ^ 64
+
+-- a lower word of `least` has room for what one product for a term after t, with the divisor d, leaves out and is too large by
+pub record Roomy (t u d least : ℕ) : Type 0 where
+  pub over : 2 * t ≤ least
+  pub left : u * 16 ≤ (least - 2 * t) * d
+
 -- two terms further: one taken off, one added
 abbrev pub pairOf : ℕ → ℕ → ℕ → Partial → Partial
 pairOf u d e p =

@@ -1,6 +1,6 @@
 -- `angles::series::pair` meets its contract.
 use native.Mathlib.Omega.{arith}
-use native.Mathlib.Nat.{le-trans}
+use native.Mathlib.Nat.{le-trans, mul-le-mul-right}
 use borrow.Author.Needs.{needs}
 use Rattle.angles.proofs.Division.{pair-law, at-most, second-fits}
 use Rattle.angles.proofs.series.pair.Statement.{statement}
@@ -30,7 +30,7 @@ returns c =
     let v = c .before .next-term2 in
     let h = at-most _ _ _ (s .pre .1) (t .ensures .1) in
     let k = at-most _ _ _ (s .pre .2) (v .ensures .1) in
-    (pair-law (a .u) (a .d) (a .e) (t .result) (v .result) (a .p) (t .ensures .0) (v .ensures .0), omega arith, omega arith, le-trans (v .ensures .1) h)
+    (pair-law (a .u) (a .d) (a .e) (t .result) (v .result) (a .p) (t .ensures .0) (v .ensures .0), omega arith, omega arith, le-trans (mul-le-mul-right (a .d) (v .ensures .1)) (t .ensures .1))
 
 pub pair-spec : {M : Type 1} → statement M
 pair-spec = tie.close (tie.spec next-term-requires next-term-requires-2 sub-t7 add-t8 returns)
