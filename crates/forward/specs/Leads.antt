@@ -33,17 +33,21 @@ abbrev pub turnedTo : Turned → Float → Quat → Attitude
 turnedTo Turned.Outside tolerance q = Attitude.Outside
 turnedTo (Turned.Is e) tolerance q = normedTo (normalized tolerance (quatMul q e))
 
+-- the same by the turn's length, already worked out
+pub faced : {t : Attitude} {y : Turned} {n : Float} (v : List Float) (tolerance : Float) (q : Quat) → t ≡ turnedTo y tolerance q → y ≡ expAt v n → n ≡ norm3 v → t ≡ turnedTo (expAt v (norm3 v)) tolerance q
+faced v tolerance q e f g = e ∙ ap (λ (y : Turned). turnedTo y tolerance q) (f ∙ ap (expAt v) g)
+
 -- ---- the lead
-abbrev pub leadFrom : List Float → Float → List Float → Float → State → List Float → Lead
-leadFrom tau square turn length s a = record { fate = Going; tau = tau; square = square; turn = turn; length = length; s = s; a = a }
+abbrev pub leadFrom : List Float → Float → List Float → State → List Float → Lead
+leadFrom tau square turn s a = record { fate = Going; tau = tau; square = square; turn = turn; s = s; a = a }
 
 -- with the rate w2 at its end, and the rest of the state as it was
-abbrev pub leadAt : List Float → Float → List Float → List Float → Float → State → List Float → Lead
-leadAt tau square w2 turn length s a = leadFrom tau square turn length (record { q = s .q; w = w2; h = s .h; hw = s .hw; delta = s .delta }) a
+abbrev pub leadAt : List Float → Float → List Float → List Float → State → List Float → Lead
+leadAt tau square w2 turn s a = leadFrom tau square turn (record { q = s .q; w = w2; h = s .h; hw = s .hw; delta = s .delta }) a
 
 -- gimbals or power refuse the step
 abbrev pub barred : ℕ → ℕ → Lead → Lead
-barred n place l = record { fate = Refused n place; tau = l .tau; square = l .square; turn = l .turn; length = l .length; s = l .s; a = l .a }
+barred n place l = record { fate = Refused n place; tau = l .tau; square = l .square; turn = l .turn; s = l .s; a = l .a }
 
 -- ---- both together: the step from s
 abbrev pub joinedAt : Fate → Quat → Lead → State → Stepped
@@ -62,13 +66,12 @@ facing q s = record { q = q; w = s .w; h = s .h; hw = s .hw; delta = s .delta }
 -- the lead x is l with the gimbals, the power and the momenta of the step from s, whatever its attitude
 pub record Settled (b : Body) (u : List Float) (k : ℕ) (s : State) (l x : Lead) : Type 0 where
   pub turn : x .turn ≡ l .turn
-  pub length : x .length ≡ l .length
   pub ends : (q q2 : Quat) → joinedAt (x .fate) q2 x (facing q s) ≡ attitudeStep b u k (facing q s) (l .tau) (sqrt binary64 (l .square)) (l .s .w) q2
   pub hands : x .fate ≡ Going → Made (b .rig .cmgs) (x .s .delta) (x .a)
 
 -- the lead l is that of the step from s, whatever its attitude
 pub record Leads (b : Body) (u : List Float) (k : ℕ) (s : State) (l : Lead) : Type 0 where
-  pub steps : (q : Quat) → joined (turnedTo (expAt (l .turn) (l .length)) (b .frame .tolerance) q) k l (facing q s) ≡ step b u k (facing q s)
+  pub steps : (q : Quat) → joined (turnedTo (expAt (l .turn) (norm3 (l .turn))) (b .frame .tolerance) q) k l (facing q s) ≡ step b u k (facing q s)
   pub hands : l .fate ≡ Going → Made (b .rig .cmgs) (l .s .delta) (l .a)
 
 -- ---- a lead whose end is known, and a turn: the stages after the turn
@@ -86,25 +89,25 @@ module _ (b : Body) (u : List Float) (k : ℕ) (s : State) (l : Lead) (tau : Lis
 module _ (b : Body) (u : List Float) (k : ℕ) (s : State) (l : Lead) where
   pub settled-barred : {x : Lead} {n i : ℕ} → x ≡ barred n i l → ((q q2 : Quat) → stop n i (facing q s) ≡ attitudeStep b u k (facing q s) (l .tau) (sqrt binary64 (l .square)) (l .s .w) q2)
       → Settled b u k s l x
-  settled-barred e h = rw e (record { turn = refl; length = refl; ends = h; hands = λ z. absurd (refused-going z) })
+  settled-barred e h = rw e (record { turn = refl; ends = h; hands = λ z. absurd (refused-going z) })
 
-  pub settled-going : {x : Lead} {h hw d a : List Float} → x ≡ leadFrom (l .tau) (l .square) (l .turn) (l .length) (record { q = l .s .q; w = l .s .w; h = h; hw = hw; delta = d }) a
+  pub settled-going : {x : Lead} {h hw d a : List Float} → x ≡ leadFrom (l .tau) (l .square) (l .turn) (record { q = l .s .q; w = l .s .w; h = h; hw = hw; delta = d }) a
       → ((q q2 : Quat) → _≡_ {A = Stepped} (record { fate = Going; s = record { q = q2; w = l .s .w; h = h; hw = hw; delta = d }; tau = l .tau; defect = sqrt binary64 (l .square) })
       (attitudeStep b u k (facing q s) (l .tau) (sqrt binary64 (l .square)) (l .s .w) q2))
       → Made (b .rig .cmgs) d a → Settled b u k s l x
-  settled-going e h m = rw e (record { turn = refl; length = refl; ends = h; hands = λ z. m })
+  settled-going e h m = rw e (record { turn = refl; ends = h; hands = λ z. m })
 
-pub leads-settled : (b : Body) (u : List Float) (k : ℕ) (s : State) (square n : Float) {x : Lead} {a tau wd w2 v : List Float} → Settled b u k s (leadAt tau square w2 v n s a) x → n ≡ norm3 v
+pub leads-settled : (b : Body) (u : List Float) (k : ℕ) (s : State) (square : Float) {x : Lead} {a tau wd w2 v : List Float} → Settled b u k s (leadAt tau square w2 v s a) x
     → Made (b .rig .cmgs) (s .delta) a → tau ≡ rowTorque (b .rig) (b .wheels) (b .thrusters) u (s .w) (s .h) a → wd ≡ rateDot (b .frame .j) (b .frame .jinv) (s .w) (s .h) tau
     → w2 ≡ rateNext (s .w) wd (b .frame .dt) → sqrt binary64 square ≡ defectOf (b .frame .j) (s .w) (s .h) tau wd → v ≡ turnOf (s .w) w2 (b .frame .dt) → Leads b u k s x
-leads-settled b u k s square n {x} {a} {tau} {wd} {w2} {v} e l m t d r f g = record {
-  steps = λ q. turned-joined b u k (facing q s) x tau (sqrt binary64 square) w2 (e .ends q) (expAt (x .turn) (x .length))
+leads-settled b u k s square {x} {a} {tau} {wd} {w2} {v} e m t d r f g = record {
+  steps = λ q. turned-joined b u k (facing q s) x tau (sqrt binary64 square) w2 (e .ends q) (expAt (x .turn) (norm3 (x .turn)))
       ∙ (ap (λ (y : Turned). turnedStep y b u k (facing q s) tau (sqrt binary64 square) w2) same-turn ∙ turned-is b u k (facing q s) m t d r f g);
   hands = e .hands;
 }
   where
-    same-turn : expAt (x .turn) (x .length) ≡ expAt v (norm3 v)
-    same-turn = rw (e .turn, e .length, l) refl
+    same-turn : expAt (x .turn) (norm3 (x .turn)) ≡ expAt v (norm3 v)
+    same-turn = rw (e .turn) refl
 
 -- ---- where a step goes on, its lead did, and its end is the lead's but for the attitude
 pub record Follows (l : Lead) (s : State) : Type 0 where
@@ -123,7 +126,7 @@ follows (Attitude.Is q2) k l s h o = follows-at (l .fate) q2 l s refl h o
 -- a lead is that of every state that differs in the attitude alone
 pub leads-same : (b : Body) (u : List Float) (k : ℕ) {s s2 : State} {l : Lead} → ((q : Quat) → facing q s ≡ facing q s2) → Leads b u k s l → Leads b u k s2 l
 leads-same b u k {s} {s2} {l} e h = record {
-  steps = λ q. subst (λ (x : State). joined (turnedTo (expAt (l .turn) (l .length)) (b .frame .tolerance) q) k l x ≡ step b u k x) (e q) (h .steps q);
+  steps = λ q. subst (λ (x : State). joined (turnedTo (expAt (l .turn) (norm3 (l .turn))) (b .frame .tolerance) q) k l x ≡ step b u k x) (e q) (h .steps q);
   hands = h .hands;
 }
 
@@ -133,7 +136,7 @@ pub record Chased (b : Body) (n : ℕ) (z : List Float) (i : ℕ) (s : State) (l
   pub later : 0 < i → i < 17 → Leads b (rowOf n z (i - 1)) (i - 1) s l
 
 module _ (b : Body) (n : ℕ) (z : List Float) (i : ℕ) {s : State} {l : Lead} (c : Chased b n z i s l) where
-  pub chased-step : {t : Attitude} {g : Stepped} → 0 < i → i < 17 → t ≡ turnedTo (expAt (l .turn) (l .length)) (b .frame .tolerance) (s .q) → g ≡ joined t (i - 1) l s
+  pub chased-step : {t : Attitude} {g : Stepped} → 0 < i → i < 17 → t ≡ turnedTo (expAt (l .turn) (norm3 (l .turn))) (b .frame .tolerance) (s .q) → g ≡ joined t (i - 1) l s
       → g ≡ step b (rowOf n z (i - 1)) (i - 1) s
   chased-step h m e j = j ∙ (ap (λ (y : Attitude). joined y (i - 1) l s) e ∙ c .later h m .steps (s .q))
 
@@ -147,6 +150,6 @@ module _ (b : Body) (n : ℕ) (z : List Float) (i : ℕ) {s : State} {l : Lead} 
     pub chased-first : i ≡ 0 → Chased b n z (i + 1) s x
     chased-first h = next-by (λ q. ap (facing q) (c .first h .0)) (c .first h .1)
 
-    pub chased-next : {t : Attitude} {g : Stepped} → 0 < i → i < 17 → t ≡ turnedTo (expAt (l .turn) (l .length)) (b .frame .tolerance) (s .q) → g ≡ joined t (i - 1) l s → g .fate ≡ Going
+    pub chased-next : {t : Attitude} {g : Stepped} → 0 < i → i < 17 → t ≡ turnedTo (expAt (l .turn) (norm3 (l .turn))) (b .frame .tolerance) (s .q) → g ≡ joined t (i - 1) l s → g .fate ≡ Going
         → Chased b n z (i + 1) (g .s) x
     chased-next {t} h m e j o = let f = follows t (i - 1) l s j o in next-by (f .same) (c .later h m .hands (f .goes))

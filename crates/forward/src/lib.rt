@@ -46,14 +46,13 @@ pub struct Stepped {
     pub defect: f64,
 }
 
-// What a step gives but for the attitude, on which no rate waits: how it ends where the attitude is not refused, the torque, the defect squared, the turn
-// and its length, the state at its end (with any attitude), the pyramid's matrix there.
+// What a step gives but for the attitude, on which no rate waits: how it ends where the attitude is not refused, the torque, the defect squared, the turn,
+// the state at its end (with any attitude), the pyramid's matrix there.
 pub struct Lead {
     pub fate: Fate,
     pub tau: [f64; 3],
     pub square: f64,
     pub turn: [f64; 3],
-    pub length: f64,
     pub s: State,
     pub a: [f64; 12],
 }

@@ -147,7 +147,8 @@ pub fn ahead(
     l
 }
 
-// The run from a state whose pyramid matrix is a, n controls a row: the lead of step i is worked out before the attitude of the step before it.
+// The run from a state whose pyramid matrix is a, n controls a row. A turn of the loop has the lead of step i, the sine and cosine of the step before, the length
+// of step i's turn, the attitude after the step before: in this order, since none waits for the one before it but the attitude for the sine and cosine.
 pub fn run_from(
     r: Rig,
     wheels: &[f64; 24],
@@ -165,18 +166,22 @@ pub fn run_from(
 {
     let dt = f.dt;
     let mut s = from;
-    let mut l = lead_from([0.0; 3], 0.0, [0.0; 3], 0.0, from, a);
+    let mut l = lead_from([0.0; 3], 0.0, [0.0; 3], from, a);
+    let mut length = 0.0;
     let blank = blank_node();
     let mut nodes = [blank; 17];
     let mut square = 0.0;
     let mut i: usize = 0;
     while i < 17 {
         let next = ahead(r, wheels, powers, thrusters, f, skew, n, &z, i, l);
+        let turn = l.turn;
+        let turned = geom::exp_at(turn, length);
+        let next_turn = next.turn;
+        length = geom::norm3(next_turn);
         if 0 < i {
             let k = i - 1;
             let q = s.q;
-            let turn = l.turn;
-            let g = join(attitude(q, turn, l.length, f.tolerance), k, l, s);
+            let g = join(attitude(q, turned, f.tolerance), k, l, s);
             let fate = g.fate;
             match fate {
                 Fate::Refused(number, place) => return refused_run(number, place),

@@ -11,7 +11,6 @@ ghost use Rattle.actuators.specs.declared.Cmgs.the-variants.{With};
 ghost use Rattle.forward.specs.Steps as Steps;
 ghost use Rattle.forward.specs.StepLaws.{SkewOf, Made, rooted};
 ghost use Rattle.forward.specs.Leads as Leads;
-ghost use Rattle.geom.specs.Quats.{expAt};
 ghost use lib.Ieee.{binary64, lt};
 ghost use Rattle.float.specs.Sqrt.{sqrt};
 use super::Attitude;
@@ -165,29 +164,20 @@ pub fn barred(number: usize, place: usize, l: Lead) -> Lead
         tau: tau,
         square: l.square,
         turn: turn,
-        length: l.length,
         s: s,
         a: a,
     }
 }
 
 // A lead of these parts that goes on.
-pub fn lead_from(
-    tau: [f64; 3],
-    square: f64,
-    turn: [f64; 3],
-    length: f64,
-    s: State,
-    a: [f64; 12],
-) -> Lead
-    ensures { λ r. ⌜ r ≡ Leads.leadFrom tau square turn length s a ⌝ }
+pub fn lead_from(tau: [f64; 3], square: f64, turn: [f64; 3], s: State, a: [f64; 12]) -> Lead
+    ensures { λ r. ⌜ r ≡ Leads.leadFrom tau square turn s a ⌝ }
 {
     Lead {
         fate: Fate::Going,
         tau: tau,
         square: square,
         turn: turn,
-        length: length,
         s: s,
         a: a,
     }
@@ -199,11 +189,10 @@ pub fn lead_at(
     square: f64,
     w2: [f64; 3],
     turn: [f64; 3],
-    length: f64,
     s: State,
     a: [f64; 12],
 ) -> Lead
-    ensures { λ r. ⌜ r ≡ Leads.leadAt tau square w2 turn length s a ⌝ }
+    ensures { λ r. ⌜ r ≡ Leads.leadAt tau square w2 turn s a ⌝ }
 {
     let q = s.q;
     let h = s.h;
@@ -216,7 +205,7 @@ pub fn lead_at(
         hw: hw,
         delta: d,
     };
-    lead_from(tau, square, turn, length, s2, a)
+    lead_from(tau, square, turn, s2, a)
 }
 
 // The lead l, whose torque, defect, turn and rate are known, with momenta, gimbals and power: of the step from s.
@@ -268,7 +257,7 @@ pub fn settle(
         hw: hw2,
         delta: d2,
     };
-    lead_from(tau, l.square, turn, l.length, s2, a2)
+    lead_from(tau, l.square, turn, s2, a2)
 }
 
 // The lead of step k with the control row u, from the state s, whatever its attitude, whose pyramid matrix is a.
@@ -297,16 +286,15 @@ pub fn lead(
     let w2 = rate_next(w, wd, dt);
     let square = defect_square(j, w, h, tau, wd);
     let turn = turn_of(w, w2, dt);
-    let length = geom::norm3(turn);
-    let l = lead_at(tau, square, w2, turn, length, s, a);
+    let l = lead_at(tau, square, w2, turn, s, a);
     settle(r, wheels, powers, thrusters, f, skew, u, k, s, l)
 }
 
-// The attitude q after a turn.
-pub fn attitude(q: Quat, turn: [f64; 3], length: f64, tolerance: f64) -> Attitude
-    ensures { λ r. ⌜ r ≡ Leads.turnedTo (expAt turn length) tolerance q ⌝ }
+// The attitude q after a turn, whose quaternion is made.
+pub fn attitude(q: Quat, turned: Turned, tolerance: f64) -> Attitude
+    ensures { λ r. ⌜ r ≡ Leads.turnedTo turned tolerance q ⌝ }
 {
-    let Turned::Is(e) = geom::exp_at(turn, length) else {
+    let Turned::Is(e) = turned else {
         return Attitude::Outside;
     };
     let Normal::Is(q2) = q.mul(e).normalized(tolerance) else {

@@ -18,17 +18,14 @@ defect-square-requires c κs = search needs
 turn-of-requires : tie.Need-turn-of-requires
 turn-of-requires c κs = search needs
 
-norm3-requires : tie.Need-norm3-requires
-norm3-requires c κs = search needs
-
 lead-at-requires : tie.Need-lead-at-requires
 lead-at-requires c κs = search needs
 
 settle-requires : tie.Need-settle-requires
-settle-requires c κs = (c .before .before .before .before .before .before .before .before .before .before .before .before .pre .0, c .before .before .before .before .before .before .before .before .before .before .before .before .pre .1)
+settle-requires c κs = (c .before .before .before .before .before .before .before .before .before .before .before .pre .0, c .before .before .before .before .before .before .before .before .before .before .before .pre .1)
 
 returns : tie.Need-returns
-returns c = λ m. leads-settled _ _ _ _ _ _ (rw (c .before .lead-at .ensures) at (c .settle .ensures)) (c .before .before .norm3 .ensures) m (c .before .before .before .before .before .before .before .row-torque .ensures) (c .before .before .before .before .before .before .rate-dot .ensures) (c .before .before .before .before .before .rate-next .ensures) (c .before .before .before .before .defect-square .ensures) (c .before .before .before .turn-of .ensures)
+returns c = λ m. leads-settled _ _ _ _ _ (rw (c .before .lead-at .ensures) at (c .settle .ensures)) m (c .before .before .before .before .before .before .row-torque .ensures) (c .before .before .before .before .before .rate-dot .ensures) (c .before .before .before .before .rate-next .ensures) (c .before .before .before .defect-square .ensures) (c .before .before .turn-of .ensures)
 
 pub lead-spec : {M : Type 1} → statement M
 lead-spec =
@@ -39,7 +36,6 @@ lead-spec =
     rate-next-requires
     defect-square-requires
     turn-of-requires
-    norm3-requires
     lead-at-requires
     settle-requires
     returns)
