@@ -57,8 +57,9 @@ pub fn square_of(u: u64) -> u64
     high_product(u * 16, u * 16)
 }
 
-// The term after t as one product with the square over d. It leaves out the first truncation, which takes less than u * 16 / d from the product's lower word, and
-// the factor is too large by less than 2: where the lower word has room for both, the upper one is the term; else the term is worked out as it stands.
+// The term after t as one product: the upper word of t times k, the square over d. Document 01 truncates t * u first, which takes less than u * 16 / d from the
+// product's lower word, and k is too large by at most 2, which adds at most 2 * t. So a lower word of at least `least`, which has room for both, says that the upper
+// word is the term, and an upper word of 0 always is; else the term is worked out as it stands.
 pub fn quick_term(t: u64, u: u64, square: u64, d: u64, least: u64) -> u64
     requires { ⌜ (u < 2 ^ 60) × (2 ≤ d) × (t * d < 2 ^ 64) × (square ≡ squareOf u) × Roomy t u d least ⌝ }
     ensures { λ r. ⌜ (r ≡ nextOf u d t) × (r * d ≤ t) ⌝ }
