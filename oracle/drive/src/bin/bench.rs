@@ -175,15 +175,15 @@ fn problem(family: Family) -> (Plan, [f64; 193]) {
     (Plan { flat, body: b, limited: false, seed: None, lent: 0, fill: 0.0 }, z)
 }
 
-/// One call of ours over a decision: a refusal's number.
-type Call<'a> = &'a mut dyn FnMut(&[f64; 193]) -> usize;
+/// One call of ours over the numbers of a body: a refusal's number.
+type Call<'a> = &'a mut dyn FnMut(&[f64; 29]) -> usize;
 
 /// Two lines: ours as a user calls it (it takes the declared problem, checks and prepares it, runs, and writes its numbers), and without what the call costs
-/// with a NaN for a duration, which is refused in the first of 16 steps. The Rust has its problem prepared and its decision in place.
-fn beside(turns: u32, name: &str, steps: &str, z: &[f64; 193], ours: Call<'_>, rust: &mut dyn FnMut()) {
-    let mut no_time = *z;
-    no_time[0] = f64::NAN;
-    assert_eq!((ours(z), ours(&no_time)), (0, 11), "{name} runs to its end");
+/// with an inertia that check 6 refuses, the last one before a run. The Rust has its problem prepared and its decision in place.
+fn beside(turns: u32, name: &str, alone: &str, body: &[f64; 29], ours: Call<'_>, rust: &mut dyn FnMut()) {
+    let mut bent = *body;
+    bent[16] = -1.0;
+    assert_eq!((ours(body), ours(&bent)), (0, 6), "{name} runs to its end");
     let ours = std::cell::RefCell::new(ours);
     let rust = std::cell::RefCell::new(rust);
     let [with_ours, platform, whole, refused] = measured(
@@ -191,13 +191,12 @@ fn beside(turns: u32, name: &str, steps: &str, z: &[f64; 193], ours: Call<'_>, r
         [
             &mut || (rust.borrow_mut())(),
             &mut || unaltered(&mut || (rust.borrow_mut())()),
-            &mut || assert_eq!((ours.borrow_mut())(black_box(z)), 0),
-            &mut || assert_eq!((ours.borrow_mut())(black_box(&no_time)), 11),
+            &mut || assert_eq!((ours.borrow_mut())(black_box(body)), 0),
+            &mut || assert_eq!((ours.borrow_mut())(black_box(&bent)), 6),
         ],
     );
-    let alone = (whole.least - refused.least) * 16.0 / 15.0;
     line(&format!("{name}, whole call"), NANOSECONDS, whole.least, Some(with_ours), Some(platform));
-    line(&format!("{name}, {steps}"), NANOSECONDS, alone, Some(with_ours), Some(platform));
+    line(&format!("{name}, {alone}"), NANOSECONDS, whole.least - refused.least, Some(with_ours), Some(platform));
 }
 
 /// A checked task of the Rust's and its decision kept.
@@ -213,13 +212,13 @@ fn runs(turns: u32) {
         let (plan, z) = problem(family);
         let (task, kept) = prepared(&plan, &z);
         let (mut nodes, mut defect, mut place, mut begun) = ([[0.0; 22]; 17], 0.0, 0, 0);
-        let mut ours = |z: &[f64; 193]| {
+        let mut ours = |body: &[f64; 29]| {
             let flat = &plan.flat;
-            let number = slew_reconstruct(&flat.counts, &flat.numbers, &plan.body, false, z, &mut nodes, &mut defect, &mut place, &mut begun);
+            let number = slew_reconstruct(&flat.counts, &flat.numbers, body, false, black_box(&z), &mut nodes, &mut defect, &mut place, &mut begun);
             black_box(&nodes);
             number
         };
-        beside(turns, family.name, "its 16 steps", &z, &mut ours, &mut || assert!(black_box(scvx::run_end(&task, &kept)).is_finite()));
+        beside(turns, family.name, "the run alone", &plan.body, &mut ours, &mut || assert!(black_box(scvx::run_end(&task, &kept)).is_finite()));
     }
 }
 
@@ -229,13 +228,13 @@ fn residuals(turns: u32) {
         let (plan, z) = problem(family);
         let (task, kept) = prepared(&plan, &z);
         let (mut out, mut count, mut place, mut begun) = ([0.0; 79], 0, 0, 0);
-        let mut ours = |z: &[f64; 193]| {
+        let mut ours = |body: &[f64; 29]| {
             let flat = &plan.flat;
-            let number = slew_residuals(&flat.counts, &flat.numbers, &plan.body, false, z, &mut out, &mut count, &mut place, &mut begun);
+            let number = slew_residuals(&flat.counts, &flat.numbers, body, false, black_box(&z), &mut out, &mut count, &mut place, &mut begun);
             black_box(&out);
             number
         };
-        beside(turns, family.name, "without its checks", &z, &mut ours, &mut || assert!(black_box(scvx::length_kept(&task, &kept)).is_finite()));
+        beside(turns, family.name, "without its checks", &plan.body, &mut ours, &mut || assert!(black_box(scvx::length_kept(&task, &kept)).is_finite()));
     }
 }
 
