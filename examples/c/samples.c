@@ -27,8 +27,8 @@ static int refused(const char *what, size_t number, size_t place)
 int main(void)
 {
     size_t told[5], place, count;
-    double duration, profile[22], sample[14];
-    size_t number = slew_plan_numbers(counts, actuators, body, false, workspace, SLEW_WORKSPACE(3, 28), told, &duration, decision, nodes);
+    double duration, max_defect, profile[22], sample[14];
+    size_t number = slew_plan_numbers(counts, actuators, body, false, workspace, SLEW_WORKSPACE(3, 28), told, &duration, &max_defect, decision, nodes);
     if (number)
         return refused("plan", number, told[0]);
     number = slew_problem_profile(counts, actuators, body, false, profile, &place);

@@ -15,18 +15,18 @@ use Rattle.actuators.specs.declared.Cmgs.{Cmgs}
 use Rattle.actuators.specs.declared.Cmgs.the-variants.{Without, With}
 use Rattle.actuators.specs.declared.ActuatorMap.{ActuatorMap}
 use Rattle.actuators.specs.declared.Allocated.{Allocated}
-use Rattle.actuators.specs.Maps.{zero, isEmpty}
+use Rattle.actuators.specs.Maps.{plusZero, isEmpty}
 use Rattle.actuators.specs.Pyramid.{rows, gram, pyramidA}
 
 -- ---- rows
 
 -- a refusal: its number and place, beside a row of +0
 abbrev pub unserved : ℕ → ℕ → Allocated
-unserved n place = record { fate = Refused n place; u = replicate 20 zero }
+unserved n place = record { fate = Refused n place; u = replicate 20 plusZero }
 
 -- three controls; past them stands +0
 abbrev pub three : List Float → Allocated
-three v = record { fate = Going; u = at v 0 ∷ at v 1 ∷ at v 2 ∷ replicate 17 zero }
+three v = record { fate = Going; u = at v 0 ∷ at v 1 ∷ at v 2 ∷ replicate 17 plusZero }
 
 -- column k of a 3 by 4 matrix times y
 abbrev pub column : List (List Float) → ℕ → List Float → Float
@@ -37,7 +37,7 @@ column a k y =
 
 -- four gimbal rates, Aᵀ y; past them stands +0
 abbrev pub four : List (List Float) → List Float → Allocated
-four a y = record { fate = Going; u = column a 0 y ∷ column a 1 y ∷ column a 2 y ∷ column a 3 y ∷ replicate 16 zero }
+four a y = record { fate = Going; u = column a 0 y ∷ column a 1 y ∷ column a 2 y ∷ column a 3 y ∷ replicate 16 plusZero }
 
 -- ---- wheels or thrusters alone
 
@@ -79,7 +79,7 @@ pyramidAloneBy Going a p tau = leastRates (rows a) (scale3 tau (div binary64 min
 
 -- a pyramid alone, its gimbals at +0; 11 where the skew is outside the range of sine and cosine, which no prepared map's is
 unfoldable pub pyramidAlone : CmgPyramid → List Float → Allocated
-pyramidAlone p tau = pyramidAloneBy (pyramidA (p .«skew_rad») (replicate 4 zero) .fate) (pyramidA (p .«skew_rad») (replicate 4 zero) .a) p tau
+pyramidAlone p tau = pyramidAloneBy (pyramidA (p .«skew_rad») (replicate 4 plusZero) .fate) (pyramidA (p .«skew_rad») (replicate 4 plusZero) .a) p tau
 
 -- ---- the whole
 

@@ -18,18 +18,18 @@ use Rattle.actuators.specs.declared.Power.{Power}
 use Rattle.actuators.specs.declared.ActuatorMap.{ActuatorMap}
 
 -- 0.0
-abbrev pub zero : Float
-zero = ofBits binary64 0
+abbrev pub plusZero : Float
+plusZero = ofBits binary64 0
 
 -- ---- blank values
 
 -- a wheel past the count
 abbrev pub blankWheel : Wheel
-blankWheel = record { axis = replicate 3 zero; «max_torque_nm» = zero; «max_momentum_nms» = zero; «max_power_w» = Nothing }
+blankWheel = record { axis = replicate 3 plusZero; «max_torque_nm» = plusZero; «max_momentum_nms» = plusZero; «max_power_w» = Nothing }
 
 -- a thruster past the count
 abbrev pub blankThruster : Thruster
-blankThruster = record { «torque_axis» = replicate 3 zero; «max_torque_nm» = zero }
+blankThruster = record { «torque_axis» = replicate 3 plusZero; «max_torque_nm» = plusZero }
 
 -- wheel k of a list; what stands past its end, no answer depends on
 abbrev pub wheelAt : List Wheel → ℕ → Wheel
@@ -59,12 +59,12 @@ unfilled nw nt c = record {
   «wheel_count» = nw;
   «thruster_count» = nt;
   cmgs = c;
-  «wheel_axes» = replicate 24 zero;
-  «wheel_torques» = replicate 8 zero;
-  «wheel_momenta» = replicate 8 zero;
+  «wheel_axes» = replicate 24 plusZero;
+  «wheel_torques» = replicate 8 plusZero;
+  «wheel_momenta» = replicate 8 plusZero;
   «wheel_powers» = replicate 8 noPower;
-  «thruster_axes» = replicate 36 zero;
-  «thruster_torques» = replicate 12 zero;
+  «thruster_axes» = replicate 36 plusZero;
+  «thruster_torques» = replicate 12 plusZero;
 }
 
 -- the map of no actuators, which stands beside every refusal too

@@ -22,13 +22,13 @@ use Rattle.actuators.specs.declared.Cmgs.the-variants.{Without, With}
 use Rattle.actuators.specs.declared.Actuators.{Actuators}
 use Rattle.actuators.specs.declared.ActuatorMap.{ActuatorMap}
 use Rattle.actuators.specs.declared.Prepared.{Prepared}
-use Rattle.actuators.specs.Maps.{zero, wheelAt, thrusterAt, blankMap, unfilled}
+use Rattle.actuators.specs.Maps.{plusZero, wheelAt, thrusterAt, blankMap, unfilled}
 
 -- ---- numbers outside their range
 
 -- not finite, or not above 0
 unfoldable pub outside : Float → Bool
-outside x = not (finite x) || le x zero
+outside x = not (finite x) || le x plusZero
 
 -- a declared power that is
 abbrev pub powerOutside : Limit → Bool

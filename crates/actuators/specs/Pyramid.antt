@@ -18,13 +18,13 @@ use Rattle.actuators.specs.declared.ActuatorMap.{ActuatorMap}
 use Rattle.actuators.specs.declared.Jacobian.{Jacobian}
 use Rattle.actuators.specs.declared.Measure.{Measure}
 use Rattle.actuators.specs.declared.Measure.the-variants as Measure
-use Rattle.actuators.specs.Maps.{zero}
+use Rattle.actuators.specs.Maps.{plusZero}
 
 -- ---- the Jacobian
 
 -- an angle is outside the range of sine and cosine: 11, with twelve +0
 abbrev pub beyond : Jacobian
-beyond = record { fate = Refused 11 0; a = replicate 12 zero }
+beyond = record { fate = Refused 11 0; a = replicate 12 plusZero }
 
 -- the twelve numbers, by rows, from the skew's sine and cosine and those of the gimbal angles
 abbrev pub entries : Float → Float → Float → Float → Float → Float → Float → Float → Float → Float → List Float

@@ -17,7 +17,7 @@ use Rattle.angles.specs.declared.Angle.the-variants as Angle
 use Rattle.angles.specs.declared.Zone.{Zone}
 use Rattle.angles.specs.declared.Zone.the-variants as Zone
 use Rattle.angles.specs.Angles.{signed, divisor, alternate, ring, toFloat, scaled, quarters, rest, mod4, inRange, tiny, regionOf, sinBy, cosBy, sinOf, cosOf}
-use Rattle.angles.specs.Exact.{exactly, exactRing, exactSin, exactCos, minus, valueOf, Within50, Near}
+use Rattle.angles.specs.Exact.{exactly, exactRing, exactSin, exactCos, isMinus, valueOf, Within50, Near}
 use Rattle.angles.specs.Near.{Parts, parts, Within, near}
 use Rattle.angles.specs.Reduction.{sub-under, unlike-false, mod4-small, Small, rest-small}
 use Rattle.angles.specs.Rounded.{Rounds, rounds, neg-round}
@@ -170,7 +170,7 @@ module _ (b : Bool) (u : ℕ) (h : u < 2 ^ 60) where
 
 record Valued (s : Bool) (g : ℕ) (x : Float) : Type 0 where
   number : T (finite x)
-  signs : signed (minus x) (num x) ≡ signed s (num x)
+  signs : signed (isMinus x) (num x) ≡ signed s (num x)
   sizes : num x * 2 ^ 1074 ≡ g * den x
 
 as-is : (x : Float) (g : ℕ) → HasValue x false g (2 ^ 1074) → Valued false g x
@@ -234,7 +234,7 @@ module _ (s : Bool) (m e g l o p : ℕ) (h : m * 2 ^ 1074 ≡ g * e) where
 
 -- ---- the theorem
 
-carried : (x : Float) (t f g : ℤ) (p p' : ℕ) → signed (minus x) (num x) ≡ t → f ≡ g → p ≡ p' → natAbs (t *ℤ pos p' -ℤ g *ℤ pos (den x)) * 2 ^ 50 ≤ den x * p' → Within50 (valueOf x) (record { top = f; bottom = p })
+carried : (x : Float) (t f g : ℤ) (p p' : ℕ) → signed (isMinus x) (num x) ≡ t → f ≡ g → p ≡ p' → natAbs (t *ℤ pos p' -ℤ g *ℤ pos (den x)) * 2 ^ 50 ≤ den x * p' → Within50 (valueOf x) (record { top = f; bottom = p })
 carried x t f g p p' a b c y =
     subst (λ (z : ℤ). natAbs (z *ℤ pos p -ℤ f *ℤ pos (den x)) * 2 ^ 50 ≤ den x * p) (sym a)
     (subst (λ (z : ℤ). natAbs (t *ℤ pos p -ℤ z *ℤ pos (den x)) * 2 ^ 50 ≤ den x * p) (sym b)

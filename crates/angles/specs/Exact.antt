@@ -57,14 +57,14 @@ abbrev pub exactCos : ℤ → Fraction
 exactCos x = exactRing (mod4 (quarters x +ℤ pos 1)) (rest x)
 
 -- whether a finite float's sign is minus
-abbrev pub minus : Float → Bool
-minus nan = false
-minus (inf s) = false
-minus (fin s m e) = s
+abbrev pub isMinus : Float → Bool
+isMinus nan = false
+isMinus (inf s) = false
+isMinus (fin s m e) = s
 
 -- a finite float's value; `num` / `den` is its size as a fraction
 abbrev pub valueOf : Float → Fraction
-valueOf x = record { top = signed (minus x) (num x); bottom = den x }
+valueOf x = record { top = signed (isMinus x) (num x); bottom = den x }
 
 -- f and g differ by at most 2 ^ -50
 abbrev pub Within50 : Fraction → Fraction → Type 0

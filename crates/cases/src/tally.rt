@@ -1,11 +1,15 @@
-// Counts of cases and of those that differ, in eight groups, the last for cases of no known group; and where the next case starts.
+// Counts of cases and of those that differ, in eight groups, the last for cases of no known group; of answers that are stored wrong on purpose, and of those
+// of them that are noticed; and where the next case starts.
 ghost use Prim.Native.Nat.{_<_};
 use libc::STDOUT_FILENO;
 use std::num::wrapping_add_u64;
+use std::num::wrapping_sub_u64;
 
 pub struct Tally {
     pub cases: [u64; 8],
     pub wrong: [u64; 8],
+    pub planted: u64,
+    pub noticed: u64,
     pub at: usize,
 }
 
@@ -15,6 +19,8 @@ pub fn none() -> Tally {
     Tally {
         cases: cases,
         wrong: wrong,
+        planted: 0,
+        noticed: 0,
         at: 0,
     }
 }
@@ -49,6 +55,22 @@ impl Tally {
         Tally {
             cases: cases,
             wrong: wrong,
+            planted: self.planted,
+            noticed: self.noticed,
+            at: at,
+        }
+    }
+
+    // One more answer that is wrong on purpose; the next case starts at `at`.
+    pub fn with_planted(self, noticed: bool, at: usize) -> Tally {
+        let cases = self.cases;
+        let wrong = self.wrong;
+        let more = if noticed { 1 } else { 0 };
+        Tally {
+            cases: cases,
+            wrong: wrong,
+            planted: wrapping_add_u64(self.planted, 1),
+            noticed: wrapping_add_u64(self.noticed, more),
             at: at,
         }
     }
@@ -65,6 +87,8 @@ impl Tally {
         Tally {
             cases: cases,
             wrong: wrong,
+            planted: self.planted,
+            noticed: self.noticed,
             at: at,
         }
     }
@@ -82,17 +106,23 @@ pub fn print_group(name: &[u8], cases: u64, wrong: u64) {
     io::write_all(STDOUT_FILENO, b" differ\n");
 }
 
+// How many answers are equal, and how many differ.
+fn print_sums(cases: u64, wrong: u64) {
+    io::print_decimal(STDOUT_FILENO, wrapping_sub_u64(cases, wrong));
+    io::write_all(STDOUT_FILENO, b" cases equal, ");
+    io::print_decimal(STDOUT_FILENO, wrong);
+    io::write_all(STDOUT_FILENO, b" differ; ");
+}
+
 // The line of the last group, and that of all.
 pub fn print_total(t: Tally) {
     let c = t.cases;
     let w = t.wrong;
     print_group(b"unknown: ", c[7], w[7]);
-    if total(w) == 0 {
-        io::write_all(STDOUT_FILENO, b"all ");
-        io::print_decimal(STDOUT_FILENO, total(c));
-        io::write_all(STDOUT_FILENO, b" cases equal\n");
-        return;
-    }
-    io::print_decimal(STDOUT_FILENO, total(w));
-    io::write_all(STDOUT_FILENO, b" cases differ\n");
+    print_sums(total(c), total(w));
+    io::write_all(STDOUT_FILENO, b"of ");
+    io::print_decimal(STDOUT_FILENO, t.planted);
+    io::write_all(STDOUT_FILENO, b" wrong answers on purpose ");
+    io::print_decimal(STDOUT_FILENO, t.noticed);
+    io::write_all(STDOUT_FILENO, b" noticed\n");
 }

@@ -4,7 +4,7 @@ use mathlib.Core.Path.{_≡_, refl}
 use mathlib.Core.Bool.{Bool, true, false, _&&_}
 use borrow.Author.Tests.{leb-true}
 use Rattle.controls.specs.Parts.{Sized, Room, bare, width}
-use Rattle.controls.specs.Operations.{fits}
+use Rattle.controls.specs.Operations.{rowFits}
 use Rattle.controls.specs.declared.Rig.{Rig}
 
 -- with no actuators: three numbers
@@ -24,8 +24,8 @@ three true false c e = let z : true ≡ false = cc in (cc, (cc, cc))
 three false b c e = let z : true ≡ false = cc in (cc, (cc, cc))
 
 -- a row that fits is sized
-pub fits-sized : {r : Rig} {g n : ℕ} → fits r g n ≡ true → Sized r g n
-unfolding fits
-fits-sized e =
+pub row-fits-sized : {r : Rig} {g n : ℕ} → rowFits r g n ≡ true → Sized r g n
+unfolding rowFits
+row-fits-sized e =
     let t = three _ _ _ e in
     record { wheels = leb-true _ _ (t .0); thrusters = leb-true _ _ (t .1 .0); row = leb-true _ _ (t .1 .1) }

@@ -5,6 +5,6 @@ use Rattle.common.specs.Answer.{Answer}
 use Rattle.geom.specs.Answers.{ofFate}
 use Rattle.controls.specs.declared.Torque.{Torque}
 
--- a row's torque, or 11
+-- a row's torque, or 8 or 11
 abbrev pub ofTorque : Torque → Answer (List Float)
 ofTorque t = ofFate (t .tau) (t .fate)

@@ -10,7 +10,7 @@ use Rattle.common.specs.Lists.{at}
 use Rattle.common.specs.declared.Limit.{Limit}
 use Rattle.common.specs.declared.Limit.the-variants.{Nothing, At}
 use Rattle.float.specs.Ops.{abs, max, clamp}
-use Rattle.geom.specs.Vec.{dot3, zero}
+use Rattle.geom.specs.Vec.{dot3, plusZero}
 use Rattle.actuators.specs.Maps.{axisAt, gimbals, noPower}
 use Rattle.actuators.specs.declared.Power.{Power}
 use Rattle.actuators.specs.declared.Cmgs.{Cmgs}
@@ -31,7 +31,7 @@ held limit k x = hold (limit k) x
 
 -- the limit of a gimbal's rate; without a pyramid nothing is held to it
 abbrev pub gimbalRate : Cmgs → Float
-gimbalRate Without = zero
+gimbalRate Without = plusZero
 gimbalRate (With p) = p .«max_gimbal_rate_rad_s»
 
 -- control k's limit in a row of parts: its wheel's torque, its thruster's torque or the pyramid's rate
@@ -66,7 +66,7 @@ overTurn limit x k e = over (limit k) (x k) e
 
 -- by how much the first n numbers pass their limits at most; +0 where none does
 abbrev pub excess : (ℕ → Limit) → (ℕ → Float) → ℕ → Float
-excess limit x n = iter (overTurn limit x) zero n
+excess limit x n = iter (overTurn limit x) plusZero n
 
 -- number k of a table as a limit
 abbrev pub limitAt : List Float → ℕ → Limit

@@ -7,7 +7,7 @@ use lib.Dec.{leb}
 use lib.ListN.{length, replicate}
 use lib.Ieee.{Float}
 use Rattle.common.specs.Lists.{at}
-use Rattle.geom.specs.Vec.{zero, zero3}
+use Rattle.geom.specs.Vec.{plusZero, zero3}
 use Rattle.common.specs.declared.Fate.{Fate}
 use Rattle.common.specs.declared.Fate.the-variants.{Going, Refused}
 use Rattle.actuators.specs.Maps.{gimbals}
@@ -33,7 +33,7 @@ rateOf u k x = at u k
 
 -- each wheel's rate of momentum is its control; +0 where the row has none, and past the wheels
 unfoldable pub wheelMomentumRates : ActuatorMap → List Float → List Float
-wheelMomentumRates m u = stored (rateOf u) (replicate 8 zero) (paired (m .«wheel_count») (length u))
+wheelMomentumRates m u = stored (rateOf u) (replicate 8 plusZero) (paired (m .«wheel_count») (length u))
 
 -- the sum of the wheels' axes, each scaled by its momentum, from +0
 unfoldable pub bodyMomentum : ActuatorMap → List Float → List Float
@@ -53,18 +53,18 @@ abbrev pub rigOf : ActuatorMap → Rig
 rigOf m = record { «wheel_count» = m .«wheel_count»; «thruster_count» = m .«thruster_count»; cmgs = m .cmgs }
 
 -- the counts are within the tables, and n numbers are as wide as a row with g gimbal rates
-unfoldable pub fits : Rig → ℕ → ℕ → Bool
-fits r g n = leb (r .«wheel_count») 8 && leb (r .«thruster_count») 12 && leb (Parts.width r g) n
+unfoldable pub rowFits : Rig → ℕ → ℕ → Bool
+rowFits r g n = leb (r .«wheel_count») 8 && leb (r .«thruster_count») 12 && leb (Parts.width r g) n
 
 -- The row u with each control held to its limit. A row without its wheel or thruster part, or without three torques where there are no actuators, stays as it
 -- is (free).
 unfoldable pub projectControls : ActuatorMap → List Float → List Float → List Float
 projectControls m box u =
-    cond (fits (rigOf m) 0 (length u)) (Limits.projected (rigOf m) (m .«wheel_torques») (m .«thruster_torques») box u) u
+    cond (rowFits (rigOf m) 0 (length u)) (Limits.projected (rigOf m) (m .«wheel_torques») (m .«thruster_torques») box u) u
 
 -- the pyramid's matrix at the gimbal angles d, or 11; without a pyramid twelve +0 that nothing reads
 abbrev pub matrix : Cmgs → List Float → Jacobian
-matrix Without d = record { fate = Going; a = replicate 12 zero }
+matrix Without d = record { fate = Going; a = replicate 12 plusZero }
 matrix (With p) d = pyramidA (p .«skew_rad») d
 
 -- a torque, or the refusal of the matrix with three +0
@@ -72,10 +72,15 @@ abbrev pub torqueBy : Fate → List Float → Torque
 torqueBy Going tau = record { fate = Going; tau = tau }
 torqueBy (Refused number place) tau = record { fate = Refused number place; tau = zero3 }
 
--- The torque of the row u at rate w, stored momentum h and gimbal angles d; 11 where an angle is outside. Of a row that is too short the Rust says "wrong
--- width" where there are no actuators, which has no number in document 01, and panics else: free, three +0.
+-- How a row that is too short ends. With no actuators the Rust says "wrong width", for which document 01 has no number of its own: 8. With actuators the
+-- Rust panics, and a count beyond the tables has no meaning: free, it goes on.
+abbrev pub shortRow : Rig → Fate
+shortRow r = cond (Parts.bare r) (Refused 8 0) Going
+
+-- The torque of the row u at rate w, stored momentum h and gimbal angles d; 11 where an angle is outside. A row that is too short gives three +0, beside
+-- 8 with no actuators.
 unfoldable pub bodyTorque : ActuatorMap → List Float → List Float → List Float → List Float → Torque
 bodyTorque m u w h d =
-    cond (fits (rigOf m) (gimbals (m .cmgs)) (length u))
+    cond (rowFits (rigOf m) (gimbals (m .cmgs)) (length u))
     (torqueBy (matrix (m .cmgs) d .fate) (Parts.rowTorque (rigOf m) (m .«wheel_axes») (m .«thruster_axes») u w h (matrix (m .cmgs) d .a)))
-    (torqueBy Going zero3)
+    (torqueBy (shortRow (rigOf m)) zero3)

@@ -89,9 +89,9 @@ pub fn rig_of(map: ActuatorMap) -> Rig
 }
 
 // The counts are within the tables, and n numbers are as wide as a row with so many gimbal rates.
-fn fits(r: Rig, gimbals: usize, n: usize) -> bool
+fn row_fits(r: Rig, gimbals: usize, n: usize) -> bool
     requires { ⌜ gimbals ≤ 4 ⌝ }
-    ensures { λ b. ⌜ b ≡ Operations.fits r gimbals n ⌝ }
+    ensures { λ b. ⌜ b ≡ Operations.rowFits r gimbals n ⌝ }
 {
     if r.wheel_count > 8 {
         return false;
@@ -110,7 +110,7 @@ pub fn project_controls(map: ActuatorMap, u: &mut [f64], torque_limit: [f64; 3])
     ensures { λ z. ⌜ now (u .exit) ≡ Operations.projectControls map «torque_limit» (now (u .entry)) ⌝ }
 {
     let rig = rig_of(map);
-    if !fits(rig, 0, u.len()) {
+    if !row_fits(rig, 0, u.len()) {
         return;
     }
     let wheels = map.wheel_torques;
@@ -153,7 +153,18 @@ fn torque_by(fate: Fate, tau: [f64; 3]) -> Torque
     }
 }
 
-// The torque of a row: its wheel part, then the thruster part, then the gimbal part. A row that does not fit the map gives zeros.
+// How a row that does not fit the map ends: refused with no actuators, as in the Rust.
+fn short_row(r: Rig) -> Fate
+    ensures { λ f. ⌜ f ≡ Operations.shortRow r ⌝ }
+{
+    if inner::is_bare(r) {
+        return Fate::Refused(8, 0);
+    }
+    Fate::Going
+}
+
+// The torque of a row: its wheel part, then the thruster part, then the gimbal part. A row that does not fit the map gives zeros, beside refusal 8 where
+// there are no actuators.
 pub fn body_torque(
     map: ActuatorMap,
     u: &[f64],
@@ -165,8 +176,8 @@ pub fn body_torque(
 {
     let rig = rig_of(map);
     let cmgs = map.cmgs;
-    if !fits(rig, actuators::gimbals(cmgs), u.len()) {
-        return torque_by(Fate::Going, [0.0; 3]);
+    if !row_fits(rig, actuators::gimbals(cmgs), u.len()) {
+        return torque_by(short_row(rig), [0.0; 3]);
     }
     let made = matrix(cmgs, delta);
     let a = made.a;

@@ -3,16 +3,14 @@ use Prim.Native.Nat.{ℕ}
 use mathlib.Core.Bool.{Bool}
 use mathlib.Core.List.{List, [], _∷_}
 use lib.Ieee.{Float}
-use Rattle.common.specs.Answer.{Answer, Refused}
-use Rattle.common.specs.declared.Fate.{Fate}
-use Rattle.common.specs.declared.Fate.the-variants as Fate
+use Rattle.common.specs.Answer.{Answer, Given, Refused}
+use Rattle.problem.specs.Answers as Checks
 use Rattle.problem.specs.Problems.{check}
 use Rattle.problem.specs.declared.CheckedProblem.{CheckedProblem}
-use Rattle.planner.specs.Plans.{plan, planFrom, profiled}
+use Rattle.planner.specs.Plans.{plan, planFrom, profiled, answer}
 use Rattle.planner.specs.declared.Planned.{Planned}
 use Rattle.export_problem.specs.Declared.{problem}
-use Rattle.export_leaves.specs.Outcomes.{ofProfiled}
-use Rattle.export_runs.specs.Paths.{place}
+use Rattle.export_leaves.specs.Outcomes.{place, runsOr, ofProfiled}
 
 -- with our own seed, on a workspace of `size` numbers
 abbrev pub own : List ℕ → List Float → List Float → Bool → ℕ → Planned
@@ -24,13 +22,13 @@ seeded c v b limited duration rates torques size = planFrom (problem c v b limit
 
 -- a refusal's place, the forward runs begun; of a path the controls in a row, the wheels, the iterations
 abbrev pub counts : Planned → List ℕ
-counts r = place (r .fate) ∷ r .runs ∷ r .path .controls ∷ r .path .wheels ∷ r .path .iterations ∷ []
+counts r = place (answer r) ∷ runsOr (answer r) (r .runs) ∷ r .path .controls ∷ r .path .wheels ∷ r .path .iterations ∷ []
 
 -- a refusal of checks 1 to 6, or the profile's
-abbrev profileBy : Fate → CheckedProblem → Answer (List Float)
-profileBy (Fate.Refused n k) p = Refused n k 0
-profileBy Fate.Going p = ofProfiled (profiled p)
+abbrev profileBy : Answer CheckedProblem → Answer (List Float)
+profileBy (Refused n k runs) = Refused n k runs
+profileBy (Given p) = ofProfiled (profiled p)
 
 -- the profile of a problem as declared, as its 22 numbers
 abbrev pub profile : List ℕ → List Float → List Float → Bool → Answer (List Float)
-profile c v b limited = profileBy (check (problem c v b limited) .fate) (check (problem c v b limited) .problem)
+profile c v b limited = profileBy (Checks.answer (check (problem c v b limited)))

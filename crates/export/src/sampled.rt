@@ -7,7 +7,6 @@ ghost use Rattle.samples.specs.Answers as Answers;
 ghost use Rattle.samples.specs.Counts as Counts;
 ghost use Rattle.samples.specs.Samples as Samples;
 ghost use Rattle.export_leaves.specs.Outcomes as Outcomes;
-ghost use Rattle.export_runs.specs.Paths as Paths;
 use export_runs::paths::number_of;
 use export_runs::paths::place_of;
 use sample_text::numbers_of;
@@ -54,9 +53,9 @@ pub extern "C" fn slew_sample_path(
     out: &mut [f64; 14],
     place: &mut usize,
 ) -> usize
-    ensures { λ r. ⌜ r ≡ Paths.number (Samples.sample (Vec.tensor (now (j .entry))) tolerance duration (now (nodes .entry)) requested alpha index .fate) ⌝ }
+    ensures { λ r. ⌜ r ≡ Outcomes.number (Answers.ofSampled (Samples.sample (Vec.tensor (now (j .entry))) tolerance duration (now (nodes .entry)) requested alpha index)) ⌝ }
     ensures { λ _. ⌜ now (out .exit) ≡ SampleTexts.numbers (Samples.sample (Vec.tensor (now (j .entry))) tolerance duration (now (nodes .entry)) requested alpha index .sample) ⌝ }
-    ensures { λ _. ⌜ now (place .exit) ≡ Paths.place (Samples.sample (Vec.tensor (now (j .entry))) tolerance duration (now (nodes .entry)) requested alpha index .fate) ⌝ }
+    ensures { λ _. ⌜ now (place .exit) ≡ Outcomes.place (Answers.ofSampled (Samples.sample (Vec.tensor (now (j .entry))) tolerance duration (now (nodes .entry)) requested alpha index)) ⌝ }
 {
     let inertia = geom::tensor(*j);
     let made = samples::sample(inertia, tolerance, duration, nodes, requested, alpha, index);

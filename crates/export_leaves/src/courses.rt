@@ -22,7 +22,7 @@ use profile::Switches;
 // A refusal's number, or 0, and then the three switching numbers are put into `out`.
 fn put_switches(s: Switches, out: &mut [f64; 3]) -> usize
     ensures { λ r. ⌜ r ≡ Outcomes.number (Answers.ofSwitches s) ⌝ }
-    ensures { λ _. ⌜ now (out .exit) ≡ Outcomes.switchesOr s (now (out .entry)) ⌝ }
+    ensures { λ _. ⌜ now (out .exit) ≡ Outcomes.listOr (Answers.ofSwitches s) (now (out .entry)) ⌝ }
 {
     match s {
         Switches::Are(acc, coast, peak) => {
@@ -91,7 +91,7 @@ pub extern "C" fn slew_switch_times(
     out: &mut [f64; 3],
 ) -> usize
     ensures { λ r. ⌜ r ≡ Outcomes.number (Answers.ofSwitches (Profiles.switchTimes theta alpha (Packed.limit limited slew))) ⌝ }
-    ensures { λ _. ⌜ now (out .exit) ≡ Outcomes.switchesOr (Profiles.switchTimes theta alpha (Packed.limit limited slew)) (now (out .entry)) ⌝ }
+    ensures { λ _. ⌜ now (out .exit) ≡ Outcomes.listOr (Answers.ofSwitches (Profiles.switchTimes theta alpha (Packed.limit limited slew))) (now (out .entry)) ⌝ }
 {
     put_switches(
         profile::switch_times(theta, alpha, limit_of(limited, slew)),

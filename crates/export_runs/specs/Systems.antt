@@ -5,8 +5,8 @@ use mathlib.Core.List.{List}
 use lib.Dec.{ltb, eqb}
 use lib.ListN.{length, take}
 use lib.Ieee.{Float}
-use Rattle.dense.specs.Rows.{rows}
-use Rattle.dense.specs.Elimination.{Solution, Singular, solveDense, dampedStep}
+use Rattle.normal_equations.specs.Rows.{rows}
+use Rattle.elimination.specs.Elimination.{Solution, Singular, solveDense, dampedStep}
 
 -- the system of a matrix by rows and a right side of at most 193 numbers, solved
 abbrev pub solved : List Float → List Float → Solution

@@ -4,7 +4,9 @@
 // momenta.
 ghost use mathlib.Core.Path.{_≡_};
 ghost use Rattle.forward.specs.Operations as Operations;
+ghost use Rattle.residuals.specs.Operations as Residuals;
 ghost use Rattle.samples.specs.Rows as Rows;
+ghost use Rattle.export_leaves.specs.Outcomes as Outcomes;
 ghost use Rattle.export_problem.specs.Declared as Declared;
 ghost use Rattle.export_runs.specs.Paths as Paths;
 use common::Fate;
@@ -43,11 +45,11 @@ pub extern "C" fn slew_reconstruct(
     place: &mut usize,
     runs: &mut usize,
 ) -> usize
-    ensures { λ r. ⌜ r ≡ Paths.number ((Operations.reconstruct (Declared.problem (now (c .entry)) (now (v .entry)) (now (b .entry)) limited) (now (z .entry))) .run .fate) ⌝ }
+    ensures { λ r. ⌜ r ≡ Outcomes.number (Operations.answer (Operations.reconstruct (Declared.problem (now (c .entry)) (now (v .entry)) (now (b .entry)) limited) (now (z .entry)))) ⌝ }
     ensures { λ _. ⌜ now (nodes .exit) ≡ Rows.rows ((Operations.reconstruct (Declared.problem (now (c .entry)) (now (v .entry)) (now (b .entry)) limited) (now (z .entry))) .run .nodes) ⌝ }
     ensures { λ _. ⌜ now (defect .exit) ≡ (Operations.reconstruct (Declared.problem (now (c .entry)) (now (v .entry)) (now (b .entry)) limited) (now (z .entry))) .run .defect ⌝ }
-    ensures { λ _. ⌜ now (place .exit) ≡ Paths.place ((Operations.reconstruct (Declared.problem (now (c .entry)) (now (v .entry)) (now (b .entry)) limited) (now (z .entry))) .run .fate) ⌝ }
-    ensures { λ _. ⌜ now (runs .exit) ≡ (Operations.reconstruct (Declared.problem (now (c .entry)) (now (v .entry)) (now (b .entry)) limited) (now (z .entry))) .runs ⌝ }
+    ensures { λ _. ⌜ now (place .exit) ≡ Outcomes.place (Operations.answer (Operations.reconstruct (Declared.problem (now (c .entry)) (now (v .entry)) (now (b .entry)) limited) (now (z .entry)))) ⌝ }
+    ensures { λ _. ⌜ now (runs .exit) ≡ Outcomes.runsOr (Operations.answer (Operations.reconstruct (Declared.problem (now (c .entry)) (now (v .entry)) (now (b .entry)) limited) (now (z .entry)))) ((Operations.reconstruct (Declared.problem (now (c .entry)) (now (v .entry)) (now (b .entry)) limited) (now (z .entry))) .runs) ⌝ }
 {
     let p = problem_of(c, v, b, limited);
     let made = forward::reconstruct(p, *z);
@@ -74,11 +76,11 @@ pub extern "C" fn slew_residuals(
     place: &mut usize,
     runs: &mut usize,
 ) -> usize
-    ensures { λ r. ⌜ r ≡ Paths.number (Paths.measured (now (c .entry)) (now (v .entry)) (now (b .entry)) limited (now (z .entry)) .residuals .fate) ⌝ }
+    ensures { λ r. ⌜ r ≡ Outcomes.number (Residuals.answer (Paths.measured (now (c .entry)) (now (v .entry)) (now (b .entry)) limited (now (z .entry)))) ⌝ }
     ensures { λ _. ⌜ now (out .exit) ≡ Paths.measured (now (c .entry)) (now (v .entry)) (now (b .entry)) limited (now (z .entry)) .residuals .r ⌝ }
     ensures { λ _. ⌜ now (count .exit) ≡ Paths.measured (now (c .entry)) (now (v .entry)) (now (b .entry)) limited (now (z .entry)) .residuals .count ⌝ }
-    ensures { λ _. ⌜ now (place .exit) ≡ Paths.place (Paths.measured (now (c .entry)) (now (v .entry)) (now (b .entry)) limited (now (z .entry)) .residuals .fate) ⌝ }
-    ensures { λ _. ⌜ now (runs .exit) ≡ Paths.measured (now (c .entry)) (now (v .entry)) (now (b .entry)) limited (now (z .entry)) .runs ⌝ }
+    ensures { λ _. ⌜ now (place .exit) ≡ Outcomes.place (Residuals.answer (Paths.measured (now (c .entry)) (now (v .entry)) (now (b .entry)) limited (now (z .entry)))) ⌝ }
+    ensures { λ _. ⌜ now (runs .exit) ≡ Outcomes.runsOr (Residuals.answer (Paths.measured (now (c .entry)) (now (v .entry)) (now (b .entry)) limited (now (z .entry)))) (Paths.measured (now (c .entry)) (now (v .entry)) (now (b .entry)) limited (now (z .entry)) .runs) ⌝ }
 {
     let p = problem_of(c, v, b, limited);
     let measured = residuals::residuals(p, *z);

@@ -6,10 +6,10 @@ ghost use Rattle.actuators.specs.Prepare as Prepare;
 ghost use Rattle.actuators.specs.Allocate as Allocate;
 ghost use Rattle.actuators.specs.Pyramid as Pyramid;
 ghost use Rattle.actuators.specs.Answers as Answers;
+ghost use Rattle.controls.specs.Answers.{ofTorque};
 ghost use Rattle.controls.specs.Operations as Operations;
 ghost use Rattle.export_problem.specs.Declared as Declared;
 ghost use Rattle.export_leaves.specs.Outcomes as Outcomes;
-ghost use Rattle.export_runs.specs.Paths as Paths;
 use super::paths::number_of;
 use super::paths::place_of;
 use actuators::Measure;
@@ -25,10 +25,10 @@ pub extern "C" fn slew_prepare(
     thruster_axes: &mut [f64; 36],
     place: &mut usize,
 ) -> usize
-    ensures { λ r. ⌜ r ≡ Paths.number (Prepare.prepare (Declared.actuators (now (c .entry)) (now (v .entry))) .fate) ⌝ }
+    ensures { λ r. ⌜ r ≡ Outcomes.number (Answers.ofPrepared (Prepare.prepare (Declared.actuators (now (c .entry)) (now (v .entry))))) ⌝ }
     ensures { λ _. ⌜ now («wheel_axes» .exit) ≡ Declared.map (now (c .entry)) (now (v .entry)) .«wheel_axes» ⌝ }
     ensures { λ _. ⌜ now («thruster_axes» .exit) ≡ Declared.map (now (c .entry)) (now (v .entry)) .«thruster_axes» ⌝ }
-    ensures { λ _. ⌜ now (place .exit) ≡ Paths.place (Prepare.prepare (Declared.actuators (now (c .entry)) (now (v .entry))) .fate) ⌝ }
+    ensures { λ _. ⌜ now (place .exit) ≡ Outcomes.place (Answers.ofPrepared (Prepare.prepare (Declared.actuators (now (c .entry)) (now (v .entry))))) ⌝ }
 {
     let prepared = actuators::prepare(actuators_of(c, v));
     let fate = prepared.fate;
@@ -53,7 +53,7 @@ pub extern "C" fn slew_control_dim(c: &[usize; 11], v: &[f64; 100]) -> usize
 // A pyramid's Jacobian by rows; zeros where an angle is outside.
 #[no_mangle]
 pub extern "C" fn slew_pyramid_a(skew: f64, delta: &[f64; 4], out: &mut [f64; 12]) -> usize
-    ensures { λ r. ⌜ r ≡ Paths.number (Pyramid.pyramidA skew (now (delta .entry)) .fate) ⌝ }
+    ensures { λ r. ⌜ r ≡ Outcomes.number (Answers.ofJacobian (Pyramid.pyramidA skew (now (delta .entry)))) ⌝ }
     ensures { λ _. ⌜ now (out .exit) ≡ Pyramid.pyramidA skew (now (delta .entry)) .a ⌝ }
 {
     let made = actuators::pyramid::pyramid_a(skew, *delta);
@@ -74,7 +74,7 @@ pub extern "C" fn slew_body_torque(
     delta: &[f64; 4],
     out: &mut [f64; 3],
 ) -> usize
-    ensures { λ r. ⌜ r ≡ Paths.number (Operations.bodyTorque (Declared.map (now (c .entry)) (now (v .entry))) (now (u .entry)) (now (omega .entry)) (now (h .entry)) (now (delta .entry)) .fate) ⌝ }
+    ensures { λ r. ⌜ r ≡ Outcomes.number (ofTorque (Operations.bodyTorque (Declared.map (now (c .entry)) (now (v .entry))) (now (u .entry)) (now (omega .entry)) (now (h .entry)) (now (delta .entry)))) ⌝ }
     ensures { λ _. ⌜ now (out .exit) ≡ Operations.bodyTorque (Declared.map (now (c .entry)) (now (v .entry))) (now (u .entry)) (now (omega .entry)) (now (h .entry)) (now (delta .entry)) .tau ⌝ }
 {
     let map = map_of(c, v);
@@ -108,9 +108,9 @@ pub extern "C" fn slew_allocate_body_torque(
     out: &mut [f64; 20],
     place: &mut usize,
 ) -> usize
-    ensures { λ r. ⌜ r ≡ Paths.number (Allocate.allocate (Declared.map (now (c .entry)) (now (v .entry))) (now (tau .entry)) .fate) ⌝ }
+    ensures { λ r. ⌜ r ≡ Outcomes.number (Answers.ofAllocated (Declared.map (now (c .entry)) (now (v .entry))) (Allocate.allocate (Declared.map (now (c .entry)) (now (v .entry))) (now (tau .entry)))) ⌝ }
     ensures { λ _. ⌜ now (out .exit) ≡ Allocate.allocate (Declared.map (now (c .entry)) (now (v .entry))) (now (tau .entry)) .u ⌝ }
-    ensures { λ _. ⌜ now (place .exit) ≡ Paths.place (Allocate.allocate (Declared.map (now (c .entry)) (now (v .entry))) (now (tau .entry)) .fate) ⌝ }
+    ensures { λ _. ⌜ now (place .exit) ≡ Outcomes.place (Answers.ofAllocated (Declared.map (now (c .entry)) (now (v .entry))) (Allocate.allocate (Declared.map (now (c .entry)) (now (v .entry))) (now (tau .entry)))) ⌝ }
 {
     let map = map_of(c, v);
     let row = actuators::allocate_body_torque(map, *tau);

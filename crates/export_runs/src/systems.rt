@@ -1,6 +1,6 @@
-// dense: the elimination, and the step of a Levenberg-Marquardt iteration. Where the lengths do not fit the answer is false, as for a singular system.
+// elimination: systems of equations, and the step of a Levenberg-Marquardt iteration. Where the lengths do not fit the answer is false, as for a singular system.
 ghost use mathlib.Core.Path.{_≡_};
-ghost use Rattle.dense.specs.Elimination as Elimination;
+ghost use Rattle.elimination.specs.Elimination as Elimination;
 ghost use Rattle.export_runs.specs.Systems as Systems;
 
 // The matrix has as many rows and columns as the right side b numbers, at most 193; b becomes the answer, the matrix is used up.
@@ -15,7 +15,7 @@ pub extern "C" fn slew_solve_dense(a: &mut [f64], b: &mut [f64]) -> bool
     if a.len() != n * n {
         return false;
     }
-    dense::solve_dense(a, b)
+    elimination::solve_dense(a, b)
 }
 
 // v holds as many columns of m numbers as g has numbers, at most 193 of each, and after them room for the matrix; g becomes the step.
@@ -42,5 +42,5 @@ pub extern "C" fn slew_damped_step(
     if v.len() != n * m + n * n {
         return false;
     }
-    dense::damped_step(v, m, r, lambda, g)
+    elimination::damped_step(v, m, r, lambda, g)
 }

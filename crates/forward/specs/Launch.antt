@@ -10,7 +10,6 @@ use Rattle.angles.specs.Both.{bothOf}
 use Rattle.angles.specs.declared.Both.{Both}
 use Rattle.angles.specs.declared.Both.the-variants as Both
 use Rattle.geom.specs.Vec as Vec
-use Rattle.geom.specs.declared.Quat.{Quat}
 use Rattle.actuators.specs.Pyramid.{pyramidA, pyramidFrom, pyramid-once, skewed}
 use Rattle.actuators.specs.declared.CmgPyramid.{CmgPyramid}
 use Rattle.actuators.specs.declared.Cmgs.{Cmgs}
@@ -19,7 +18,7 @@ use Rattle.actuators.specs.declared.Jacobian.{Jacobian}
 use Rattle.forward.specs.Decisions.{rowOf}
 use Rattle.forward.specs.Steps.{Body, matrixAt, matrixStep, step, stop}
 use Rattle.forward.specs.StepLaws.{SkewOf, Made, made, refused-going}
-use Rattle.forward.specs.Runs.{start, startCourse, courseTurn, advance, runFrom, refusedRun}
+use Rattle.forward.specs.Runs.{startCourse, courseTurn, advance, runFrom, refusedRun}
 use Rattle.forward.specs.RunLaws.{ends-refused, refused-turn, going}
 use Rattle.common.specs.Iter.{iter-none}
 use Rattle.forward.specs.declared.State.{State}
@@ -30,20 +29,20 @@ use native.Mathlib.Omega.{arith}
 
 -- the gimbals at the start
 abbrev pub level : List Float
-level = replicate 4 Vec.zero
+level = replicate 4 Vec.plusZero
 
 abbrev pub noSkew : Skew
-noSkew = record { sine = Vec.zero; cosine = Vec.zero }
+noSkew = record { sine = Vec.plusZero; cosine = Vec.plusZero }
 
 abbrev pub matrixFrom : Float → Float → Jacobian → Launched
 matrixFrom s c m = record { fate = m .fate; skew = record { sine = s; cosine = c }; a = m .a }
 
 abbrev pub skewBy : Both → Launched
-skewBy Both.Outside = record { fate = Refused 11 0; skew = noSkew; a = replicate 12 Vec.zero }
+skewBy Both.Outside = record { fate = Refused 11 0; skew = noSkew; a = replicate 12 Vec.plusZero }
 skewBy (Both.Are s c) = matrixFrom s c (pyramidFrom s c level)
 
 abbrev pub launchBy : Cmgs → Launched
-launchBy Without = record { fate = Going; skew = noSkew; a = replicate 12 Vec.zero }
+launchBy Without = record { fate = Going; skew = noSkew; a = replicate 12 Vec.plusZero }
 launchBy (With p) = skewBy (bothOf (p .«skew_rad»))
 
 unfoldable pub launch : Cmgs → Launched
@@ -76,8 +75,8 @@ halts : (b : Body) (u : List Float) (k : ℕ) (s : State) {i j : ℕ} → matrix
 unfolding step
 halts b u k s h = rw h refl
 
-pub launch-refused : (b : Body) (n : ℕ) (z : List Float) (q0 : Quat) {l : Launched} {i j : ℕ} → l ≡ launch (b .rig .cmgs) → l .fate ≡ Refused i j → refusedRun 11 0 ≡ runFrom b n z (start q0)
-unfolding launch start
-launch-refused b n z q0 e h =
-    ends-refused b n z (start q0) 0 (startCourse (start q0)) (omega arith) (iter-none _ _)
-    (refused-turn b n z 0 (start q0) Vec.zero _ (halts b (rowOf n z 0) 0 (start q0) (at (b .rig .cmgs) .fates ∙ (rw e at h))) refl)
+pub launch-refused : (b : Body) (n : ℕ) (z : List Float) (s : State) {l : Launched} {i j : ℕ} → s .delta ≡ level → l ≡ launch (b .rig .cmgs) → l .fate ≡ Refused i j → refusedRun 11 0 ≡ runFrom b n z s
+unfolding launch
+launch-refused b n z s d e h =
+    ends-refused b n z s 0 (startCourse s) (omega arith) (iter-none _ _)
+    (refused-turn b n z 0 s Vec.plusZero _ (halts b (rowOf n z 0) 0 s (ap (λ (x : List Float). matrixAt (b .rig .cmgs) x .fate) d ∙ (at (b .rig .cmgs) .fates ∙ (rw e at h)))) refl)

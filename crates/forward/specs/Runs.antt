@@ -11,6 +11,7 @@ use Rattle.float.specs.Ops.{max}
 use Rattle.geom.specs.Vec as Vec
 use Rattle.geom.specs.declared.Quat.{Quat}
 use Rattle.actuators.specs.Maps.{controlDim}
+use Rattle.controls.specs.Parts.{bodyMomentum}
 use Rattle.controls.specs.Operations.{rigOf}
 use Rattle.problem.specs.declared.CheckedProblem.{CheckedProblem}
 use Rattle.forward.specs.Decisions.{rowOf, stepTime}
@@ -21,16 +22,16 @@ use Rattle.forward.specs.declared.Stepped.{Stepped}
 use Rattle.forward.specs.declared.Node.{Node}
 use Rattle.forward.specs.declared.Run.{Run}
 
--- The start of every run: at q0, at rest, the wheels and gimbals at +0.
-unfoldable pub start : Quat → State
-start q0 = record { q = q0; w = Vec.zero3; h = Vec.zero3; hw = replicate 8 Vec.zero; delta = replicate 4 Vec.zero }
+-- The start of a run: at q0, at rest, n wheels with the momenta hw and the body momentum that they make, the gimbals at +0.
+unfoldable pub start : List Float → ℕ → Quat → List Float → State
+start axes n q0 hw = record { q = q0; w = Vec.zero3; h = bodyMomentum axes n hw; hw = hw; delta = replicate 4 Vec.plusZero }
 
 -- node k: the state at its time k × dt, with the torque tau
 unfoldable pub nodeOf : Float → ℕ → State → List Float → Node
 nodeOf dt k s tau = record { t = mul binary64 (ofInt binary64 (pos k)) dt; q = s .q; w = s .w; tau = tau; h = s .h; hw = s .hw }
 
 abbrev pub blankNode : Node
-blankNode = record { t = Vec.zero; q = record { w = Vec.zero; x = Vec.zero; y = Vec.zero; z = Vec.zero }; w = Vec.zero3; tau = Vec.zero3; h = Vec.zero3; hw = replicate 8 Vec.zero }
+blankNode = record { t = Vec.plusZero; q = record { w = Vec.plusZero; x = Vec.plusZero; y = Vec.plusZero; z = Vec.plusZero }; w = Vec.zero3; tau = Vec.zero3; h = Vec.zero3; hw = replicate 8 Vec.plusZero }
 
 -- no node: what stands past the end of a list of nodes
 abbrev pub noNode : Node
@@ -56,7 +57,7 @@ unfoldable pub courseTurn : Body → ℕ → List Float → ℕ → Course → C
 courseTurn b n z k c = courseBy (c .fate) b n z k c
 
 abbrev pub startCourse : State → Course
-startCourse s = record { fate = Going; s = s; defect = Vec.zero; nodes = replicate 17 blankNode }
+startCourse s = record { fate = Going; s = s; defect = Vec.plusZero; nodes = replicate 17 blankNode }
 
 -- the 16 steps, with n controls a row
 unfoldable pub course : Body → ℕ → List Float → State → Course
@@ -64,7 +65,7 @@ course b n z s = iter (courseTurn b n z) (startCourse s) 16
 
 -- a refused run has no nodes: they are blank
 abbrev pub refusedRun : ℕ → ℕ → Run
-refusedRun n place = record { fate = Refused n place; defect = Vec.zero; nodes = replicate 17 blankNode }
+refusedRun n place = record { fate = Refused n place; defect = Vec.plusZero; nodes = replicate 17 blankNode }
 
 -- node 16 repeats node 15's torque
 abbrev pub ended : Body → Course → Run
@@ -87,6 +88,10 @@ frameOf p dt = record { j = p .inertia; jinv = p .inverse; tolerance = p .«norm
 abbrev pub bodyOf : CheckedProblem → Float → Body
 bodyOf p dt = bodyWith (rigOf (p .map)) (p .map .«wheel_axes») (p .map .«wheel_powers») (p .map .«thruster_axes») (frameOf p dt)
 
+-- the start of every run of a problem: its wheels at +0
+abbrev pub startOf : CheckedProblem → State
+startOf p = start (p .map .«wheel_axes») (p .map .«wheel_count») (p .q0) (replicate 8 Vec.plusZero)
+
 -- one forward run: the problem and a decision, its duration as it stands, and nothing else
 unfoldable pub runOf : CheckedProblem → List Float → Run
-runOf p z = runFrom (bodyOf p (stepTime z)) (controlDim (p .map)) z (start (p .q0))
+runOf p z = runFrom (bodyOf p (stepTime z)) (controlDim (p .map)) z (startOf p)

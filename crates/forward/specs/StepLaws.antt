@@ -22,7 +22,8 @@ use Rattle.geom.specs.Vec as Vec
 use Rattle.geom.specs.Quats.{expSo3}
 use Rattle.geom.specs.declared.Quat.{Quat}
 use Rattle.controls.specs.Limits.{powerExcess}
-use Rattle.controls.specs.Parts.{Sized, width, axes, rowTorque, momentaNext}
+use Rattle.controls.specs.Parts as Parts
+use Rattle.controls.specs.Parts.{Sized, width, rowTorque, momentaNext}
 use Rattle.controls.specs.declared.Rig.{Rig}
 use Rattle.forward.specs.Steps.{Body, matrixAt, swing, swingBy, swungBy, noSwing, gimbalsNext, gimbalRow, stop, slack, attitudeStep, powered, wheelMomenta, bodyMomentum, rateDot, rateNext, defectOf, turnOf, turnedStep, ratedStep, torquedStep, step}
 use Rattle.forward.specs.declared.Skew.{Skew}
@@ -106,7 +107,7 @@ module _ (b : Body) (u : List Float) (k : ℕ) (s : State) (tau : List Float) (d
   ends-powered t p o = rw (← is, t, ← p, o) refl
 
   pub ends-settled : {e : Float} {hw h : List Float} → g .fate ≡ Going → e ≡ powerExcess (b .wheels) (b .powers) (b .rig .«wheel_count») (slice 0 (b .rig .«wheel_count») u) (s .w) → lt slack e ≡ false
-      → hw ≡ momentaNext (b .rig .«wheel_count») (s .hw) (slice 0 (b .rig .«wheel_count») u) (b .frame .dt) → h ≡ axes (b .wheels) hw Vec.zero3 (b .rig .«wheel_count»)
+      → hw ≡ momentaNext (b .rig .«wheel_count») (s .hw) (slice 0 (b .rig .«wheel_count») u) (b .frame .dt) → h ≡ Parts.bodyMomentum (b .wheels) (b .rig .«wheel_count») hw
       → _≡_ {A = Stepped} (record { fate = Going; s = record { q = q2; w = w2; h = h; hw = hw; delta = g .delta }; tau = tau; defect = defect }) (attitudeStep b u k s tau defect w2 q2)
   unfolding attitudeStep powered wheelMomenta bodyMomentum
   ends-settled t p o m n = rw (← is, t, ← p, o, n, m) refl

@@ -20,7 +20,8 @@ use Rattle.actuators.specs.declared.Cmgs.{Cmgs}
 use Rattle.actuators.specs.declared.Cmgs.the-variants.{Without, With}
 use Rattle.actuators.specs.declared.Jacobian.{Jacobian}
 use Rattle.actuators.specs.declared.Power.{Power}
-use Rattle.controls.specs.Parts.{axes, rowTorque, momentaNext}
+use Rattle.controls.specs.Parts as Parts
+use Rattle.controls.specs.Parts.{rowTorque, momentaNext}
 use Rattle.controls.specs.Limits.{powerExcess}
 use Rattle.controls.specs.declared.Rig.{Rig}
 use Rattle.forward.specs.declared.Frame.{Frame}
@@ -41,13 +42,13 @@ bodyWith r wheels powers thrusters f = record { rig = r; wheels = wheels; powers
 
 -- a step that ends the run: the state as it was, no torque
 abbrev pub stop : ℕ → ℕ → State → Stepped
-stop n place s = record { fate = Refused n place; s = s; tau = Vec.zero3; defect = Vec.zero }
+stop n place s = record { fate = Refused n place; s = s; tau = Vec.zero3; defect = Vec.plusZero }
 
 -- ---- what the stages work out
 
 -- the pyramid's matrix at the gimbal angles d; with no pyramid nothing reads it
 abbrev pub matrixAt : Cmgs → List Float → Jacobian
-matrixAt Without d = record { fate = Going; a = replicate 12 Vec.zero }
+matrixAt Without d = record { fate = Going; a = replicate 12 Vec.plusZero }
 matrixAt (With p) d = pyramidA (p .«skew_rad») d
 
 -- the rate's change by Euler's equations: J w' = tau - w × (J w + h)
@@ -84,18 +85,18 @@ unfoldable pub wheelMomenta : Body → List Float → State → List Float
 wheelMomenta b u s = momentaNext (b .rig .«wheel_count») (s .hw) (slice 0 (b .rig .«wheel_count») u) (b .frame .dt)
 
 unfoldable pub bodyMomentum : Body → List Float → List Float
-bodyMomentum b hw = axes (b .wheels) hw Vec.zero3 (b .rig .«wheel_count»)
+bodyMomentum b hw = Parts.bodyMomentum (b .wheels) (b .rig .«wheel_count») hw
 
 -- ---- the gimbals after the step: 11 where an angle is over 1,024, 12 where the pyramid is singular there
 abbrev pub noSwing : ℕ → ℕ → Swung
-noSwing n k = record { fate = Refused n k; delta = replicate 4 Vec.zero; a = replicate 12 Vec.zero }
+noSwing n k = record { fate = Refused n k; delta = replicate 4 Vec.plusZero; a = replicate 12 Vec.plusZero }
 
 abbrev pub swungBy : Fate → List Float → CmgPyramid → List Float → ℕ → Swung
 swungBy (Refused n i) a p d k = noSwing 11 k
 swungBy Going a p d k = cond (lt (singularityOf a) (p .«singularity_eps»)) (noSwing 12 k) (record { fate = Going; delta = d; a = a })
 
 abbrev pub swingBy : Cmgs → List Float → List Float → Float → ℕ → Swung
-swingBy Without u d dt k = record { fate = Going; delta = d; a = replicate 12 Vec.zero }
+swingBy Without u d dt k = record { fate = Going; delta = d; a = replicate 12 Vec.plusZero }
 swingBy (With p) u d dt k = swungBy (pyramidA (p .«skew_rad») (gimbalsNext u d dt) .fate) (pyramidA (p .«skew_rad») (gimbalsNext u d dt) .a) p (gimbalsNext u d dt) k
 
 unfoldable pub swing : Cmgs → List Float → List Float → Float → ℕ → Swung

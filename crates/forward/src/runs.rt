@@ -9,7 +9,7 @@ ghost use Rattle.actuators.specs.declared.Cmgs.the-variants.{With};
 ghost use Rattle.controls.specs.Parts.{Sized};
 ghost use lib.Dec.{T};
 ghost use lib.Ieee.{binary64};
-ghost use Rattle.float.specs.Ops.{max};
+ghost use Rattle.float.specs.Ops as Ops;
 ghost use Rattle.float.specs.Sqrt.{sqrt};
 ghost use Rattle.forward.specs.Defects.{upright};
 ghost use Rattle.forward.specs.Steps as Steps;
@@ -38,22 +38,24 @@ use angles::Both;
 use angles::sin_cos;
 use common::Fate;
 use controls::Rig;
+use controls::inner::body_momentum;
 use controls::rig_of;
 use geom::Quat;
 use problem::CheckedProblem;
 
-// The start of every run: at q0, at rest, the wheels and gimbals at +0.
-pub fn start(q0: Quat) -> State
-    ensures { λ r. ⌜ r ≡ Runs.start q0 ⌝ }
+// The start of a run: at q0, at rest, n wheels with the momenta hw and the body momentum that they make, the gimbals at +0.
+pub fn start(wheels: &[f64; 24], n: usize, q0: Quat, hw: [f64; 8]) -> State
+    requires { ⌜ n ≤ 8 ⌝ }
+    ensures { λ r. ⌜ r ≡ Runs.start (now (wheels .entry)) n q0 hw ⌝ }
 {
     let three = [0.0; 3];
-    let eight = [0.0; 8];
     let four = [0.0; 4];
+    let h = body_momentum(wheels, n, &hw);
     State {
         q: q0,
         w: three,
-        h: three,
-        hw: eight,
+        h: h,
+        hw: hw,
         delta: four,
     }
 }
@@ -116,7 +118,7 @@ pub fn refused_run(number: usize, place: usize) -> Run
 // The larger of two squared defects, of which a is no NaN and x gives way if it is one: its root is the larger of the roots.
 pub fn larger_square(a: f64, x: f64) -> f64
     requires { ⌜ T (upright a) ⌝ }
-    ensures { λ r. ⌜ T (upright r) × (sqrt binary64 r ≡ max (sqrt binary64 a) (sqrt binary64 x)) ⌝ }
+    ensures { λ r. ⌜ T (upright r) × (sqrt binary64 r ≡ Ops.max (sqrt binary64 a) (sqrt binary64 x)) ⌝ }
 {
     if a < x { x } else { a }
 }
@@ -301,7 +303,7 @@ pub fn run_of(p: CheckedProblem, z: [f64; 193]) -> Run
                 skew,
                 n,
                 z,
-                start(p.q0),
+                start(&wheels, map.wheel_count, p.q0, [0.0; 8]),
                 a,
             )
         }

@@ -242,7 +242,7 @@ pub fn settle(
         return barred(13, k, l);
     }
     let hw2 = controls::inner::momenta_next(nw, hw, &u[0..nw], dt);
-    let h2 = controls::inner::axis_sum(wheels, nw, &hw2, [0.0; 3]);
+    let h2 = controls::inner::body_momentum(wheels, nw, &hw2);
     let tau = l.tau;
     let turn = l.turn;
     let e = l.s;

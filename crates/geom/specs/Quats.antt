@@ -10,7 +10,7 @@ use Rattle.angles.specs.declared.Angle.{Angle}
 use Rattle.angles.specs.declared.Angle.the-variants as Angle
 use Rattle.angles.specs.Angles.{sinOf, cosOf}
 use Rattle.angles.specs.Arcs.{acosOf}
-use Rattle.geom.specs.Vec.{dot3, zero, half, one, two, minusOne}
+use Rattle.geom.specs.Vec.{dot3, plusZero, half, one, two, minusOne}
 use Rattle.geom.specs.Halves.{onBoth}
 use Rattle.geom.specs.declared.Quat.{Quat}
 use Rattle.geom.specs.declared.Normal.{Normal}
@@ -79,10 +79,10 @@ unitBy v n =
 abbrev pub unit3 : List Float → Axis
 unit3 v = unitBy v (norm3 v)
 
--- q over its length n; refused where n is zero, not finite, or further from 1 than the tolerance
+-- q over its length n; refused where n is plusZero, not finite, or further from 1 than the tolerance
 unfoldable pub normalBy : Float → Quat → Float → Normal
 normalBy tol q n =
-    cond (eq n zero || not (finite n)) Normal.Not
+    cond (eq n plusZero || not (finite n)) Normal.Not
     (cond (lt tol (abs (sub binary64 n one))) Normal.Not
     (Normal.Is (scaleQ q (div binary64 one n))))
 
@@ -117,7 +117,7 @@ part q = q .x ∷ q .y ∷ q .z ∷ []
 
 -- the quaternion of the same turn whose scalar part is not below 0
 abbrev pub upright : Quat → Quat
-upright q = cond (lt (q .w) zero) (negateQ q) q
+upright q = cond (lt (q .w) plusZero) (negateQ q) q
 
 -- the rotation vector of q, whose vector part has length n, from the half angle
 abbrev pub logBy : Quat → Float → Angle → Rotation

@@ -1,4 +1,4 @@
--- Symmetric positive definite tensors and inverses, in the order of operations of geom.rs. Definitions only.
+-- Symmetric isPositive definite tensors and inverses, in the order of operations of geom.rs. Definitions only.
 use mathlib.Core.List.{List, [], _∷_}
 use mathlib.Core.Bool.{Bool, not, cond, _&&_, _||_}
 use lib.Ieee.{Float, binary64, sub, div, lt, ofBits}
@@ -7,7 +7,7 @@ use Rattle.common.specs.Lists.{at}
 use Rattle.float.specs.Ops.{abs}
 use Rattle.common.specs.declared.Fate.{Fate}
 use Rattle.common.specs.declared.Fate.the-variants as Fate
-use Rattle.geom.specs.Vec.{row, zero, one, minor, scale3, det3}
+use Rattle.geom.specs.Vec.{row, plusZero, one, minor, scale3, det3}
 use Rattle.geom.specs.Quats.{least}
 use Rattle.geom.specs.declared.Inverse.{Inverse}
 
@@ -16,8 +16,8 @@ abbrev pub apart : Float → Float → Bool
 apart a b = lt (ofBits binary64 0x3d71_9799_812d_ea11) (abs (sub binary64 a b))
 
 -- is the number above 0 and finite
-abbrev pub positive : Float → Bool
-positive x = lt zero x && finite x
+abbrev pub isPositive : Float → Bool
+isPositive x = lt plusZero x && finite x
 
 -- are the numbers across the diagonal equal within 1e-12
 abbrev pub symmetric : List (List Float) → Bool
@@ -25,7 +25,7 @@ symmetric j = not (apart (at (row j 0) 1) (at (row j 1) 0)) && (not (apart (at (
 
 -- are the three leading minors above 0 and finite
 abbrev pub definite : List (List Float) → Bool
-definite j = positive (at (row j 0) 0) && (positive (minor (at (row j 0) 0) (at (row j 1) 1) (at (row j 0) 1) (at (row j 1) 0)) && positive (det3 j))
+definite j = isPositive (at (row j 0) 0) && (isPositive (minor (at (row j 0) 0) (at (row j 1) 1) (at (row j 0) 1) (at (row j 1) 0)) && isPositive (det3 j))
 
 -- is the tensor symmetric and positive definite
 unfoldable pub isSpd : List (List Float) → Bool
@@ -69,7 +69,7 @@ scaledAdjugate j s = flat (scale3 (adjugate0 j) s) (scale3 (adjugate1 j) s) (sca
 
 -- the answer without an inverse: refusal 6, nine times +0
 abbrev pub noInverse : Inverse
-noInverse = record { fate = Fate.Refused 6 0; m = zero ∷ zero ∷ zero ∷ zero ∷ zero ∷ zero ∷ zero ∷ zero ∷ zero ∷ [] }
+noInverse = record { fate = Fate.Refused 6 0; m = plusZero ∷ plusZero ∷ plusZero ∷ plusZero ∷ plusZero ∷ plusZero ∷ plusZero ∷ plusZero ∷ plusZero ∷ [] }
 
 -- the inverse of j, whose determinant is d; refused where d is not finite or below 1e-18 in size
 unfoldable pub inverseBy : List (List Float) → Float → Inverse

@@ -13,8 +13,8 @@ abbrev pub row : List (List Float) → ℕ → List Float
 row m k = getD m k []
 
 -- +0
-abbrev pub zero : Float
-zero = ofBits binary64 0
+abbrev pub plusZero : Float
+plusZero = ofBits binary64 0
 
 -- 0.5
 abbrev pub half : Float
@@ -34,7 +34,7 @@ minusOne = ofBits binary64 0xbff0_0000_0000_0000
 
 -- three times +0
 abbrev pub zero3 : List Float
-zero3 = zero ∷ zero ∷ zero ∷ []
+zero3 = plusZero ∷ plusZero ∷ plusZero ∷ []
 
 -- the sum a + b
 abbrev pub add3 : List Float → List Float → List Float
@@ -91,7 +91,7 @@ overBy e t l = max e (sub binary64 (abs t) l)
 
 -- the largest excess of a torque's size over its limit, +0 where there is none
 abbrev pub torqueExcess : List Float → List Float → Float
-torqueExcess t l = overBy (overBy (overBy zero (at t 0) (at l 0)) (at t 1) (at l 1)) (at t 2) (at l 2)
+torqueExcess t l = overBy (overBy (overBy plusZero (at t 0) (at l 0)) (at t 1) (at l 1)) (at t 2) (at l 2)
 
 -- is the number finite and at most the bound in size
 abbrev pub still : Float → Float → Bool

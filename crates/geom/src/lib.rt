@@ -370,8 +370,8 @@ fn apart(a: f64, b: f64) -> bool
     float::abs(a - b) > 1.0e-12
 }
 
-fn positive(x: f64) -> bool
-    ensures { λ r. ⌜ r ≡ Tensors.positive x ⌝ }
+fn is_positive(x: f64) -> bool
+    ensures { λ r. ⌜ r ≡ Tensors.isPositive x ⌝ }
 {
     if x > 0.0 { float::is_finite(x) } else { false }
 }
@@ -391,13 +391,13 @@ fn symmetric(j: [[f64; 3]; 3]) -> bool
 fn definite(j: [[f64; 3]; 3]) -> bool
     ensures { λ r. ⌜ r ≡ Tensors.definite j ⌝ }
 {
-    if !positive(j[0][0]) {
+    if !is_positive(j[0][0]) {
         return false;
     }
-    if !positive(j[0][0] * j[1][1] - j[0][1] * j[1][0]) {
+    if !is_positive(j[0][0] * j[1][1] - j[0][1] * j[1][0]) {
         return false;
     }
-    positive(det3(j))
+    is_positive(det3(j))
 }
 
 pub fn is_spd(j: [[f64; 3]; 3]) -> bool

@@ -17,18 +17,18 @@ use Rattle.laws.specs.Limits.{Limit, Under, bound}
 use Rattle.laws.specs.Sizes.{Within, mul-in, sub-in}
 
 -- a length of three numbers
-abbrev length : Float → Float → Float → Float
-length x y z = sqrt binary64 (add binary64 (add binary64 (mul binary64 x x) (mul binary64 y y)) (mul binary64 z z))
+abbrev length3 : Float → Float → Float → Float
+length3 x y z = sqrt binary64 (add binary64 (add binary64 (mul binary64 x x) (mul binary64 y y)) (mul binary64 z z))
 
 -- a length that is no NaN comes of numbers, a finite one of finite numbers, and a length of numbers is no NaN
-no-nan : (x y z : Float) → T (number (length x y z)) → T (number x) × T (number y) × T (number z)
+no-nan : (x y z : Float) → T (number (length3 x y z)) → T (number x) × T (number y) × T (number z)
 no-nan x y z t = search numbers
 
-all-finite : (x y z : Float) → T (finite (length x y z)) → T (finite x) × T (finite y) × T (finite z)
+all-finite : (x y z : Float) → T (finite (length3 x y z)) → T (finite x) × T (finite y) × T (finite z)
 all-finite x y z t = search finites
 
-is-number : (x y z : Float) → T (number x) → T (number y) → T (number z) → T (number (length x y z))
-is-number x y z p q r = plus-number (length x y z) (search pluses)
+is-number : (x y z : Float) → T (number x) → T (number y) → T (number z) → T (number (length3 x y z))
+is-number x y z p q r = plus-number (length3 x y z) (search pluses)
 
 -- 1 and -1/2 in units of 2 ^ -1074
 one-exact : exact (ofBits binary64 0x3ff0_0000_0000_0000) ≡ pos (2 ^ 1074)

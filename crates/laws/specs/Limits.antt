@@ -48,8 +48,8 @@ abbrev pub tol : Float
 tol = ofBits binary64 0x3e11_2e0b_e826_d695
 
 -- the next f64 above 1e-9
-abbrev pub next : Float
-next = ofBits binary64 0x3e11_2e0b_e826_d696
+abbrev pub nextAboveNano : Float
+nextAboveNano = ofBits binary64 0x3e11_2e0b_e826_d696
 
 pub tol-held : Held binary64 tol
 unfolding ofBits fits
@@ -59,19 +59,19 @@ pub tol-finite : T (finite tol)
 unfolding ofBits
 tol-finite = tt
 
-next-held : Held binary64 next
+next-held : Held binary64 nextAboveNano
 unfolding ofBits fits
 next-held = held tt tt
 
-next-finite : T (finite next)
+next-finite : T (finite nextAboveNano)
 unfolding ofBits
 next-finite = tt
 
-next-plus : T (plus next)
+next-plus : T (plus nextAboveNano)
 unfolding ofBits
 next-plus = tt
 
-tol-next : T (lt tol next)
+tol-next : T (lt tol nextAboveNano)
 unfolding ofBits lt
 tol-next = tt
 
@@ -99,7 +99,7 @@ module _ (f : Format) (a b : Float) (A : Held f a) (B : Held f b) (ab : T (lt a 
 -- |t| is below its limit and the next f64 above 1e-9, in units of 2 ^ -1074
 pub record Under (t l : Float) : Type 0 where
   pub fine : T (finite t)
-  pub under : mag binary64 t < mag binary64 l + mag binary64 next
+  pub under : mag binary64 t < mag binary64 l + mag binary64 nextAboveNano
 
 inf-over : (s : Bool) (l : Float) → T (finite l) → T (lt tol (sub binary64 (abs (inf s)) l))
 unfolding ofBits lt sub abs neg add
@@ -111,13 +111,13 @@ inf-over s (fin t n d) p = tt
 pub bound : (t l : Float) → T (fits binary64 t) → T (number t) → Limit l → T (not (lt tol (sub binary64 (abs t) l))) → Under t l
 bound nan l g p L h = absurd p
 bound (inf s) l g p L h = absurd (T-not (lt tol (sub binary64 (abs (inf s)) l)) h (inf-over s l (L .fine)))
-bound (fin s m e) l g p L h = record { fine = tt; under = within binary64 tol next tol-held next-held tol-next next-plus next-finite (fin s m e) l g (L .fit) tt (L .fine) (above-zero-plus l (L .over)) h }
+bound (fin s m e) l g p L h = record { fine = tt; under = within binary64 tol nextAboveNano tol-held next-held tol-next next-plus next-finite (fin s m e) l g (L .fit) tt (L .fine) (above-zero-plus l (L .over)) h }
 
 -- the same as whole numbers of 2 ^ -1074
-pub under-exact : (t l : Float) → Limit l → Under t l → exact (abs t) <ℤ (exact l +ℤ exact next)
+pub under-exact : (t l : Float) → Limit l → Under t l → exact (abs t) <ℤ (exact l +ℤ exact nextAboveNano)
 under-exact t l L U =
-    rw (exact-abs t (U .fine), exact-plus l (L .fine) (above-zero-plus l (L .over)), exact-plus next next-finite next-plus, pos-+ℤ-pos)
-    (ltZ-yes (lt→ltb (mag binary64 t) (mag binary64 l + mag binary64 next) (U .under)))
+    rw (exact-abs t (U .fine), exact-plus l (L .fine) (above-zero-plus l (L .over)), exact-plus nextAboveNano next-finite next-plus, pos-+ℤ-pos)
+    (ltZ-yes (lt→ltb (mag binary64 t) (mag binary64 l + mag binary64 nextAboveNano) (U .under)))
 
 zero-fits : T (fits binary64 (ofBits binary64 0))
 unfolding fits ofBits

@@ -9,7 +9,7 @@ use lib.Seq.{length-sets}
 use lib.Ieee.{Float}
 use Rattle.common.specs.Lists.{at, slice}
 use Rattle.common.specs.declared.Fate.the-variants.{Going, Refused}
-use Rattle.geom.specs.Vec.{zero}
+use Rattle.geom.specs.Vec.{plusZero}
 use Rattle.problem.specs.declared.Problem.{Problem}
 use Rattle.planner.specs.Plans as Plans
 use Rattle.planner.specs.PlanLaws.{leaves-none}
@@ -40,7 +40,7 @@ module _ (p : Problem) (seed : List Float) (size : ℕ) where
   unfolding fromSeed
   seed-counted e = rw (eq-eqb _ _ e) refl
 
-  pub seed-miscounted : (length seed ≡ 103 → ⊥) → Plans.planFrom p zero [] [] size ≡ fromSeed p seed size
+  pub seed-miscounted : (length seed ≡ 103 → ⊥) → Plans.planFrom p plusZero [] [] size ≡ fromSeed p seed size
   unfolding fromSeed
   seed-miscounted e = rw (ne-eqb _ _ e) refl
 

@@ -9,7 +9,7 @@ use lib.Ieee.{Float}
 use Rattle.common.specs.Lists.{at, slice}
 use Rattle.common.specs.declared.Fate.{Fate}
 use Rattle.common.specs.declared.Fate.the-variants.{Going, Refused}
-use Rattle.geom.specs.Vec.{zero}
+use Rattle.geom.specs.Vec.{plusZero}
 use Rattle.problem.specs.declared.Problem.{Problem}
 use Rattle.planner.specs.Plans as Plans
 use Rattle.planner.specs.declared.Path.{Path}
@@ -38,7 +38,7 @@ unfoldable pub fromSeed : Problem → List Float → ℕ → Planned
 fromSeed p seed size =
     cond (eqb (length seed) 103)
     (Plans.planFrom p (at seed 0) (slice 1 52 seed) (slice 52 103 seed) size)
-    (Plans.planFrom p zero [] [] size)
+    (Plans.planFrom p plusZero [] [] size)
 
 abbrev pub plannedFrom : List ℕ → List Float → ℕ → Planned
 plannedFrom text seed size = ofText text (λ p. fromSeed p seed size)

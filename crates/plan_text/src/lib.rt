@@ -12,7 +12,6 @@ use planner::Planned;
 use planner::plan;
 use planner::plan_from;
 use problem::Problem;
-use text::read_problem;
 use text_writer::write_path;
 use text_writer::write_refused;
 
@@ -85,7 +84,7 @@ pub fn plan_text(text: &[u8], ws: &mut [f64], out: &mut [u8]) -> Told
     if out.len() < 16384 {
         return no_room();
     }
-    let read = read_problem(text);
+    let read = text_reader::read(text);
     let fate = read.fate;
     match fate {
         Fate::Refused(number, place) => tell_refused(number, place, 0, out),
@@ -114,7 +113,7 @@ pub fn plan_text_from(text: &[u8], seed: &[f64], ws: &mut [f64], out: &mut [u8])
     if out.len() < 16384 {
         return no_room();
     }
-    let read = read_problem(text);
+    let read = text_reader::read(text);
     let fate = read.fate;
     match fate {
         Fate::Refused(number, place) => tell_refused(number, place, 0, out),

@@ -1,12 +1,12 @@
 -- What a stage of an entry answers and leaves, and the numbers behind an answered path. Definitions, and laws that assume nothing.
 use Prim.Native.Nat.{ℕ}
-use mathlib.Core.Path.{_≡_, refl, sym, subst, _∙_}
+use mathlib.Core.Path.{_≡_, refl, sym, ap, subst, _∙_}
 use mathlib.Core.Bool.{Bool}
 use mathlib.Core.List.{List}
 use lib.ListN.{length, replicate}
 use lib.Ieee.{Float}
 use Rattle.common.specs.declared.Fate.the-variants.{Going}
-use Rattle.geom.specs.Vec.{zero}
+use Rattle.geom.specs.Vec.{plusZero}
 use Rattle.profile.specs.Seeds.{sampleSeed}
 use Rattle.profile.specs.declared.Profiled.{Profiled}
 use Rattle.profile.specs.declared.Seed.{Seed}
@@ -38,7 +38,7 @@ pub outcome-as : {was is : Planned} {ws z : List Float} {r : Planned} {exit : Li
 outcome-as o e = record { same = o .same ∙ e; left = o .left; held = o .held }
 
 -- after a search from the seed's decision: the workspace was cleared
-pub solved : (p : CheckedProblem) {is : Planned} (ws : List Float) {z seed : List Float} {r : Planned} {exit : List Float} → seed ≡ z → r ≡ Plans.answered p (search p seed) → exit ≡ replicate (length ws) zero → Fit seed
+pub solved : (p : CheckedProblem) {is : Planned} (ws : List Float) {z seed : List Float} {r : Planned} {exit : List Float} → seed ≡ z → r ≡ Plans.answered p (search p seed) → exit ≡ replicate (length ws) plusZero → Fit seed
     → Plans.answered p (search p z) ≡ is → Outcome is ws z r exit
 solved p ws {z} e f g h i =
     let j = rw e at f in
@@ -60,12 +60,12 @@ pub from-as : (p : Problem) (duration : Float) (rates torques : List Float) (siz
 unfolding Plans.planFrom
 from-as p duration rates torques size e f g o = outcome-as (rw (g, e) at o) (rw (rw e at f) refl)
 
--- ---- the entries: the answer, the workspace, and what holds of an answered path
+-- ---- the entries: the answer, the workspace, and what holds of the answer
 abbrev pub Entry : Planned → (Planned → Type 0) → List Float → Planned → List Float → Type 0
-Entry is P ws r exit = (r ≡ is) × ((exit ≡ Plans.leaves (r .runs) ws) × (r .fate ≡ Going → P r))
+Entry is P ws r exit = (r ≡ is) × ((exit ≡ Plans.leaves (r .runs) ws) × P r)
 
-pub entry-refused : {is : Planned} (P : Planned → Type 0) (ws : List Float) {r : Planned} {n k : ℕ} → r ≡ Plans.refused n k 0 → Plans.refused n k 0 ≡ is → Entry is P ws r ws
-entry-refused P ws e f = (e ∙ f, (rw e (leaves-none ws), λ g. absurd (refused-going (rw e at g))))
+pub entry-refused : {is : Planned} (P : Planned → Type 0) (ws z : List Float) {r : Planned} {n k : ℕ} → r ≡ Plans.refused n k 0 → Plans.refused n k 0 ≡ is → ((is .fate ≡ Going → Fit z) → P is) → Entry is P ws r ws
+entry-refused P ws z e f h = (e ∙ f, (rw e (leaves-none ws), subst P (sym (e ∙ f)) (h (λ g. absurd (refused-going (rw (← f) at g))))))
 
-pub entry-as : {is : Planned} (P : Planned → Type 0) {ws z : List Float} {r : Planned} {exit : List Float} → Outcome is ws z r exit → (Fit z → is .fate ≡ Going → P is) → Entry is P ws r exit
-entry-as P o h = (o .same, (o .left, λ g. subst P (sym (o .same)) (h (o .held g) (rw (o .same) at g))))
+pub entry-as : {is : Planned} (P : Planned → Type 0) {ws z : List Float} {r : Planned} {exit : List Float} → Outcome is ws z r exit → ((is .fate ≡ Going → Fit z) → P is) → Entry is P ws r exit
+entry-as P o h = (o .same, (o .left, subst P (sym (o .same)) (h (λ g. o .held (ap (λ (x : Planned). x .fate) (o .same) ∙ g)))))

@@ -10,7 +10,7 @@ use lib.ListN.{length, replicate}
 use lib.Ieee.{Float}
 use Rattle.common.specs.declared.Fate.{Fate}
 use Rattle.common.specs.declared.Fate.the-variants.{Going, Refused}
-use Rattle.geom.specs.Vec.{zero}
+use Rattle.geom.specs.Vec.{plusZero}
 use Rattle.actuators.specs.Maps.{isSized}
 use Rattle.problem.specs.Passed.{passed-sized}
 use Rattle.problem.specs.Problems.{isPositive, check}
@@ -79,10 +79,10 @@ pub leaves-none : (ws : List Float) → ws ≡ Plans.leaves 0 ws
 unfolding Plans.leaves
 leaves-none ws = refl
 
-pub leaves-begun : (runs : ℕ) (ws : List Float) → 1 ≤ runs → replicate (length ws) zero ≡ Plans.leaves runs ws
+pub leaves-begun : (runs : ℕ) (ws : List Float) → 1 ≤ runs → replicate (length ws) plusZero ≡ Plans.leaves runs ws
 unfolding Plans.leaves
 leaves-begun runs ws h = go (eqb runs 0) refl
   where
-    go : (b : Bool) → eqb runs 0 ≡ b → replicate (length ws) zero ≡ cond b ws (replicate (length ws) zero)
+    go : (b : Bool) → eqb runs 0 ≡ b → replicate (length ws) plusZero ≡ cond b ws (replicate (length ws) plusZero)
     go true e = let z : runs ≡ 0 = eqb-true runs 0 e in absurd (omega arith)
     go false e = refl

@@ -10,7 +10,7 @@ use Rattle.common.specs.Answer as Answers
 use Rattle.common.specs.Lists.{at}
 use Rattle.common.specs.declared.Fate.{Fate}
 use Rattle.common.specs.declared.Fate.the-variants.{Going, Refused}
-use Rattle.geom.specs.Vec.{zero, tensor}
+use Rattle.geom.specs.Vec.{plusZero, tensor}
 use Rattle.actuators.specs.Maps.{controlDim}
 use Rattle.profile.specs.Profiles.{bangCoastBang}
 use Rattle.profile.specs.Seeds.{sampleSeed}
@@ -32,7 +32,7 @@ use Rattle.planner.specs.declared.Planned.{Planned}
 
 -- no path: zeros
 abbrev pub blankPath : Path
-blankPath = record { duration = zero; controls = 0; wheels = 0; iterations = 0; z = replicate 193 zero; nodes = replicate 17 blankNode }
+blankPath = record { duration = plusZero; controls = 0; wheels = 0; iterations = 0; «max_defect» = plusZero; z = replicate 193 plusZero; nodes = replicate 17 blankNode }
 
 abbrev pub refused : ℕ → ℕ → ℕ → Planned
 refused number place runs = record { fate = Refused number place; runs = runs; path = blankPath }
@@ -44,6 +44,7 @@ pathOf p f = record {
   controls = controlDim (p .map);
   wheels = p .map .«wheel_count»;
   iterations = f .iterations;
+  «max_defect» = f .run .defect;
   z = f .z;
   nodes = f .run .nodes;
 }
@@ -121,7 +122,7 @@ plan p size = planBy (check p .fate) (check p .problem) size
 
 -- ---- the lent workspace at exit: untouched where no forward run began, else every number +0
 unfoldable pub leaves : ℕ → List Float → List Float
-leaves runs ws = cond (eqb runs 0) ws (replicate (length ws) zero)
+leaves runs ws = cond (eqb runs 0) ws (replicate (length ws) plusZero)
 
 -- ---- document 01's answer: number, place and runs
 abbrev answerBy : Fate → ℕ → Path → Answer Path

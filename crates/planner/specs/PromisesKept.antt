@@ -1,12 +1,15 @@
 -- Demand 3 is kept: by the entry with a caller's seed, and by our own entry. Assumes nothing.
-use mathlib.Core.Path.{_≡_, refl, sym, ap, _∙_}
-use mathlib.Core.Bool.{Bool, true, false, cond, _&&_}
+use mathlib.Core.Path.{_≡_, refl, sym, ap, subst, _∙_}
+use mathlib.Core.Bool.{Bool, true, false, not, cond, _&&_}
 use mathlib.Core.List.{List}
 use Prim.Native.Nat.{ℕ, _<_, _≤_}
 use native.Mathlib.Omega.{arith}
-use lib.Dec.{T, ltb}
+use lib.Dec.{T, ltb, ltb→lt, nltb→le}
 use lib.ListN.{length}
-use lib.Ieee.{Float, binary64, le, fits}
+use lib.Ieee.{Float, binary64, le, fits, ofBits}
+use lib.Ieee.Scale.{finite}
+use Rattle.common.specs.Answer.{Given}
+use Rattle.common.specs.Answer as Answers
 use Rattle.common.specs.Lists.{at}
 use Rattle.common.specs.declared.Fate.{Fate}
 use Rattle.common.specs.declared.Fate.the-variants.{Going, Refused}
@@ -28,19 +31,30 @@ use Rattle.forward.specs.declared.Reconstructed.{Reconstructed}
 use Rattle.forward.specs.declared.Run.{Run}
 use Rattle.seeds.specs.Seeds.{served}
 use Rattle.seeds.specs.SeedLaws.{served-narrow}
+use Rattle.residuals.specs.Sums.{nodeAt}
+use Rattle.residuals.specs.Residuals.{residualsOf}
+use Rattle.residuals.specs.Operations.{residualsBy, residuals}
+use Rattle.residuals.specs.declared.Measured.{Measured}
+use Rattle.scvx.specs.Search as Search
 use Rattle.scvx.specs.Search.{search, room}
 use Rattle.ends.specs.Ends.{endFate}
-use Rattle.run_laws.specs.Values.{goes}
+use Rattle.run_laws.specs.Values.{goes, FineN}
 use Rattle.run_laws.specs.Checked.{FitsP, Ready, check-ready}
 use Rattle.run_laws.specs.Paths.{control, rerun}
+use Rattle.run_laws.specs.Residuals.{residuals-count}
+use Rattle.run_laws.specs.Runs.{Spare}
 use Rattle.search_laws.specs.Answers.{limitIn, Answered, answered}
+use Rattle.search_laws.specs.Better.{better-as}
 use Rattle.search_laws.specs.Counts.{runs-most}
 use Rattle.search_laws.specs.Declared.{controlsOf, Same, check-same, controls-same, limit-same}
 use Rattle.search_laws.specs.Decisions.{Fit}
 use Rattle.search_laws.specs.OwnSeed.{duration-fits, torques-fit}
 use Rattle.search_laws.specs.Seeds.{seed-long, seed-past, seed-fits, seed-projected}
 use Rattle.planner.specs.Plans as Plans
-use Rattle.planner.specs.Promises.{PassesByLess, Promised, ownSeed}
+use Rattle.planner.specs.Promises.{PassesByLess, residualLength, Promised, Answers, ownSeed}
+use Rattle.planner.specs.Refusals.{Blank, plan-blank, plan-from-blank}
+use Rattle.planner.specs.declared.Path.{Path}
+use Rattle.planner.specs.declared.Planned.{Planned}
 
 -- ---- from the checked problem's numbers to the user's
 passes : (t l k : Float) → l ≡ k → Limit l → Under t l → PassesByLess t k
@@ -48,6 +62,27 @@ passes t l k e L U = rw (← e) (record { fine = U .fine; less = under-exact t l
 
 bounded : (n m : ℕ) (z : List Float) (j i : ℕ) (l k : Float) → n ≡ m → l ≡ k → T (le (abs (control n z j i)) l) → T (le (abs (control m z j i)) k)
 bounded n m z j i l k e f t = rw (e, f) at t
+
+-- all eight wheel momenta: those of n wheels, and +0 past them
+wheels-finite : (n : ℕ) (hw : List Float) → FineN n hw → Spare n hw → FineN 8 hw
+wheels-finite n hw f g i h = go (ltb i n) (ltb→lt i n) (nltb→le i n)
+  where
+    go : (b : Bool) → (T b → i < n) → (T (not b) → n ≤ i) → T (finite (at hw i))
+    go true x y = f i (x tt)
+    go false x y = rw (g i (y tt) h) (unfold ofBits in tt)
+
+-- the user's own call of `residuals` on a problem that is admitted is that of the checked problem, after one run
+measure : (p : Problem) (z : List Float) → admit p .fate ≡ Going → residuals p z ≡ record { runs = 1; residuals = residualsOf (admit p .problem) z }
+unfolding residuals
+measure p z h = ap (λ (e : Fate). residualsBy e (admit p .problem) z) h
+
+going : (e : Fate) → T (goes e) → e ≡ Going
+going Going t = refl
+going (Refused n k) t = absurd t
+
+-- what is promised of an answer with a path
+abbrev Held : Problem → List Float → Planned → Type 0
+Held p seed r = Promised p seed (r .path) (r .runs)
 
 -- ---- a problem that passed the checks, with actuators that are served
 module _ (p : Problem) (F : FitsP p) (passed : check p .fate ≡ Going) (serves : served (check p .problem .map) ≡ Going) where
@@ -73,6 +108,17 @@ module _ (p : Problem) (F : FitsP p) (passed : check p .fate ≡ Going) (serves 
   once : (z : List Float) → reconstruct p z ≡ record { runs = 1; run = runOf c z }
   once z = let e : check p ≡ admit p = admit-narrow p refl refl narrow in rerun p z (rw (← e) passed) ∙ rw (← e) refl
 
+  -- and so is that of the residuals
+  measured-once : (z : List Float) → residuals p z ≡ record { runs = 1; residuals = residualsOf c z }
+  measured-once z = let e : check p ≡ admit p = admit-narrow p refl refl narrow in measure p z (rw (← e) passed) ∙ rw (← e) refl
+
+  measured-goes : (z : List Float) → T (goes (residualsOf c z .fate)) → residuals p z .residuals .fate ≡ Going
+  measured-goes z t = ap (λ (x : Measured). x .residuals .fate) (measured-once z) ∙ going (residualsOf c z .fate) t
+
+  length-same : (z : List Float) → T (goes (residualsOf c z .fate)) → Search.residualLength c z ≡ residualLength p z
+  unfolding Search.width
+  length-same z t = rw (measured-once z, residuals-count c z t) refl
+
   module _ (duration : Float) (torques : List Float) where
     abbrev seed : List Float
     seed = Plans.seedOf c duration torques
@@ -84,7 +130,7 @@ module _ (p : Problem) (F : FitsP p) (passed : check p .fate ≡ Going) (serves 
     fitted = seed-fits (c .map) narrow duration torques (ready .map) (c .«torque_limit») (ready .limits)
 
     module _ (G : Fit seed) where
-      found : T (goes (search c seed .fate)) → T (goes (endFate c (search c seed .run))) → Promised p seed (record { fate = Going; runs = search c seed .runs; path = Plans.pathOf c (search c seed) })
+      found : T (goes (search c seed .fate)) → T (goes (endFate c (search c seed .run))) → Promised p seed (Plans.pathOf c (search c seed)) (search c seed .runs)
       found t e = record {
         duration = refl;
         width = row;
@@ -92,16 +138,30 @@ module _ (p : Problem) (F : FitsP p) (passed : check p .fate ≡ Going) (serves 
         rerun-goes = rw (once z) (A .went);
         rerun-once = rw (once z) refl;
         rerun-nodes = ap (λ (x : Reconstructed). x .run .nodes) (once z) ∙ sym (ap (λ (x : Run). x .nodes) (A .is));
+        rerun-defect = ap (λ (x : Reconstructed). x .run .defect) (once z) ∙ sym (ap (λ (x : Run). x .defect) (A .is));
         controls = λ k h i l. bounded (controlDim (c .map)) (controlsOf (p .actuators)) z k i _ _ row (ap (λ (v : List Float). limitIn (c .map) v i) (same .limit) ∙ limit-same p (c .map) (same .map) sized i) (A .controls k h i (rw row l));
         end-error = record { qf = c .qf; qf-is = same .qf; x = A .error .x; y = A .error .y; z = A .error .z; is = A .error .is; small = A .error-small };
         end-rate = A .rate-small;
         torques = λ k h i l. passes _ _ _ (ap (λ (v : List Float). at v i) (same .limit)) (ready .limits i l) (A .torques k h i l);
         momenta = λ k h i l. let m : i < c .map .«wheel_count» = rw (same .map .wheels) l in passes _ _ _ (same .map .tables .momenta .is i l) (ready .map .momenta i m) (A .momenta k h i m);
-        length = A .better;
+        residual = better-as (Search.residualLength c) (residualLength p) seed z (length-same seed (A .seed-measured)) (length-same z (A .measured)) (A .better);
+        measured = measured-goes z (A .measured);
+        seed-measured = measured-goes seed (A .seed-measured);
         runs = refl;
         bound = rw (← row) (runs-most c seed);
         past = λ i h k. let n : packedLen (controlDim (c .map)) ≤ i = rw row h in A .sound .tail .past i n ∙ seed-past (c .map) narrow duration torques (ready .map) (c .«torque_limit») (ready .limits) i n k;
         spare = λ k h i l m. A .spare k h i (rw (same .map .wheels) l) m;
+        finite-defect = A .defect;
+        finite-duration = A .path .duration;
+        finite-controls = λ k h i l. rw (← row) (A .path .controls k h i (rw row l));
+        finite-nodes = λ k h. let n = A .path .nodes k h in record {
+          t = A .path .times k h;
+          q = (n .q .w .fine, n .q .x .fine, n .q .y .fine, n .q .z .fine);
+          w = n .w;
+          tau = n .tau;
+          hw = wheels-finite (c .map .«wheel_count») (nodeAt (search c seed .run .nodes) k .hw) (λ i l. A .momenta k h i l .fine) (A .spare k h);
+        };
+        finite-momenta = A .path .stored;
       }
         where
           z : List Float
@@ -110,22 +170,22 @@ module _ (p : Problem) (F : FitsP p) (passed : check p .fate ≡ Going) (serves 
           A : Answered c seed z (search c seed .run)
           A = answered c ready seed wide (seed-projected (c .map) narrow duration torques (ready .map) (c .«torque_limit») (ready .limits) G) t e
 
-      ends : (b : Fate) → endFate c (search c seed .run) ≡ b → T (goes (search c seed .fate)) → Plans.endedBy b c (search c seed) .fate ≡ Going → Promised p seed (Plans.endedBy b c (search c seed))
+      ends : (b : Fate) → endFate c (search c seed .run) ≡ b → T (goes (search c seed .fate)) → Plans.endedBy b c (search c seed) .fate ≡ Going → Held p seed (Plans.endedBy b c (search c seed))
       ends Going e t g = found t (rw e tt)
       ends (Refused n k) e t g = absurd (refused-going g)
 
-      finds : (a : Fate) → search c seed .fate ≡ a → Plans.foundBy a c (search c seed) .fate ≡ Going → Promised p seed (Plans.foundBy a c (search c seed))
+      finds : (a : Fate) → search c seed .fate ≡ a → Plans.foundBy a c (search c seed) .fate ≡ Going → Held p seed (Plans.foundBy a c (search c seed))
       finds Going e g = ends (endFate c (search c seed .run)) refl (rw e tt) g
       finds (Refused n k) e g = absurd (refused-going g)
 
       searched : (a b : Bool) → cond a (cond b (Plans.refused 9 0 0) (Plans.answered c (search c seed))) (Plans.refused 10 0 0) .fate ≡ Going
-          → Promised p seed (cond a (cond b (Plans.refused 9 0 0) (Plans.answered c (search c seed))) (Plans.refused 10 0 0))
+          → Held p seed (cond a (cond b (Plans.refused 9 0 0) (Plans.answered c (search c seed))) (Plans.refused 10 0 0))
       unfolding Plans.answered
       searched true true g = absurd (refused-going g)
       searched true false g = finds (search c seed .fate) refl g
       searched false b g = absurd (refused-going g)
 
-      seeds : (counted : Bool) (size : ℕ) → Plans.seeded c counted duration torques size .fate ≡ Going → Promised p seed (Plans.seeded c counted duration torques size)
+      seeds : (counted : Bool) (size : ℕ) → Plans.seeded c counted duration torques size .fate ≡ Going → Held p seed (Plans.seeded c counted duration torques size)
       unfolding Plans.seeded
       seeds counted size g = searched (counted && isPositive duration) (ltb size (room c)) g
 
@@ -135,23 +195,23 @@ module _ (p : Problem) (F : FitsP p) (passed : check p .fate ≡ Going) (duratio
   q = check p .problem
 
   with-seed : (counted : Bool) (size : ℕ) → (served (q .map) ≡ Going → Fit (Plans.seedOf q duration torques)) → Plans.withSeed q counted duration torques size .fate ≡ Going
-      → Promised p (Plans.seedOf q duration torques) (Plans.withSeed q counted duration torques size)
+      → Held p (Plans.seedOf q duration torques) (Plans.withSeed q counted duration torques size)
   unfolding Plans.withSeed
   with-seed counted size G g = go (served (q .map)) refl g
     where
-      go : (e : Fate) → served (q .map) ≡ e → Plans.servedBy e q counted duration torques size .fate ≡ Going → Promised p (Plans.seedOf q duration torques) (Plans.servedBy e q counted duration torques size)
+      go : (e : Fate) → served (q .map) ≡ e → Plans.servedBy e q counted duration torques size .fate ≡ Going → Held p (Plans.seedOf q duration torques) (Plans.servedBy e q counted duration torques size)
       go Going h g = seeds p F passed h duration torques (G h) counted size g
       go (Refused n k) h g = absurd (refused-going g)
 
 -- ---- DEMAND 3 of the entry with a caller's seed: f64 holds the problem's numbers and those of the seed's decision
 module _ (p : Problem) (F : FitsP p) where
   pub plan-from-promised : (duration : Float) (rates torques : List Float) (size : ℕ) → Fit (Plans.seedOf (check p .problem) duration torques) → Plans.planFrom p duration rates torques size .fate ≡ Going
-      → Promised p (Plans.seedOf (check p .problem) duration torques) (Plans.planFrom p duration rates torques size)
+      → Held p (Plans.seedOf (check p .problem) duration torques) (Plans.planFrom p duration rates torques size)
   unfolding Plans.planFrom
   plan-from-promised duration rates torques size G g = go (check p .fate) refl g
     where
       go : (e : Fate) → check p .fate ≡ e → Plans.planFromBy e (check p .problem) duration rates torques size .fate ≡ Going
-          → Promised p (Plans.seedOf (check p .problem) duration torques) (Plans.planFromBy e (check p .problem) duration rates torques size)
+          → Held p (Plans.seedOf (check p .problem) duration torques) (Plans.planFromBy e (check p .problem) duration rates torques size)
       go Going h g = with-seed p F h duration torques (Plans.counted rates torques) size (λ s. G) g
       go (Refused n k) h g = absurd (refused-going g)
 
@@ -160,7 +220,7 @@ module _ (p : Problem) (F : FitsP p) where
   caller-fits duration torques h s = fitted p F h s duration torques
 
   -- ---- DEMAND 3 of our own entry: f64 holds the problem's numbers
-  pub plan-promised : (size : ℕ) → Plans.plan p size .fate ≡ Going → Promised p (ownSeed (check p .problem)) (Plans.plan p size)
+  pub plan-promised : (size : ℕ) → Plans.plan p size .fate ≡ Going → Held p (ownSeed (check p .problem)) (Plans.plan p size)
   unfolding Plans.plan Plans.withProfile
   plan-promised size g = go (check p .fate) refl g
     where
@@ -173,10 +233,33 @@ module _ (p : Problem) (F : FitsP p) where
       own : check p .fate ≡ Going → served (c .map) ≡ Going → Fit (ownSeed c)
       own h k = caller-fits (s .duration) (s .torques) h k (unfold Plans.profiled in duration-fits (c .q0) (tensor (c .inertia)) (c .«torque_limit») (c .slew) (c .qf) (c .«tie_tolerance»)) (torques-fit (Plans.profiled c .profile) 17)
 
-      profile : (e : Fate) → check p .fate ≡ Going → Plans.profiledBy e c (Plans.profiled c .profile) size .fate ≡ Going → Promised p (ownSeed c) (Plans.profiledBy e c (Plans.profiled c .profile) size)
+      profile : (e : Fate) → check p .fate ≡ Going → Plans.profiledBy e c (Plans.profiled c .profile) size .fate ≡ Going → Held p (ownSeed c) (Plans.profiledBy e c (Plans.profiled c .profile) size)
       profile Going h g = with-seed p F h (s .duration) (s .torques) true size (own h) g
       profile (Refused n k) h g = absurd (refused-going g)
 
-      go : (e : Fate) → check p .fate ≡ e → Plans.planBy e c size .fate ≡ Going → Promised p (ownSeed c) (Plans.planBy e c size)
+      go : (e : Fate) → check p .fate ≡ e → Plans.planBy e c size .fate ≡ Going → Held p (ownSeed c) (Plans.planBy e c size)
       go Going h g = profile (Plans.profiled c .fate) h g
       go (Refused n k) h g = absurd (refused-going g)
+
+-- ---- what the entries answer, in document 01's numbers
+module _ (r : Planned) where
+  given-path : (path : Path) → Plans.answer r ≡ Given path → (r .fate ≡ Going) × (r .path ≡ path)
+  given-path path h = go (r .fate) refl
+    where
+      go : (e : Fate) → r .fate ≡ e → (r .fate ≡ Going) × (r .path ≡ path)
+      go Going e = let g : Given (r .path) ≡ Given path = rw e at h in (e, cc)
+      go (Refused n k) e = let g : Answers.Refused n k (r .runs) ≡ Given path = rw e at h in let z : _≡_ {A = ℕ} 0 1 = cc in absurd (omega arith)
+
+  answers : (p : Problem) (seed : List Float) → (r .fate ≡ Going → Held p seed r) → Blank r → Answers p seed r
+  answers p seed h b = record {
+    given = λ path e. let g = given-path path e in subst (λ (x : Path). Promised p seed x (r .runs)) (g .1) (h (g .0));
+    refused = b;
+  }
+
+module _ (p : Problem) (F : FitsP p) where
+  pub plan-from-answers : (duration : Float) (rates torques : List Float) (size : ℕ) → (Plans.planFrom p duration rates torques size .fate ≡ Going → Fit (Plans.seedOf (check p .problem) duration torques))
+      → Answers p (Plans.seedOf (check p .problem) duration torques) (Plans.planFrom p duration rates torques size)
+  plan-from-answers duration rates torques size G = answers (Plans.planFrom p duration rates torques size) p (Plans.seedOf (check p .problem) duration torques) (λ g. plan-from-promised p F duration rates torques size (G g) g) (plan-from-blank p duration rates torques size)
+
+  pub plan-answers : (size : ℕ) → Answers p (ownSeed (check p .problem)) (Plans.plan p size)
+  plan-answers size = answers (Plans.plan p size) p (ownSeed (check p .problem)) (plan-promised p F size) (plan-blank p size)

@@ -1,4 +1,4 @@
--- Demand 1 of the definitions: no path stands beside a refusal. Assumes nothing.
+-- Demand 1 of the definitions: beside a refusal, whose number, place and runs document 01's answer gives, no path stands. Assumes nothing.
 use mathlib.Core.Path.{_≡_, refl}
 use mathlib.Core.Bool.{Bool, true, false, cond, _&&_}
 use mathlib.Core.List.{List}
@@ -6,6 +6,8 @@ use Prim.Native.Nat.{ℕ}
 use native.Mathlib.Omega.{arith}
 use lib.Dec.{ltb}
 use lib.Ieee.{Float}
+use Rattle.common.specs.Answer.{Given}
+use Rattle.common.specs.Answer as Answers
 use Rattle.common.specs.declared.Fate.{Fate}
 use Rattle.common.specs.declared.Fate.the-variants.{Going, Refused}
 use Rattle.profile.specs.Seeds.{sampleSeed}
@@ -18,6 +20,7 @@ use Rattle.scvx.specs.Search.{search, room}
 use Rattle.scvx.specs.declared.Found.{Found}
 use Rattle.ends.specs.Ends.{endFate}
 use Rattle.planner.specs.Plans as Plans
+use Rattle.planner.specs.declared.Path.{Path}
 use Rattle.planner.specs.declared.Planned.{Planned}
 
 -- ---- what holds of every refusal and of every path holds of every answer
@@ -70,15 +73,22 @@ module _ (Q : Planned → Type 0) (no : (number place runs : ℕ) → Q (Plans.r
       go Going = profiled (Plans.profiled (check p .problem) .fate) (check p .problem) (Plans.profiled (check p .problem) .profile) size
       go (Refused n k) = no n k 0
 
--- ---- NO PATH beside a refusal
+-- ---- NO PATH beside a refusal: the answer is its number, place and runs, and the blank path
 abbrev pub Blank : Planned → Type 0
-Blank r = (number place : ℕ) → r .fate ≡ Refused number place → r .path ≡ Plans.blankPath
+Blank r = (number place runs : ℕ) → Plans.answer r ≡ Answers.Refused number place runs → r ≡ Plans.refused number place runs
 
-going-refused : {n k : ℕ} {A : Type 0} → Going ≡ Refused n k → A
-going-refused h = let z : _≡_ {A = ℕ} 0 1 = cc in absurd (omega arith)
+refused-blank : (number place runs : ℕ) → Blank (Plans.refused number place runs)
+refused-blank number place runs n k j e =
+    let a : number ≡ n = cc in
+    let b : place ≡ k = cc in
+    let c : runs ≡ j = cc in
+    rw (a, b, c) refl
+
+given-refused : {A : Type 0} {x : Path} {n k j : ℕ} → Given x ≡ Answers.Refused n k j → A
+given-refused h = let z : _≡_ {A = ℕ} 0 1 = cc in absurd (omega arith)
 
 pub plan-blank : (p : Problem) (size : ℕ) → Blank (Plans.plan p size)
-plan-blank = plan-is Blank (λ number place runs n k e. refl) (λ c f n k e. going-refused e)
+plan-blank = plan-is Blank refused-blank (λ c f n k j e. given-refused e)
 
 pub plan-from-blank : (p : Problem) (duration : Float) (rates torques : List Float) (size : ℕ) → Blank (Plans.planFrom p duration rates torques size)
-plan-from-blank = plan-from-is Blank (λ number place runs n k e. refl) (λ c f n k e. going-refused e)
+plan-from-blank = plan-from-is Blank refused-blank (λ c f n k j e. given-refused e)

@@ -7,7 +7,7 @@ ghost use lib.ListN.{length, replicate};
 ghost use Rattle.common.specs.declared.Fate.the-variants.{Going};
 ghost use Rattle.actuators.specs.Maps.{isSized, controlDim};
 ghost use Rattle.scvx.specs.Search as Search;
-ghost use Rattle.geom.specs.Vec.{zero};
+ghost use Rattle.geom.specs.Vec.{plusZero};
 ghost use Rattle.planner.specs.Plans as Plans;
 ghost use Rattle.planner.specs.Outcomes.{Outcome};
 ghost use Rattle.planner.specs.Promises as Promises;
@@ -15,10 +15,10 @@ ghost use Rattle.search_laws.specs.Decisions.{Fit};
 ghost use Rattle.problem.specs.Problems as Problems;
 use actuators::control_dim;
 use common::Fate;
-use dense::clear;
 use ends::end_checks;
 use forward::Node;
 use forward::runs::blank_node;
+use normal_equations::clear;
 use problem::CheckedProblem;
 use problem::Problem;
 use problem::check;
@@ -33,12 +33,14 @@ use scvx::search;
 use seeds::seed_decision;
 use seeds::served;
 
-// An answered path: its duration, controls of a row, wheels, iterations, the decision (past its numbers stands +0) and the 17 nodes. All zeros beside a refusal.
+// An answered path: its duration, controls of a row, wheels, iterations, the largest defect of its run, the decision (past its numbers stands +0) and the 17
+// nodes. All zeros beside a refusal.
 pub struct Path {
     pub duration: f64,
     pub controls: usize,
     pub wheels: usize,
     pub iterations: usize,
+    pub max_defect: f64,
     pub z: [f64; 193],
     pub nodes: [Node; 17],
 }
@@ -62,6 +64,7 @@ fn refused(number: usize, place: usize, runs: usize) -> Planned
         controls: 0,
         wheels: 0,
         iterations: 0,
+        max_defect: 0.0,
         z: z,
         nodes: nodes,
     };
@@ -85,6 +88,7 @@ fn path_of(p: CheckedProblem, found: Found) -> Path
         controls: control_dim(map),
         wheels: map.wheel_count,
         iterations: found.iterations,
+        max_defect: run.defect,
         z: z,
         nodes: nodes,
     }
@@ -122,7 +126,7 @@ fn answered(p: CheckedProblem, found: Found) -> Planned
 // The search from a seed's decision, the workspace cleared after it, and the answer.
 fn solve(p: CheckedProblem, seed: [f64; 193], ws: &mut [f64]) -> Planned
     requires { ⌜ (isSized (p .map) ≡ true) × ((controlDim (p .map) ≤ 12) × (Search.room p ≤ length (now ws))) ⌝ }
-    ensures { λ r. ⌜ (r ≡ Plans.answered p (Search.search p seed)) × ((now (ws .exit) ≡ replicate (length (now (ws .entry))) zero) × Fit seed) ⌝ }
+    ensures { λ r. ⌜ (r ≡ Plans.answered p (Search.search p seed)) × ((now (ws .exit) ≡ replicate (length (now (ws .entry))) plusZero) × Fit seed) ⌝ }
 {
     let found = search(p, seed, ws);
     clear(ws);
@@ -228,7 +232,7 @@ fn with_profile(p: CheckedProblem, ws: &mut [f64]) -> Planned
 
 // The plan of a problem from our own seed, on a lent workspace.
 pub fn plan(p: Problem, ws: &mut [f64]) -> Planned
-    ensures { λ r. ⌜ (r ≡ Plans.plan p (length (now (ws .entry)))) × ((now (ws .exit) ≡ Plans.leaves (r .runs) (now (ws .entry))) × (r .fate ≡ Going → Promises.Promised p (Promises.ownSeed (Problems.check p .problem)) r)) ⌝ }
+    ensures { λ r. ⌜ (r ≡ Plans.plan p (length (now (ws .entry)))) × ((now (ws .exit) ≡ Plans.leaves (r .runs) (now (ws .entry))) × Promises.Answers p (Promises.ownSeed (Problems.check p .problem)) r) ⌝ }
 {
     let checked = check(p);
     let fate = checked.fate;
@@ -249,7 +253,7 @@ pub fn plan_from(
     torques: &[f64],
     ws: &mut [f64],
 ) -> Planned
-    ensures { λ r. ⌜ (r ≡ Plans.planFrom p duration (now (rates .entry)) (now (torques .entry)) (length (now (ws .entry)))) × ((now (ws .exit) ≡ Plans.leaves (r .runs) (now (ws .entry))) × (r .fate ≡ Going → Promises.Promised p (Plans.seedOf (Problems.check p .problem) duration (now (torques .entry))) r)) ⌝ }
+    ensures { λ r. ⌜ (r ≡ Plans.planFrom p duration (now (rates .entry)) (now (torques .entry)) (length (now (ws .entry)))) × ((now (ws .exit) ≡ Plans.leaves (r .runs) (now (ws .entry))) × Promises.Answers p (Plans.seedOf (Problems.check p .problem) duration (now (torques .entry))) r) ⌝ }
 {
     let checked = check(p);
     let fate = checked.fate;

@@ -25,8 +25,8 @@ use Rattle.problem.specs.declared.CheckedProblem.{CheckedProblem}
 use Rattle.problem.specs.declared.Checked.{Checked}
 
 -- 0 and 1
-abbrev pub zero : Float
-zero = ofBits binary64 0
+abbrev pub plusZero : Float
+plusZero = ofBits binary64 0
 
 abbrev pub one : Float
 one = ofBits binary64 0x3ff0_0000_0000_0000
@@ -34,7 +34,7 @@ one = ofBits binary64 0x3ff0_0000_0000_0000
 -- ---- row 4 of the table
 -- finite and above 0
 abbrev pub isPositive : Float → Bool
-isPositive x = finite x && lt zero x
+isPositive x = finite x && lt plusZero x
 
 abbrev pub limitFits : Limit → Bool
 limitFits Nothing = true
@@ -42,14 +42,14 @@ limitFits (At x) = isPositive x
 
 -- finite and not below 0
 abbrev pub weightFits : Float → Bool
-weightFits x = finite x && not (lt x zero)
+weightFits x = finite x && not (lt x plusZero)
 
 unfoldable pub weightsFit : Weights → Bool
 weightsFit w = weightFits (w .time) && weightFits (w .control) && weightFits (w .energy) && weightFits (w .pointing) && weightFits (w .smoothness) && weightFits (w .momentum)
 
 -- strictly inside 0..1
 abbrev pub toleranceFits : Float → Bool
-toleranceFits x = lt zero x && lt x one
+toleranceFits x = lt plusZero x && lt x one
 
 abbrev pub limitsFit : List Float → Bool
 limitsFit limit = isPositive (at limit 0) && isPositive (at limit 1) && isPositive (at limit 2)
@@ -64,20 +64,20 @@ numbersFit p =
 
 -- ---- the checks, last first
 abbrev blankQ : Quat
-blankQ = record { w = zero; x = zero; y = zero; z = zero }
+blankQ = record { w = plusZero; x = plusZero; y = plusZero; z = plusZero }
 
 -- the problem of a refused check
 abbrev pub blankProblem : CheckedProblem
 blankProblem = record {
   q0 = blankQ;
   qf = blankQ;
-  inertia = replicate 9 zero;
-  inverse = replicate 9 zero;
-  «torque_limit» = replicate 3 zero;
+  inertia = replicate 9 plusZero;
+  inverse = replicate 9 plusZero;
+  «torque_limit» = replicate 3 plusZero;
   slew = Nothing;
-  weights = record { time = zero; control = zero; energy = zero; pointing = zero; smoothness = zero; momentum = zero };
-  «norm_tolerance» = zero;
-  «tie_tolerance» = zero;
+  weights = record { time = plusZero; control = plusZero; energy = plusZero; pointing = plusZero; smoothness = plusZero; momentum = plusZero };
+  «norm_tolerance» = plusZero;
+  «tie_tolerance» = plusZero;
   map = blankMap;
 }
 

@@ -17,7 +17,7 @@ use Rattle.angles.specs.Arcs.{acosOf}
 use Rattle.geom.specs.declared.Quat.{Quat}
 use Rattle.geom.specs.declared.Turned.{Turned}
 use Rattle.geom.specs.declared.Turned.the-variants as Turned
-use Rattle.geom.specs.Vec.{zero, zero3, half, one, two, minusOne, scale3, tensor, applyTensor, bodyEulerTorque}
+use Rattle.geom.specs.Vec.{plusZero, zero3, half, one, two, minusOne, scale3, tensor, applyTensor, bodyEulerTorque}
 use Rattle.geom.specs.Halves.{onBoth}
 use Rattle.geom.specs.Quats.{quat, dotQ, negateQ, conj, quatMul, norm3, part, least}
 use Rattle.geom.specs.Tensors.{flatten}
@@ -57,8 +57,8 @@ rate p t =
 unfoldable pub alphaSigned : Profile → Float → Float
 alphaSigned p t =
     cond (lt t (p .«t_acc»)) (p .alpha)
-    (cond (lt t (slows p)) zero
-    (cond (le t (p .duration)) (neg (p .alpha)) zero))
+    (cond (lt t (slows p)) plusZero
+    (cond (le t (p .duration)) (neg (p .alpha)) plusZero))
 
 -- the body rate
 abbrev pub omegaVec : Profile → Float → List Float
@@ -93,7 +93,7 @@ boxAlpha n l = boxTurn (boxTurn (boxTurn (ofBits binary64 0x7ff0_0000_0000_0000)
 
 -- an acceleration is finite and above 0
 unfoldable pub accelerationOf : Float → Acceleration
-accelerationOf a = cond (not (finite a) || le a zero) Acceleration.Not (Acceleration.Is a)
+accelerationOf a = cond (not (finite a) || le a plusZero) Acceleration.Not (Acceleration.Is a)
 
 -- the acceleration about an axis within the torque limits
 abbrev pub alphaFromBox : List (List Float) → List Float → List Float → Acceleration
@@ -103,18 +103,18 @@ alphaFromBox j axis limit = accelerationOf (boxAlpha (applyTensor j axis) limit)
 
 -- a coast is finite and not below 0
 unfoldable pub coasting : Float → Float → Float → Switches
-coasting acc coast limit = cond (not (finite coast) || lt coast zero) (Switches.Refused 7 2) (Switches.Are acc coast limit)
+coasting acc coast limit = cond (not (finite coast) || lt coast plusZero) (Switches.Refused 7 2) (Switches.Are acc coast limit)
 
 -- with a slew limit: without a coast where the top rate is within it
 unfoldable pub limited : Float → Float → Float → Float → Float → Switches
 limited theta alpha bang peak limit =
-    cond (not (finite limit) || le limit zero) (Switches.Refused 4 0)
-    (cond (le peak limit) (Switches.Are bang zero peak)
+    cond (not (finite limit) || le limit plusZero) (Switches.Refused 4 0)
+    (cond (le peak limit) (Switches.Are bang plusZero peak)
     (coasting (div binary64 limit alpha) (div binary64 (sub binary64 theta (div binary64 (mul binary64 limit limit) alpha)) limit) limit))
 
 -- with or without one
 abbrev pub switchBy : Float → Float → Float → Limit → Switches
-switchBy theta alpha bang Limit.Nothing = Switches.Are bang zero (mul binary64 alpha bang)
+switchBy theta alpha bang Limit.Nothing = Switches.Are bang plusZero (mul binary64 alpha bang)
 switchBy theta alpha bang (Limit.At limit) = limited theta alpha bang (mul binary64 alpha bang) limit
 
 -- the switch times of a turn by theta
@@ -126,15 +126,15 @@ switchTimes theta alpha slew = switchBy theta alpha (sqrt binary64 (div binary64
 -- the profile of all zeros, which stands beside a refusal
 abbrev pub blank : Profile
 blank = record {
-  theta = zero;
-  alpha = zero;
-  «t_acc» = zero;
-  «t_coast» = zero;
-  duration = zero;
-  «omega_peak» = zero;
+  theta = plusZero;
+  alpha = plusZero;
+  «t_acc» = plusZero;
+  «t_coast» = plusZero;
+  duration = plusZero;
+  «omega_peak» = plusZero;
   axis = zero3;
-  inertia = zero ∷ zero ∷ zero ∷ zero ∷ zero ∷ zero ∷ zero ∷ zero ∷ zero ∷ [];
-  q0 = quat zero zero zero zero;
+  inertia = plusZero ∷ plusZero ∷ plusZero ∷ plusZero ∷ plusZero ∷ plusZero ∷ plusZero ∷ plusZero ∷ plusZero ∷ [];
+  q0 = quat plusZero plusZero plusZero plusZero;
 }
 
 -- no profile: document 01's number and place
@@ -167,7 +167,7 @@ withAlpha q0 j axis theta slew (Acceleration.Is alpha) = withSwitches q0 j axis 
 -- with the angle, which has to be finite and above 0
 unfoldable pub withTheta : Quat → List (List Float) → List Float → Float → List Float → Limit → Profiled
 withTheta q0 j axis theta limit slew =
-    cond (not (finite theta) || le theta zero) (refused (Fate.Refused 7 0))
+    cond (not (finite theta) || le theta plusZero) (refused (Fate.Refused 7 0))
     (withAlpha q0 j axis theta slew (alphaFromBox j axis limit))
 
 -- the vector part of rel over its length n
@@ -179,7 +179,7 @@ abbrev pub withHalf : Quat → List (List Float) → List Float → List Float �
 withHalf q0 j axis limit slew Angle.Outside = refused (Fate.Refused 11 0)
 withHalf q0 j axis limit slew (Angle.Is a) = withTheta q0 j axis (mul binary64 two a) limit slew
 
--- with the relative attitude, whose vector part has length n and whose scalar part is d within -1 to 1: no zero angle, no half turn
+-- with the relative attitude, whose vector part has length n and whose scalar part is d within -1 to 1: no plusZero angle, no half turn
 unfoldable pub withRelative : Quat → List (List Float) → List Float → Limit → Float → Quat → Float → Float → Profiled
 withRelative q0 j limit slew tie rel n d =
     cond (lt n least) (refused (Fate.Refused 7 0))
@@ -188,7 +188,7 @@ withRelative q0 j limit slew tie rel n d =
 
 -- the attitude qf seen from q0, the shorter way round
 unfoldable pub relative : Quat → Quat → Quat
-relative q0 qf = quatMul (conj q0) (cond (lt (dotQ q0 qf) zero) (negateQ qf) qf)
+relative q0 qf = quatMul (conj q0) (cond (lt (dotQ q0 qf) plusZero) (negateQ qf) qf)
 
 -- the profile from q0 to qf
 unfoldable pub bangCoastBang : Quat → Quat → List (List Float) → List Float → Limit → Float → Profiled

@@ -93,13 +93,17 @@ endCheck number place =
     (cond (eqb number 18) (tell (bytes "Node ") place (bytes " of the path that was found is over the slew limit: raise it, or lower the torque limits.\n"))
     (tell (bytes "Node ") place (bytes " of the path that was found is over a wheel's momentum: raise it, or slew more slowly.\n"))))))
 
+-- refusals above 21, one line each, and the numbers that no refusal has
+unfoldable pub later : ℕ → ℕ → List ℕ
+later number place = bytes "No refusal has this number.\n"
+
 -- what a refusal means: what was wrong, with which item, and what to change
 unfoldable pub explain : ℕ → ℕ → List ℕ
 explain number place =
-    cond (eqb number 0) (bytes "No refusal has this number.\n")
+    cond (eqb number 0) (later number place)
     (cond (ltb number 11) (argument number place)
     (cond (ltb number 14) (run number place)
     (cond (ltb number 20) (endCheck number place)
     (cond (eqb number 20) (samples place)
     (cond (eqb number 21) (line place)
-    (bytes "No refusal has this number.\n"))))))
+    (later number place))))))

@@ -279,6 +279,13 @@ fn end_check(number: usize, place: usize, out: &mut [u8]) -> usize
     }
 }
 
+// Refusals above 21, an arm each, and the numbers that no refusal has.
+fn later(number: usize, place: usize, out: &mut [u8]) -> usize
+    ensures { λ r. ⌜ Puts (now (out .entry)) 0 (Sentences.later number place) 212 (now (out .exit)) r ⌝ }
+{
+    put_all(out, 0, b"No refusal has this number.\n")
+}
+
 // What a refusal means: what was wrong, with which item, and what to change.
 pub fn explain(number: usize, place: usize, out: &mut [u8]) -> usize
     ensures { λ r. ⌜ Puts (now (out .entry)) 0 (Sentences.explain number place) 212 (now (out .exit)) r ⌝ }
@@ -289,6 +296,6 @@ pub fn explain(number: usize, place: usize, out: &mut [u8]) -> usize
         14..=19 => end_check(number, place, out),
         20 => samples(place, out),
         21 => line(place, out),
-        _ => put_all(out, 0, b"No refusal has this number.\n"),
+        _ => later(number, place, out),
     }
 }

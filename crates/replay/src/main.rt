@@ -11,8 +11,11 @@ use libc::STDIN_FILENO;
 
 // Whether the port gives what is stored: the words that go in first, then those that come out.
 fn holds(number: u64, v: &[u64; 1024]) -> bool {
-    if number < 200 {
+    if number < 100 {
         return leaf_cases::holds(number, v);
+    }
+    if number < 200 {
+        return rig_cases::holds(number, v);
     }
     if number < 250 {
         return runs::holds(number, v);
@@ -29,12 +32,17 @@ fn group(number: u64) -> u64 {
     }
 }
 
-// One line more. A line that does not end where its words do is wrong.
+// One line more. A line that does not end where its words do is wrong. 0x1000 added to a function's number marks an answer that is stored wrong on purpose.
 fn turn(s: &[u8], c: Case, t: Tally) -> Tally {
     let mut words = [0u64; 1024];
     let n = read::words(s, c.next, c.count, &mut words);
-    let right = holds(c.number, &words) && read::stands_before(s, n, b'\n');
-    t.with(group(c.number), right, n)
+    let number = c.number % 0x1000;
+    let whole = read::stands_before(s, n, b'\n');
+    let same = holds(number, &words);
+    if c.number < 0x1000 {
+        return t.with(group(number), whole && same, n);
+    }
+    t.with_planted(whole && group(number) < 7 && !same, n)
 }
 
 // The line at the tally's place, if there is one; an empty line is passed over.

@@ -18,7 +18,8 @@ fn group(kind: u64) -> u64 {
     }
 }
 
-// A case with its head h and its words v. After a head that is wrong nothing of the block can be read: it counts as a case that differs.
+// A case with its head h and its words v. After a head that is wrong nothing of the block can be read: it counts as a case that differs. 16 added to a kind marks
+// an answer that is stored wrong on purpose.
 fn run_case(s: &[u8], h: Head, v: &[u64; 1024], t: Tally) -> Tally
     requires { ⌜ Heads.Ordered (length (now s)) h ⌝ }
 {
@@ -28,8 +29,12 @@ fn run_case(s: &[u8], h: Head, v: &[u64; 1024], t: Tally) -> Tally
     let text = h.text;
     let answer = h.answer;
     let end = h.end;
-    let right = answers::holds(h.kind, &s[text..answer], v, h.words, &s[answer..end]);
-    t.with(group(h.kind), right, end)
+    let kind = h.kind % 16;
+    let same = answers::holds(kind, &s[text..answer], v, h.words, &s[answer..end]);
+    if h.kind < 16 {
+        return t.with(group(kind), same, end);
+    }
+    t.with_planted(group(kind) < 7 && !same, end)
 }
 
 // The case at the tally's place, if there is one; a line feed is passed over.

@@ -37,7 +37,7 @@ put3 r i v = set (set (set r i (at v 0)) (i + 1) (at v 1)) (i + 2) (at v 2)
 
 -- an 11 in a residual has place 0; a refused run's number and place are handed on
 abbrev pub refusedResiduals : ℕ → ℕ → ResidualVector
-refusedResiduals n place = record { fate = Refused n place; count = 0; r = replicate 79 Vec.zero }
+refusedResiduals n place = record { fate = Refused n place; count = 0; r = replicate 79 Vec.plusZero }
 
 -- 400.0
 abbrev pub endScale : Float
@@ -45,7 +45,7 @@ endScale = ofBits binary64 0x4079_0000_0000_0000
 
 -- the first six: the attitude error at the end and the rate there
 unfoldable pub ends : List Float → List Float → List Float
-ends error rate = put3 (put3 (replicate 79 Vec.zero) 0 (Vec.scale3 error endScale)) 3 (Vec.scale3 rate endScale)
+ends error rate = put3 (put3 (replicate 79 Vec.plusZero) 0 (Vec.scale3 error endScale)) 3 (Vec.scale3 rate endScale)
 
 -- ---- the last five terms
 
@@ -120,7 +120,7 @@ withoutPointing t z ns r = record { fate = Going; count = 28; r = closing t z ns
 abbrev pub errorBy : Rotation → Target → List Float → List Node → ResidualVector
 errorBy Rotation.Outside t z ns = refusedResiduals 11 0
 errorBy (Rotation.By a b c) t z ns =
-    cond (lt Vec.zero (t .weights .pointing))
+    cond (lt Vec.plusZero (t .weights .pointing))
     (withPointing t z ns (ends (a ∷ b ∷ c ∷ []) (nodeAt ns 16 .w)))
     (withoutPointing t z ns (ends (a ∷ b ∷ c ∷ []) (nodeAt ns 16 .w)))
 

@@ -18,7 +18,7 @@ nodeAt ns k = getD ns k noNode
 
 -- the squares of the first n numbers of f
 abbrev pub squares : (ℕ → Float) → ℕ → Float
-squares f n = iter (λ (k : ℕ) (e : Float). add binary64 e (mul binary64 (f k) (f k))) Vec.zero n
+squares f n = iter (λ (k : ℕ) (e : Float). add binary64 e (mul binary64 (f k) (f k))) Vec.plusZero n
 
 -- the computed length of the first n numbers of r: document 01's residual length where r is the residuals
 unfoldable pub normSlice : List Float → ℕ → Float
@@ -37,7 +37,7 @@ energyTurn ns dt k e = energyOf (nodeAt ns k) dt e
 
 -- over the 16 steps
 unfoldable pub energy : List Node → Float → Float
-energy ns dt = iter (energyTurn ns dt) Vec.zero 16
+energy ns dt = iter (energyTurn ns dt) Vec.plusZero 16
 
 -- the length of the rate's change from w to w2 over a time dt
 abbrev pub change : List Float → List Float → Float → Float
@@ -52,4 +52,4 @@ smoothTurn ns dt k e = smoothOf (nodeAt ns k .w) (nodeAt ns (k + 1) .w) dt e
 
 -- over the 16 steps
 unfoldable pub smooth : List Node → Float → Float
-smooth ns dt = iter (smoothTurn ns dt) Vec.zero 16
+smooth ns dt = iter (smoothTurn ns dt) Vec.plusZero 16

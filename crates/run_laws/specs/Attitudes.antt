@@ -14,7 +14,7 @@ use Rattle.laws.specs.Unit.{Below1, unit-in}
 use Rattle.angles.specs.declared.Angle.{Angle}
 use Rattle.angles.specs.declared.Angle.the-variants as Angle
 use Rattle.angles.specs.Angles as Angles
-use Rattle.geom.specs.Vec.{dot3, half, one, zero}
+use Rattle.geom.specs.Vec.{dot3, half, one, plusZero}
 use Rattle.geom.specs.Quats.{quatMul, scaleQ, norm3, normQ, finiteQ, normalBy, normalized, tiny, expOf, expAt, expSo3}
 use Rattle.geom.specs.Halves.{onBoth}
 use Rattle.geom.specs.declared.Quat.{Quat}
@@ -87,9 +87,9 @@ module _ (tol : Float) (q r : Quat) where
   normalized-is h =
       let n = normQ q in
       outcomes (λ a. a ≡ Normal.Is r) (finiteQ q) _ _
-      (λ f k. outcomes (λ a. a ≡ Normal.Is r) (eq n zero || not (finite n)) _ _ (λ g l. not-is l)
+      (λ f k. outcomes (λ a. a ≡ Normal.Is r) (eq n plusZero || not (finite n)) _ _ (λ g l. not-is l)
       (λ g l. outcomes (λ a. a ≡ Normal.Is r) (lt tol (abs (sub binary64 n one))) _ _ (λ e m. not-is m)
-      (λ e m. record { fine = f; length-fine = second (eq n zero) (finite n) g; near = e; is = same-is (scaleQ q (div binary64 one n)) m }) l) k)
+      (λ e m. record { fine = f; length-fine = second (eq n plusZero) (finite n) g; near = e; is = same-is (scaleQ q (div binary64 one n)) m }) l) k)
       (λ f k. not-is k) h
 
 -- its parts are at most 2 ^ 56 in size

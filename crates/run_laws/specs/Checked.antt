@@ -59,7 +59,7 @@ pub record Ready (p : CheckedProblem) : Type 0 where
   pub map : MapOk (p .map)
 
 limit-of : (x : Float) → T (fits binary64 x) → T (Problems.isPositive x) → Limits.Limit x
-limit-of x g t = record { fit = g; fine = and-l (finite x) (lt Problems.zero x) t; over = and-r (finite x) (lt Problems.zero x) t }
+limit-of x g t = record { fit = g; fine = and-l (finite x) (lt Problems.plusZero x) t; over = and-r (finite x) (lt Problems.plusZero x) t }
 
 slew-of : (l : Limit) → SlewFits l → T (Problems.limitFits l) → SlewOk l
 slew-of Nothing g t = tt
@@ -90,7 +90,7 @@ module _ (p : Problem) (F : FitsP p) where
       record {
         limits = below-three (λ i. Limits.Limit (at (p .«torque_limit») i)) (limit-of _ (F .limit 0 (omega arith)) (and-l l0 l1 t0)) (limit-of _ (F .limit 1 (omega arith)) (and-r l0 l1 t0)) (limit-of _ (F .limit 2 (omega arith)) (and-r (l0 && l1) l2 t1));
         slew = slew-of (p .slew) (F .slew) (and-r f s t2);
-        tolerance = record { fit = F .tolerance; less = and-r (lt Problems.zero (p .«norm_tolerance»)) (lt (p .«norm_tolerance») Problems.one) (and-r (f && s && w) n t4) };
+        tolerance = record { fit = F .tolerance; less = and-r (lt Problems.plusZero (p .«norm_tolerance»)) (lt (p .«norm_tolerance») Problems.one) (and-r (f && s && w) n t4) };
       }
 
   module _ (m : ActuatorMap) (M : MapOk m) (N : Numbers) where

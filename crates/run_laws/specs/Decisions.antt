@@ -101,8 +101,8 @@ module _ (m : ActuatorMap) (M : MapOk m) (box : List Float) (L : (i : ℕ) → i
       go true = omega arith
       go false = omega arith
 
-  row-fits : (u : List Float) → length u ≡ c → T (Controls.fits (rigOf m) 0 (length u))
-  unfolding Controls.fits
+  row-fits : (u : List Float) → length u ≡ c → T (Controls.rowFits (rigOf m) 0 (length u))
+  unfolding Controls.rowFits
   row-fits u e =
       let d = dim-is in
       let n = narrower in
@@ -112,7 +112,7 @@ module _ (m : ActuatorMap) (M : MapOk m) (box : List Float) (L : (i : ℕ) → i
 
   row-is : (u : List Float) → length u ≡ c → projectControls m box u ≡ projected (rigOf m) (m .«wheel_torques») (m .«thruster_torques») box u
   unfolding projectControls
-  row-is u e = rw (is-true (Controls.fits (rigOf m) 0 (length u)) (row-fits u e)) refl
+  row-is u e = rw (is-true (Controls.rowFits (rigOf m) 0 (length u)) (row-fits u e)) refl
 
   row-long : (u : List Float) → length u ≡ c → length (projectControls m box u) ≡ c
   row-long u e = ap length (row-is u e) ∙ (projected-length (rigOf m) (m .«wheel_torques») (m .«thruster_torques») box u ∙ e)

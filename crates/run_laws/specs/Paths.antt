@@ -9,6 +9,7 @@ use lib.ListN.{getD}
 use lib.Ieee.{Float, binary64, fits}
 use lib.Ieee.Scale.{finite}
 use Rattle.common.specs.Lists.{at}
+use Rattle.laws.specs.Finite.{div-finite}
 use Rattle.common.specs.declared.Fate.{Fate}
 use Rattle.common.specs.declared.Fate.the-variants.{Going, Refused}
 use Rattle.actuators.specs.Maps.{isSized, isEmpty, controlDim, gimbals}
@@ -17,15 +18,18 @@ use Rattle.controls.specs.Parts.{width}
 use Rattle.problem.specs.Problems.{check, refused}
 use Rattle.problem.specs.declared.Problem.{Problem}
 use Rattle.problem.specs.declared.CheckedProblem.{CheckedProblem}
-use Rattle.forward.specs.Decisions.{rowOf, stepTime}
-use Rattle.forward.specs.Runs.{start, nodeOf, noNode, runFrom, bodyOf, runOf}
+use Rattle.forward.specs.Decisions.{rowOf, sixteen, stepTime}
+use Rattle.forward.specs.Runs.{startOf, nodeOf, noNode, runFrom, bodyOf, runOf}
 use Rattle.controls.specs.Operations.{rigOf}
+use Rattle.forward.specs.Steps.{Body}
 use Rattle.forward.specs.Operations.{admit, reconstructBy, reconstruct}
 use Rattle.forward.specs.declared.Node.{Node}
 use Rattle.forward.specs.declared.Run.{Run}
-use Rattle.run_laws.specs.Values.{goes}
+use Rattle.run_laws.specs.Values.{goes, Fine3}
 use Rattle.run_laws.specs.Torques.{at-slice}
-use Rattle.run_laws.specs.Runs.{NodeOk, start-ok, Flown, run-flown}
+use Rattle.run_laws.specs.Runs.{StateOk, NodeOk, rest-ok, start-ok, Flown, run-flown}
+use Rattle.run_laws.specs.Defects.{grounded}
+use Rattle.run_laws.specs.Times.{time-finite}
 use Rattle.run_laws.specs.Checked.{FitsP, Ready, check-ready}
 
 -- control i of row k of the decision z, c to a row
@@ -35,12 +39,17 @@ control c z k i = at z (1 + k * c + i)
 abbrev pub nodeAt : Run → ℕ → Node
 nodeAt r k = getD (r .nodes) k noNode
 
--- What a run with nodes is: finite controls, all 17 nodes in order, node 16 with node 15's torque, node 0 at the start.
+-- What a run with nodes is: a finite duration and finite controls, all 17 nodes in order at finite times, a finite body momentum at every node but the last, a
+-- largest defect that is neither a NaN nor minus infinity, node 16 with node 15's torque, node 0 at the start.
 pub record Path (p : CheckedProblem) (z : List Float) (r : Run) : Type 0 where
+  pub duration : T (finite (at z 0))
   pub controls : (k : ℕ) → k < 16 → (i : ℕ) → i < controlDim (p .map) → T (finite (control (controlDim (p .map)) z k i))
   pub nodes : (k : ℕ) → k < 17 → NodeOk (p .map .«wheel_count») (nodeAt r k)
+  pub times : (k : ℕ) → k < 17 → T (finite (nodeAt r k .t))
+  pub stored : (k : ℕ) → k < 16 → Fine3 (nodeAt r k .h)
+  pub defect : T (grounded (r .defect))
   pub repeats : nodeAt r 16 .tau ≡ nodeAt r 15 .tau
-  pub first : nodeAt r 0 ≡ nodeOf (stepTime z) 0 (start (p .q0)) (nodeAt r 0 .tau)
+  pub first : nodeAt r 0 ≡ nodeOf (stepTime z) 0 (startOf p) (nodeAt r 0 .tau)
 
 -- a control of the decision is one of the row that a step reads
 dim-width : (m : ActuatorMap) (i : ℕ) → i < controlDim m → i < width (rigOf m) (gimbals (m .cmgs))
@@ -64,14 +73,24 @@ at-row c z k i h = at-slice (1 + k * c) (1 + k * c + c) z i (under (1 + k * c) c
 pub run-path : (p : CheckedProblem) (z : List Float) → Ready p → ((i : ℕ) → T (fits binary64 (at z i))) → T (goes (runOf p z .fate)) → Path p z (runOf p z)
 unfolding runOf
 run-path p z R F t = record {
+  duration = div-finite binary64 (at z 0) sixteen (W .time);
   controls = λ k h i l. rw (← at-row (controlDim (p .map)) z k i l) (W .rows k h i (dim-width (p .map) i l));
   nodes = W .nodes;
+  times = λ k h. rw (W .times k h) (time-finite (at z 0) (F 0) (W .time) k (omega arith));
+  stored = W .stored;
+  defect = W .defect;
   repeats = W .repeats;
   first = W .first;
 }
   where
-    W : Flown (bodyOf p (stepTime z)) (controlDim (p .map)) z (start (p .q0)) (R .tolerance) F (start-ok (bodyOf p (stepTime z)) (p .q0) (R .q0) (R .map .wheels)) (runFrom (bodyOf p (stepTime z)) (controlDim (p .map)) z (start (p .q0)))
-    W = run-flown (bodyOf p (stepTime z)) (controlDim (p .map)) z (start (p .q0)) (R .tolerance) F (start-ok (bodyOf p (stepTime z)) (p .q0) (R .q0) (R .map .wheels)) t
+    b : Body
+    b = bodyOf p (stepTime z)
+
+    S : StateOk b (startOf p)
+    S = start-ok b _ _ (p .q0) _ (R .q0) (rest-ok (p .map .«wheel_count») (R .map .wheels))
+
+    W : Flown b (controlDim (p .map)) z (startOf p) (R .tolerance) F S (runFrom b (controlDim (p .map)) z (startOf p))
+    W = run-flown b (controlDim (p .map)) z (startOf p) (R .tolerance) F S t
 
 -- an admitted problem is a checked one
 admit-is : (p : Problem) → T (goes (admit p .fate)) → admit p ≡ check p

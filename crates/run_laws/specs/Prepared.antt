@@ -10,7 +10,7 @@ use Rattle.common.specs.declared.Fate.the-variants.{Going}
 use Rattle.laws.specs.Finite.{finite-number}
 use Rattle.laws.specs.Order.{held, not-most}
 use Rattle.laws.specs.Limits.{Limit}
-use Rattle.actuators.specs.Maps.{zero}
+use Rattle.actuators.specs.Maps.{plusZero}
 use Rattle.actuators.specs.Prepare as Prepare
 use Rattle.actuators.specs.Ready.{Sound, prepared}
 use Rattle.actuators.specs.declared.CmgPyramid.{CmgPyramid}
@@ -31,20 +31,20 @@ twice false t = t
 passed : (b : Bool) → b ≡ false → T (not b)
 passed b e = rw e tt
 
-zero-fits : T (fits binary64 zero)
+zero-fits : T (fits binary64 plusZero)
 unfolding fits ofBits
 zero-fits = tt
 
-zero-finite : T (finite zero)
+zero-finite : T (finite plusZero)
 unfolding ofBits
 zero-finite = tt
 
 inside : (x : Float) → T (fits binary64 x) → T (not (Prepare.outside x)) → Limit x
 unfolding Prepare.outside
 inside x g t =
-    let r = neither (not (finite x)) (le x zero) t in
+    let r = neither (not (finite x)) (le x plusZero) t in
     let f = twice (finite x) (r .0) in
-    record { fit = g; fine = f; over = not-most binary64 x zero (held g (finite-number x f)) (held zero-fits (finite-number zero zero-finite)) (r .1) }
+    record { fit = g; fine = f; over = not-most binary64 x plusZero (held g (finite-number x f)) (held zero-fits (finite-number plusZero zero-finite)) (r .1) }
 
 rate-inside : (y : CmgPyramid) → T (fits binary64 (y .«max_gimbal_rate_rad_s»)) → T (not (Prepare.pyramidOutside y)) → Limit (y .«max_gimbal_rate_rad_s»)
 unfolding Prepare.pyramidOutside

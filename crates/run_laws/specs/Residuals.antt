@@ -1,4 +1,4 @@
--- The residuals of a run with nodes are never refused: the turn that is left is three finite numbers at every node. Assumes nothing.
+-- The residuals of a run with nodes are never refused: the turn that is left is three finite numbers at every node. And how many there are. Assumes nothing.
 use mathlib.Core.Path.{_≡_, refl}
 use mathlib.Core.Bool.{Bool, true, false, cond}
 use mathlib.Core.List.{List}
@@ -69,7 +69,7 @@ module _ (g : Target) (z : List Float) (ns : List Node) (E : (k : ℕ) → k < 1
       either false x y f g = g
 
       by : (r : Rotation) → TurnIn r → T (goes (Residuals.errorBy r g z ns .fate))
-      by r A = rw (A .is) (either (lt Vec.zero (g .weights .pointing)) _ _ (with-goes _) (without-goes _))
+      by r A = rw (A .is) (either (lt Vec.plusZero (g .weights .pointing)) _ _ (with-goes _) (without-goes _))
 
 -- RESIDUALS: a decision whose run has nodes has residuals
 pub residuals-go : (p : CheckedProblem) (z : List Float) → Ready p → ((i : ℕ) → T (fits binary64 (at z i))) → T (goes (runOf p z .fate)) → T (goes (Residuals.residualsOf p z .fate))
@@ -79,3 +79,40 @@ residuals-go p z R F t = go (runOf p z .fate) refl
     go : (x : Fate) → runOf p z .fate ≡ x → T (goes (Residuals.ofRunBy x (Residuals.targetOf p) z (runOf p z .nodes) .fate))
     go Going q = nodes-go (Residuals.targetOf p) z (runOf p z .nodes) (left-in p z R F t)
     go (Refused i j) q = absurd (rw q at t)
+
+-- ---- how many there are
+module _ (g : Target) (z : List Float) (ns : List Node) where
+  close-count : (e : ResidualVector) (x : Fate) → e .fate ≡ x → T (goes (Residuals.closeBy x g z ns e .fate)) → Residuals.closeBy x g z ns e .count ≡ 79
+  close-count e Going q t = refl
+  close-count e (Refused i j) q t = absurd (rw q at t)
+
+  with-count : (r : List Float) → T (goes (Residuals.withPointing g z ns r .fate)) → Residuals.withPointing g z ns r .count ≡ 79
+  unfolding Residuals.withPointing
+  with-count r t =
+      let e = Residuals.pointed (Residuals.pointScale (g .weights)) ns (g .qf) r in
+      close-count e (e .fate) refl t
+
+  without-count : (r : List Float) → Residuals.withoutPointing g z ns r .count ≡ 28
+  unfolding Residuals.withoutPointing
+  without-count r = refl
+
+  nodes-count : T (goes (Residuals.ofNodes g z ns .fate)) → Residuals.ofNodes g z ns .count ≡ cond (lt Vec.plusZero (g .weights .pointing)) 79 28
+  unfolding Residuals.ofNodes
+  nodes-count t = by (Residuals.errorOf (Sums.nodeAt ns 16 .q) (g .qf)) t
+    where
+      either : (b : Bool) (x y : ResidualVector) → (T (goes (x .fate)) → x .count ≡ 79) → y .count ≡ 28 → T (goes (cond b x y .fate)) → cond b x y .count ≡ cond b 79 28
+      either true x y f h t = f t
+      either false x y f h t = h
+
+      by : (r : Rotation) → T (goes (Residuals.errorBy r g z ns .fate)) → Residuals.errorBy r g z ns .count ≡ cond (lt Vec.plusZero (g .weights .pointing)) 79 28
+      by Rotation.Outside t = absurd t
+      by (Rotation.By a b c) t = either (lt Vec.plusZero (g .weights .pointing)) _ _ (with-count _) (without-count _) t
+
+-- COUNT: residuals that are not refused are 28, or 79 with a pointing weight above 0
+pub residuals-count : (p : CheckedProblem) (z : List Float) → T (goes (Residuals.residualsOf p z .fate)) → Residuals.residualsOf p z .count ≡ cond (lt Vec.plusZero (p .weights .pointing)) 79 28
+unfolding Residuals.residualsOf Residuals.ofRun
+residuals-count p z t = go (runOf p z .fate) t
+  where
+    go : (x : Fate) → T (goes (Residuals.ofRunBy x (Residuals.targetOf p) z (runOf p z .nodes) .fate)) → Residuals.ofRunBy x (Residuals.targetOf p) z (runOf p z .nodes) .count ≡ cond (lt Vec.plusZero (p .weights .pointing)) 79 28
+    go Going t = nodes-count (Residuals.targetOf p) z (runOf p z .nodes) t
+    go (Refused i j) t = absurd t

@@ -6,7 +6,8 @@ use native.Mathlib.Omega.{arith}
 use lib.Dec.{T}
 use lib.ListN.{getD, set, length, take, drop, length-set, replicate, length-replicate, getD-replicate}
 use lib.Seq.{getD-set-same, getD-set-other, getD-drop}
-use lib.Ieee.{Float, nan, binary64, mul, fits, ofBits}
+use lib.IntN.{pos}
+use lib.Ieee.{Float, nan, binary64, mul, fits, ofInt, ofBits}
 use lib.Ieee.Fits.{add-fits, nan-fits}
 use lib.Ieee.Scale.{finite}
 use Rattle.common.specs.Iter.{iter}
@@ -23,6 +24,7 @@ use Rattle.geom.specs.declared.Quat.{Quat}
 use Rattle.actuators.specs.Maps.{gimbals}
 use Rattle.controls.specs.Parts.{width}
 use Rattle.forward.specs.Decisions.{rowOf}
+use Rattle.controls.specs.Parts as Parts
 use Rattle.forward.specs.Steps.{Body, wheelMomenta, bodyMomentum, rateDot, rateNext, step}
 use Rattle.forward.specs.Runs.{start, nodeOf, blankNode, noNode, Course, advance, courseBy, courseTurn, startCourse, course, ended, endBy, endOf, runFrom}
 use Rattle.forward.specs.declared.State.{State}
@@ -33,10 +35,11 @@ use Rattle.run_laws.specs.Values.{goes, Fine3, Fit3, FineN, FitN, HeldN,
 use Rattle.run_laws.specs.Attitudes.{normed-in, product-fits}
 use Rattle.run_laws.specs.Torques.{at-slice, axes-back, row-back, row-fits, wheel-control, momenta-length, momenta-at, momenta-after}
 use Rattle.run_laws.specs.Steps.{Once, step-goes}
+use Rattle.run_laws.specs.Defects.{grounded, max-grounded}
 
 -- past n wheels stands +0
 abbrev pub Spare : ℕ → List Float → Type 0
-Spare n hw = (i : ℕ) → n ≤ i → i < 8 → at hw i ≡ Vec.zero
+Spare n hw = (i : ℕ) → n ≤ i → i < 8 → at hw i ≡ Vec.plusZero
 
 -- A state on the way: a finite attitude of at most 2 ^ 56, finite rates, momenta that are no NaN; where the body's momentum is finite, so are the wheels'.
 pub record StateOk (b : Body) (s : State) : Type 0 where
@@ -58,29 +61,53 @@ pub record NodeOk (nw : ℕ) (n : Node) : Type 0 where
   pub hw : HeldN nw (n .hw)
   pub spare : Spare nw (n .hw)
 
-zero-fits : T (fits binary64 Vec.zero)
+-- the time of node k, k steps of dt
+abbrev pub timeOf : Float → ℕ → Float
+timeOf dt k = mul binary64 (ofInt binary64 (pos k)) dt
+
+zero-fits : T (fits binary64 Vec.plusZero)
 unfolding fits ofBits
 zero-fits = tt
 
-zero-finite : T (finite Vec.zero)
+zero-finite : T (finite Vec.plusZero)
 unfolding ofBits
 zero-finite = tt
 
--- the start of every run
-pub start-ok : (b : Body) (q0 : Quat) → WithinQ 56 q0 → b .rig .«wheel_count» ≤ 8 → StateOk b (start q0)
+zero-grounded : T (grounded Vec.plusZero)
+unfolding ofBits
+zero-grounded = tt
+
+-- momenta of nw wheels that a run may begin with
+pub record MomentaOk (nw : ℕ) (hw : List Float) : Type 0 where
+  pub long : nw ≤ length hw
+  pub held : HeldN nw hw
+  pub fine : FineN nw hw
+  pub spare : Spare nw hw
+
+-- wheels at +0
+pub rest-ok : (nw : ℕ) → nw ≤ 8 → MomentaOk nw (replicate 8 Vec.plusZero)
+rest-ok nw l = record {
+  long = rw (length-replicate 8 Vec.plusZero) l;
+  held = λ i h. rw (getD-replicate 8 i Vec.plusZero nan (below i h)) (held zero-fits (finite-number Vec.plusZero zero-finite));
+  fine = λ i h. rw (getD-replicate 8 i Vec.plusZero nan (below i h)) zero-finite;
+  spare = λ i h k. getD-replicate 8 i Vec.plusZero nan k;
+}
+  where
+    below : (i : ℕ) → i < nw → i < 8
+    below i h = omega (arith, l)
+
+-- the start of a run, whatever body momentum its wheels make
+pub start-ok : (b : Body) (axes : List Float) (n : ℕ) (q0 : Quat) (hw : List Float) → WithinQ 56 q0 → MomentaOk (b .rig .«wheel_count») hw → StateOk b (start axes n q0 hw)
 unfolding start
-start-ok b q0 Q l = record {
+start-ok b axes n q0 hw Q M = record {
   q = Q;
   w = (zero-finite, zero-finite, zero-finite);
   w-fits = (zero-fits, zero-fits, zero-fits);
-  long = rw (length-replicate 8 Vec.zero) l;
-  hw = λ i h. rw (getD-replicate 8 i Vec.zero nan (below i h)) (held zero-fits (finite-number Vec.zero zero-finite));
-  tie = λ t i h. rw (getD-replicate 8 i Vec.zero nan (below i h)) zero-finite;
-  spare = λ i h k. getD-replicate 8 i Vec.zero nan k;
+  long = M .long;
+  hw = M .held;
+  tie = λ t. M .fine;
+  spare = M .spare;
 }
-  where
-    below : (i : ℕ) → i < b .rig .«wheel_count» → i < 8
-    below i h = omega (arith, l)
 
 -- ---- one step
 module _ (b : Body) (u : List Float) (s : State) (g : Stepped) (B : Below1 (b .frame .tolerance)) (S : StateOk b s) (O : Once b u s g) where
@@ -108,7 +135,7 @@ module _ (b : Body) (u : List Float) (s : State) (g : Stepped) (B : Below1 (b .f
   momenta-spare i h k = momenta-after nw (s .hw) (slice 0 nw u) (b .frame .dt) i h ∙ S .spare i h k
 
   tied : (hw : List Float) → T (finite (at (bodyMomentum b hw) 0)) → FineN nw hw
-  unfolding bodyMomentum
+  unfolding bodyMomentum Parts.bodyMomentum
   tied hw t = axes-back (b .wheels) hw Vec.zero3 nw t
 
   rate-fits : (wd : List Float) → Fit3 (rateNext (s .w) wd (b .frame .dt))
@@ -163,7 +190,11 @@ module _ (b : Body) (n : ℕ) (z : List Float) (from : State) (B : Below1 (b .fr
   pub record Kept (k : ℕ) (x : Course) : Type 0 where
     pub state : StateOk b (x .s)
     pub nodes : (i : ℕ) → i < k → NodeOk wheels (nodeAt (x .nodes) i)
+    pub times : (i : ℕ) → i < k → nodeAt (x .nodes) i .t ≡ timeOf (b .frame .dt) i
+    pub stored : (i : ℕ) → i < k → Fine3 (nodeAt (x .nodes) i .h)
+    pub time : 0 < k → T (finite (b .frame .dt))
     pub rows : (i : ℕ) → i < k → FineN c (rowOf n z i)
+    pub defect : T (grounded (x .defect))
     pub long : length (x .nodes) ≡ 17
     pub begins : k ≡ 0 → x .s ≡ from
     pub first : 0 < k → nodeAt (x .nodes) 0 ≡ nodeOf (b .frame .dt) 0 from (nodeAt (x .nodes) 0 .tau)
@@ -173,7 +204,11 @@ module _ (b : Body) (n : ℕ) (z : List Float) (from : State) (B : Below1 (b .fr
   one-more k x l K t = record {
     state = next-ok b u (x .s) g B (K .state) O;
     nodes = below-next (λ i. NodeOk wheels (nodeAt ns i)) k (rw same (node-ok b u (x .s) g B (K .state) O k (λ i h. slice-fits (1 + k * n) (1 + k * n + n) z F i))) (λ i h. rw (other i (λ (e : i ≡ k). omega arith)) (K .nodes i h));
+    times = below-next (λ i. nodeAt ns i .t ≡ timeOf (b .frame .dt) i) k (ap (λ (y : Node). y .t) same ∙ (unfold nodeOf in refl)) (λ i h. rw (other i (λ (e : i ≡ k). omega arith)) (K .times i h));
+    stored = below-next (λ i. Fine3 (nodeAt ns i .h)) k (rw same (unfold nodeOf in O .h)) (λ i h. rw (other i (λ (e : i ≡ k). omega arith)) (K .stored i h));
+    time = λ h. O .dt;
     rows = below-next (λ i. FineN c (rowOf n z i)) k (row-fine b u (x .s) g B (K .state) O) (K .rows);
+    defect = max-grounded (x .defect) (g .defect) (K .defect);
     long = length-set (x .nodes) k node ∙ K .long;
     begins = λ e. absurd (never e);
     first = λ h. at-first k refl;
@@ -226,7 +261,11 @@ module _ (b : Body) (n : ℕ) (z : List Float) (from : State) (B : Below1 (b .fr
   keeps zero l t = record {
     state = S;
     nodes = below-none (λ i. NodeOk wheels (nodeAt (replicate 17 blankNode) i));
+    times = below-none (λ i. nodeAt (replicate 17 blankNode) i .t ≡ timeOf (b .frame .dt) i);
+    stored = below-none (λ i. Fine3 (nodeAt (replicate 17 blankNode) i .h));
+    time = λ h. absurd (none h);
     rows = below-none (λ i. FineN c (rowOf n z i));
+    defect = zero-grounded;
     long = length-replicate 17 blankNode;
     begins = λ e. refl;
     first = λ h. absurd (none h);
@@ -240,6 +279,12 @@ module _ (b : Body) (n : ℕ) (z : List Float) (from : State) (B : Below1 (b .fr
   pub record Flown (r : Run) : Type 0 where
     pub nodes : (i : ℕ) → i < 17 → NodeOk wheels (nodeAt (r .nodes) i)
     pub rows : (i : ℕ) → i < 16 → FineN c (rowOf n z i)
+    -- node i stands at i steps of a finite time
+    pub time : T (finite (b .frame .dt))
+    pub times : (i : ℕ) → i < 17 → nodeAt (r .nodes) i .t ≡ timeOf (b .frame .dt) i
+    -- the momentum stored at every node that a step begins from
+    pub stored : (i : ℕ) → i < 16 → Fine3 (nodeAt (r .nodes) i .h)
+    pub defect : T (grounded (r .defect))
     -- node 16 repeats node 15's torque
     pub repeats : nodeAt (r .nodes) 16 .tau ≡ nodeAt (r .nodes) 15 .tau
     -- node 0 is the start
@@ -250,6 +295,10 @@ module _ (b : Body) (n : ℕ) (z : List Float) (from : State) (B : Below1 (b .fr
   ended-ok x K = record {
     nodes = below-next (λ i. NodeOk wheels (nodeAt ns i)) 16 (rw same ok) (λ i h. rw (other i (λ (e : i ≡ 16). omega arith)) (K .nodes i h));
     rows = K .rows;
+    time = K .time (omega arith);
+    defect = K .defect;
+    times = below-next (λ i. nodeAt ns i .t ≡ timeOf (b .frame .dt) i) 16 (ap (λ (y : Node). y .t) same) (λ i h. rw (other i (λ (e : i ≡ 16). omega arith)) (K .times i h));
+    stored = λ i h. rw (other i (λ (e : i ≡ 16). omega arith)) (K .stored i h);
     repeats = ap (λ (y : Node). y .tau) same ∙ sym (ap (λ (y : Node). y .tau) (other 15 (λ (e : 15 ≡ 16). omega arith)));
     first = rw (other 0 (λ (e : 0 ≡ 16). omega arith)) (K .first (omega arith));
   }

@@ -21,7 +21,6 @@ use samples::nodes::refused;
 use samples::rows::rows;
 use samples::sample;
 use std::num::nearest_u64_to_f64;
-use text::read_problem;
 use text_writer::forms::state_of;
 
 pub mod lines;
@@ -96,7 +95,7 @@ fn unread(p: Problem, number: usize, place: usize) -> Course
 pub fn plan_course(text: &[u8], ws: &mut [f64]) -> Course
     ensures { λ r. ⌜ (r ≡ SampleTexts.planCourse (now (text .entry)) (length (now (ws .entry)))) × (now (ws .exit) ≡ Plans.leaves (r .runs) (now (ws .entry))) ⌝ }
 {
-    let read = read_problem(text);
+    let read = text_reader::read(text);
     let fate = read.fate;
     let p = read.problem;
     match fate {

@@ -5,7 +5,7 @@ use lib.ListN.{getD, set, replicate}
 use lib.Ieee.{Float}
 use Rattle.common.specs.Iter.{iter}
 use Rattle.common.specs.Lists.{at}
-use Rattle.geom.specs.Vec.{zero}
+use Rattle.geom.specs.Vec.{plusZero}
 use Rattle.forward.specs.Runs.{noNode}
 use Rattle.forward.specs.declared.Node.{Node}
 
@@ -25,4 +25,4 @@ rowTurn nodes k rows = set rows k (row (getD nodes k noNode))
 
 -- the 17 nodes' rows
 unfoldable pub rows : List Node → List (List Float)
-rows nodes = iter (rowTurn nodes) (replicate 17 (replicate 22 zero)) 17
+rows nodes = iter (rowTurn nodes) (replicate 17 (replicate 22 plusZero)) 17

@@ -25,7 +25,7 @@ use Rattle.samples.specs.declared.Sampled.{Sampled}
 abbrev pub refused : ℕ → ℕ → Sampled
 refused n place = record {
   fate = Fate.Refused n place;
-  sample = record { t = Vec.zero; q = quat Vec.zero Vec.zero Vec.zero Vec.zero; w = Vec.zero3; tau = Vec.zero3; h = Vec.zero3 };
+  sample = record { t = Vec.plusZero; q = quat Vec.plusZero Vec.plusZero Vec.plusZero Vec.plusZero; w = Vec.zero3; tau = Vec.zero3; h = Vec.zero3 };
 }
 
 abbrev pub given : PathSample → Sampled

@@ -12,10 +12,11 @@ use Rattle.common.specs.declared.Fate.the-variants.{Going, Refused}
 use Rattle.problem.specs.declared.CheckedProblem.{CheckedProblem}
 use Rattle.residuals.specs.Residuals.{residualsOf}
 use Rattle.residuals.specs.declared.ResidualVector.{ResidualVector}
-use Rattle.dense.specs.Tab.{tab, tab-same, length-tab}
-use Rattle.dense.specs.Normal.{slopes}
-use Rattle.dense.specs.Rows.{row, rows, row-same, row-other, rows-more, row-take, length-row, part-row}
+use Rattle.normal_equations.specs.Tab.{tab, tab-same, length-tab}
+use Rattle.normal_equations.specs.Normal.{slopes}
+use Rattle.normal_equations.specs.Rows.{row, rows, row-same, row-other, rows-more, row-take, length-row, length-row-put, part-row}
 use Rattle.scvx.specs.Search.{numbers, width, nudged, Columns, Formed, Broken, columnBy, columnOf, columnTurn, jacobian}
+use Rattle.scvx.specs.Stands.{columnLeft}
 
 -- the part that is lent for column c
 pub part-length : (m : ℕ) (v : List Float) (c : ℕ) → c * m + m ≤ length v → length (slice (c * m) (c * m + m) v) ≡ m
@@ -30,20 +31,26 @@ module _ (p : CheckedProblem) (m : ℕ) (z r0 : List Float) where
   unfolding iter tab
   front-none v = refl
 
-  module _ (c : ℕ) (v : List Float) {e : ResidualVector} (front : Front c v) (run : e ≡ residualsOf p (nudged p z c)) where
-    by-run : {j : Columns} → j ≡ columnOf m r0 c (rows c m v) e → j ≡ iter (columnTurn p m z r0) (Formed []) (c + 1)
-    by-run g = iter-next (columnTurn p m z r0) (Formed []) c (sym front) (g ∙ ap (λ (x : ResidualVector). columnOf m r0 c (rows c m v) x) run)
+  module _ (c : ℕ) (v : List Float) (front : Front c v) where
+    abbrev e : ResidualVector
+    e = residualsOf p (nudged p z c)
 
-    -- one column more; q is the part that comes back
-    pub front-next : (q : List Float) → c * m + m ≤ length v → e .fate ≡ Going → q ≡ slopes (length (slice (c * m) (c * m + m) v)) (e .r) r0 → Front (c + 1) (pasted v (c * m) (c * m + m) q)
+    by-run : {j : Columns} → j ≡ columnOf m r0 c (rows c m v) e → j ≡ iter (columnTurn p m z r0) (Formed []) (c + 1)
+    by-run g = iter-next (columnTurn p m z r0) (Formed []) c (sym front) g
+
+    -- one column more
+    pub front-next : {u : List Float} {f : Fate} → c * m + m ≤ length v → f ≡ e .fate → f ≡ Going → u ≡ columnLeft f v c m (slopes m (e .r) r0) → (length u ≡ length v) × Front (c + 1) u
     unfolding slopes
-    front-next q room f g =
-        let u : List Float = pasted v (c * m) (c * m + m) q in
-        let q-is : q ≡ slopes m (e .r) r0 = g ∙ ap (λ k. slopes k (e .r) r0) (part-length m v c room) in
-        let whole : length q ≡ m = ap length q-is ∙ length-tab m _ in
-        let same : rows c m u ≡ rows c m v = tab-same c (row m u) (row m v) (λ x l. row-other m v q c room whole x (λ b. omega arith)) in
-        sym (by-run (ap Formed (rows-more c m u ∙ ap (λ l. l ++ (row m u c ∷ [])) same ∙ ap (λ x. rows c m v ++ (x ∷ [])) (row-same m v q c room whole ∙ q-is))
-        ∙ sym (ap (λ (x : Fate). columnBy m r0 c (rows c m v) x (e .r)) f)))
+    front-next {u} room fate f g =
+        let q : List Float = slopes m (e .r) r0 in
+        let w : List Float = pasted v (c * m) (c * m + m) q in
+        let put : u ≡ w = g ∙ ap (λ (x : Fate). columnLeft x v c m q) f in
+        let whole : length q ≡ m = length-tab m _ in
+        let same : rows c m w ≡ rows c m v = tab-same c (row m w) (row m v) (λ x l. row-other m v q c room whole x (λ b. omega arith)) in
+        let next : Front (c + 1) w =
+        sym (by-run (ap Formed (rows-more c m w ∙ ap (λ l. l ++ (row m w c ∷ [])) same ∙ ap (λ x. rows c m v ++ (x ∷ [])) (row-same m v q c room whole))
+        ∙ sym (ap (λ (x : Fate). columnBy m r0 c (rows c m v) x (e .r)) (sym fate ∙ f)))) in
+        rw put (length-row-put m v q c room whole, next)
 
     -- a run that is refused ends the columns
     pub front-broken : {number place : ℕ} → m ≡ width p → c < numbers p → e .fate ≡ Refused number place → jacobian p z r0 ≡ Broken number place (c + 1)

@@ -12,27 +12,28 @@ use Rattle.common.specs.declared.Fate.the-variants as Fate
 use Rattle.problem.specs.declared.CheckedProblem.{CheckedProblem}
 use Rattle.residuals.specs.Residuals.{residualsOf}
 use Rattle.residuals.specs.declared.ResidualVector.{ResidualVector}
-use Rattle.dense.specs.Elimination.{Solution, Solved, Singular, dampedStep}
+use Rattle.elimination.specs.Elimination.{Solution, Solved, Singular, dampedStep}
 use Rattle.scvx.specs.declared.Status.{Status}
 use Rattle.scvx.specs.declared.Status.the-variants.{Going, Ended, Refused}
+use Rattle.scvx.specs.declared.Candidate.{Candidate}
 use Rattle.scvx.specs.declared.State.{State}
-use Rattle.scvx.specs.Search.{numbers, width, lengthOf, Columns, Formed, Broken, columnBy, columnTurn, nudged, jacobian, ran, ended, moved, damped, judged, weaker, stronger, triedBy, trialOf, tried, steppedBy, stepped, linearBy, linear, goal, improved, goingBy, begun, going, turnBy, turn}
+use Rattle.scvx.specs.Search.{numbers, width, lengthOf, measured, Columns, Formed, Broken, columnBy, columnTurn, nudged, jacobian, ran, ended, moved, damped, judged, weaker, stronger, triedBy, trialOf, tried, steppedBy, stepped, linearBy, linear, goal, improved, goingBy, begun, going, turnBy, turn}
 
 either : (b : Bool) (x y : State) {n : ℕ} → x .runs ≤ n → y .runs ≤ n → cond b x y .runs ≤ n
 either true x y h k = h
 either false x y h k = k
 
-judged-le : (s : State) (t : List Float) (x : Float) → judged s t x .runs ≤ s .runs
+judged-le : (s : State) (t : Candidate) → judged s t .runs ≤ s .runs
 unfolding judged
-judged-le s t x = either (lt x (s .best)) (moved s t x (weaker (s .lambda))) (damped s (stronger (s .lambda))) (le-refl (s .runs)) (le-refl (s .runs))
+judged-le s t = either (lt (t .residual) (s .candidate .residual)) (moved s t (weaker (s .lambda))) (damped s (stronger (s .lambda))) (le-refl (s .runs)) (le-refl (s .runs))
 
 tried-by : (p : CheckedProblem) (s : State) (t : List Float) (e : ResidualVector) (f : Fate) → triedBy p s t e f .runs ≤ s .runs
-tried-by p s t e Fate.Going = judged-le s t (lengthOf p e)
+tried-by p s t e Fate.Going = judged-le s (measured t (e .r) (width p))
 tried-by p s t e (Fate.Refused number place) = le-refl (s .runs)
 
 stepped-by : (p : CheckedProblem) (s : State) (x : Solution) → steppedBy p s x .runs ≤ s .runs + 1
 unfolding tried
-stepped-by p s (Solved d) = tried-by p (ran s 1) (trialOf p (s .z) d) (residualsOf p (trialOf p (s .z) d)) (residualsOf p (trialOf p (s .z) d) .fate)
+stepped-by p s (Solved d) = tried-by p (ran s 1) (trialOf p (s .candidate .z) d) (residualsOf p (trialOf p (s .candidate .z) d)) (residualsOf p (trialOf p (s .candidate .z) d) .fate)
 stepped-by p s Singular = omega arith
 
 -- the runs that a refusal in the Jacobian names
@@ -68,7 +69,7 @@ linear-by p s r (Broken number place runs) h = omega arith
 
 linear-le : (p : CheckedProblem) (s : State) (r : List Float) → linear p s r .runs ≤ s .runs + numbers p + 1
 unfolding linear
-linear-le p s r = linear-by p s r (jacobian p (s .z) r) (jacobian-le p (s .z) r)
+linear-le p s r = linear-by p s r (jacobian p (s .candidate .z) r) (jacobian-le p (s .candidate .z) r)
 
 going-by : (p : CheckedProblem) (s : State) (e : ResidualVector) (f : Fate) → goingBy p s e f .runs ≤ s .runs + numbers p + 1
 unfolding improved
@@ -78,7 +79,7 @@ going-by p s e (Fate.Refused number place) = omega arith
 -- an iteration: the decision's run, one a column, the trial's
 pub going-le : (p : CheckedProblem) (k : ℕ) (s : State) → going p k s .runs ≤ s .runs + (numbers p + 2)
 unfolding going
-going-le p k s = omega (arith, going-by p (begun k s) (residualsOf p (s .z)) (residualsOf p (s .z) .fate))
+going-le p k s = omega (arith, going-by p (begun k s) (residualsOf p (s .candidate .z)) (residualsOf p (s .candidate .z) .fate))
 
 turn-by : (p : CheckedProblem) (k : ℕ) (s : State) (f : Status) → turnBy p k s f .runs ≤ s .runs + (numbers p + 2)
 turn-by p k s Going = going-le p k s

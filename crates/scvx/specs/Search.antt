@@ -10,7 +10,7 @@ use Rattle.common.specs.declared.Fate.{Fate}
 use Rattle.common.specs.declared.Fate.the-variants as Fate
 use Rattle.float.specs.Ops.{min, max}
 use Rattle.actuators.specs.Maps.{controlDim}
-use Rattle.problem.specs.Problems.{zero}
+use Rattle.problem.specs.Problems.{plusZero}
 use Rattle.problem.specs.declared.CheckedProblem.{CheckedProblem}
 use Rattle.forward.specs.Decisions.{packedLen, unpack, projectDecision}
 use Rattle.forward.specs.Runs.{runOf, refusedRun}
@@ -18,10 +18,11 @@ use Rattle.forward.specs.declared.Run.{Run}
 use Rattle.residuals.specs.Sums.{normSlice}
 use Rattle.residuals.specs.Residuals.{residualsOf}
 use Rattle.residuals.specs.declared.ResidualVector.{ResidualVector}
-use Rattle.dense.specs.Normal.{slopes}
-use Rattle.dense.specs.Elimination.{Solution, Solved, Singular, dampedStep}
+use Rattle.normal_equations.specs.Normal.{slopes}
+use Rattle.elimination.specs.Elimination.{Solution, Solved, Singular, dampedStep}
 use Rattle.scvx.specs.declared.Status.{Status}
 use Rattle.scvx.specs.declared.Status.the-variants.{Going, Ended, Refused}
+use Rattle.scvx.specs.declared.Candidate.{Candidate}
 use Rattle.scvx.specs.declared.State.{State}
 use Rattle.scvx.specs.declared.Found.{Found}
 
@@ -31,7 +32,7 @@ numbers p = packedLen (controlDim (p .map))
 
 -- the residuals of a decision: 28, or 79 with a pointing weight above 0
 unfoldable pub width : CheckedProblem → ℕ
-width p = cond (lt zero (p .weights .pointing)) 79 28
+width p = cond (lt plusZero (p .weights .pointing)) 79 28
 
 -- the length of residuals, and a decision's residual length (document 01's term): that of its residuals after one run of the step law on it
 abbrev pub lengthOf : CheckedProblem → ResidualVector → Float
@@ -39,6 +40,14 @@ lengthOf p e = normSlice (e .r) (width p)
 
 abbrev pub residualLength : CheckedProblem → List Float → Float
 residualLength p z = lengthOf p (residualsOf p z)
+
+-- the decision z with its residual length, r being its residuals, of which m count
+abbrev pub measured : List Float → List Float → ℕ → Candidate
+measured z r m = record { z = z; residual = normSlice r m }
+
+-- a decision as a candidate: one run
+abbrev pub candidateOf : CheckedProblem → List Float → Candidate
+candidateOf p z = measured z (residualsOf p z .r) (width p)
 
 -- every decision but the seed's: the duration at least 1e-6, then within 0.001..10,000, each control held to its limit
 abbrev pub held : CheckedProblem → List Float → List Float
@@ -77,16 +86,16 @@ jacobian p z r0 = iter (columnTurn p (width p) z r0) (Formed []) (numbers p)
 
 -- ---- the parts of an iteration
 abbrev pub ran : State → ℕ → State
-ran s more = record { z = s .z; best = s .best; lambda = s .lambda; iterations = s .iterations; runs = s .runs + more; status = s .status }
+ran s more = record { candidate = s .candidate; lambda = s .lambda; iterations = s .iterations; runs = s .runs + more; status = s .status }
 
 abbrev pub ended : State → Status → State
-ended s f = record { z = s .z; best = s .best; lambda = s .lambda; iterations = s .iterations; runs = s .runs; status = f }
+ended s f = record { candidate = s .candidate; lambda = s .lambda; iterations = s .iterations; runs = s .runs; status = f }
 
 abbrev pub damped : State → Float → State
-damped s x = record { z = s .z; best = s .best; lambda = x; iterations = s .iterations; runs = s .runs; status = s .status }
+damped s x = record { candidate = s .candidate; lambda = x; iterations = s .iterations; runs = s .runs; status = s .status }
 
-abbrev pub moved : State → List Float → Float → Float → State
-moved s t x y = record { z = t; best = x; lambda = y; iterations = s .iterations; runs = s .runs; status = s .status }
+abbrev pub moved : State → Candidate → Float → State
+moved s t x = record { candidate = t; lambda = x; iterations = s .iterations; runs = s .runs; status = s .status }
 
 -- 1e6, the most of the damping factor
 abbrev pub strongest : Float
@@ -104,12 +113,12 @@ weaker x = max (mul binary64 x (ofBits binary64 0x3fd3_3333_3333_3333)) (ofBits 
 abbrev pub stronger : Float → Float
 stronger x = min (mul binary64 x (ofBits binary64 0x4010_0000_0000_0000)) strongest
 
--- a trial t of length x is taken where x is strictly smaller than the best
-unfoldable pub judged : State → List Float → Float → State
-judged s t x = cond (lt x (s .best)) (moved s t x (weaker (s .lambda))) (damped s (stronger (s .lambda)))
+-- a trial t is taken where its length is strictly smaller
+unfoldable pub judged : State → Candidate → State
+judged s t = cond (lt (t .residual) (s .candidate .residual)) (moved s t (weaker (s .lambda))) (damped s (stronger (s .lambda)))
 
 abbrev pub triedBy : CheckedProblem → State → List Float → ResidualVector → Fate → State
-triedBy p s t e Fate.Going = judged s t (lengthOf p e)
+triedBy p s t e Fate.Going = judged s (measured t (e .r) (width p))
 triedBy p s t e (Fate.Refused number place) = ended s (Refused number place)
 
 abbrev pub triedOf : CheckedProblem → State → List Float → ResidualVector → State
@@ -125,7 +134,7 @@ trialOf p z d = held p (iter (addTurn d) z (numbers p))
 
 -- the trial of a step d: one run
 unfoldable pub tried : CheckedProblem → State → List Float → State
-tried p s d = triedOf p (ran s 1) (trialOf p (s .z) d) (residualsOf p (trialOf p (s .z) d))
+tried p s d = triedOf p (ran s 1) (trialOf p (s .candidate .z) d) (residualsOf p (trialOf p (s .candidate .z) d))
 
 abbrev pub steppedBy : CheckedProblem → State → Solution → State
 steppedBy p s (Solved d) = tried p s d
@@ -141,7 +150,7 @@ linearBy p s r (Formed j) = stepped p (ran s (numbers p)) j r
 linearBy p s r (Broken number place runs) = ended (ran s runs) (Refused number place)
 
 unfoldable pub linear : CheckedProblem → State → List Float → State
-linear p s r = linearBy p s r (jacobian p (s .z) r)
+linear p s r = linearBy p s r (jacobian p (s .candidate .z) r)
 
 -- 0.005
 abbrev pub goal : Float
@@ -160,10 +169,10 @@ goingOf p s e = goingBy p s e (e .fate)
 
 -- iteration k + 1 begins with one run of the decision
 abbrev pub begun : ℕ → State → State
-begun k s = record { z = s .z; best = s .best; lambda = s .lambda; iterations = k + 1; runs = s .runs + 1; status = s .status }
+begun k s = record { candidate = s .candidate; lambda = s .lambda; iterations = k + 1; runs = s .runs + 1; status = s .status }
 
 unfoldable pub going : CheckedProblem → ℕ → State → State
-going p k s = goingOf p (begun k s) (residualsOf p (s .z))
+going p k s = goingOf p (begun k s) (residualsOf p (s .candidate .z))
 
 abbrev pub turnBy : CheckedProblem → ℕ → State → Status → State
 turnBy p k s Going = going p k s
@@ -184,7 +193,7 @@ abbrev pub firstDamping : Float
 firstDamping = ofBits binary64 0x3f84_7ae1_47ae_147b
 
 abbrev pub startOf : CheckedProblem → List Float → ResidualVector → State
-startOf p seed e = record { z = seed; best = lengthOf p e; lambda = firstDamping; iterations = 0; runs = 1; status = statusOf (e .fate) }
+startOf p seed e = record { candidate = measured seed (e .r) (width p); lambda = firstDamping; iterations = 0; runs = 1; status = statusOf (e .fate) }
 
 -- the seed's decision, its duration as it stands: one run
 unfoldable pub start : CheckedProblem → List Float → State
@@ -196,15 +205,15 @@ searched p seed = iter (turn p) (start p seed) 40
 
 -- a refusal: no decision
 abbrev pub none : ℕ → ℕ → ℕ → Found
-none number place runs = record { fate = Fate.Refused number place; runs = runs; iterations = 0; z = replicate 193 zero; run = refusedRun number place }
+none number place runs = record { fate = Fate.Refused number place; runs = runs; iterations = 0; z = replicate 193 plusZero; run = refusedRun number place }
 
 abbrev pub lastBy : State → Run → Fate → Found
-lastBy s run Fate.Going = record { fate = Fate.Going; runs = s .runs + 1; iterations = s .iterations; z = s .z; run = run }
+lastBy s run Fate.Going = record { fate = Fate.Going; runs = s .runs + 1; iterations = s .iterations; z = s .candidate .z; run = run }
 lastBy s run (Fate.Refused number place) = none number place (s .runs + 1)
 
 -- the run of the decision that is handed out, the last that is counted
 unfoldable pub last : CheckedProblem → State → Found
-last p s = lastBy s (runOf p (s .z)) (runOf p (s .z) .fate)
+last p s = lastBy s (runOf p (s .candidate .z)) (runOf p (s .candidate .z) .fate)
 
 abbrev pub closedBy : CheckedProblem → State → Status → Found
 closedBy p s Going = last p s

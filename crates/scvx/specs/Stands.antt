@@ -6,19 +6,22 @@ use mathlib.Core.List.{List}
 use native.Mathlib.Nat.{mul-add, mul-le-mul, le-refl}
 use native.Mathlib.Omega.{arith}
 use lib.Ieee.{Float, lt}
+use Rattle.common.specs.Lists.{pasted}
+use Rattle.common.specs.declared.Fate.{Fate}
 use Rattle.common.specs.declared.Fate.the-variants as Fate
 use Rattle.residuals.specs.declared.ResidualVector.{ResidualVector}
 use Rattle.actuators.specs.Maps.{controlDim, isSized}
-use Rattle.problem.specs.Problems.{zero}
+use Rattle.problem.specs.Problems.{plusZero}
 use Rattle.problem.specs.declared.CheckedProblem.{CheckedProblem}
 use Rattle.residuals.specs.Sums.{normSlice}
 use Rattle.residuals.specs.Residuals.{residualsOf}
 use Rattle.scvx.specs.declared.Status.the-variants.{Going}
+use Rattle.scvx.specs.declared.Candidate.{Candidate}
 use Rattle.scvx.specs.declared.State.{State}
 use Rattle.scvx.specs.declared.Progress.{Progress}
 use Rattle.scvx.specs.declared.Slopes.{Slopes}
 use Rattle.scvx.specs.declared.Slopes.the-variants as Slopes
-use Rattle.scvx.specs.Search.{numbers, width, room, Columns, Formed, Broken, jacobian, firstDamping}
+use Rattle.scvx.specs.Search.{numbers, width, measured, room, Columns, Formed, Broken, jacobian, firstDamping}
 
 -- ---- sizes
 
@@ -38,7 +41,7 @@ numbers-most p h = omega arith
 
 pub width-most : (p : CheckedProblem) → width p ≤ 79
 unfolding width
-width-most p = by (lt zero (p .weights .pointing))
+width-most p = by (lt plusZero (p .weights .pointing))
   where
     by : (b : Bool) → cond b 79 28 ≤ 79
     by true = omega arith
@@ -73,24 +76,29 @@ sizes-step {p} {n} {m} k s e = subst (λ x. Sizes p x m (x * m + x * x)) (sym e)
 
 -- ---- what is kept
 
+-- v with column c of m numbers; a refused run leaves it as it was
+abbrev pub columnLeft : Fate → List Float → ℕ → ℕ → List Float → List Float
+columnLeft Fate.Going v c m column = pasted v (c * m) (c * m + m) column
+columnLeft (Fate.Refused number place) v c m column = v
+
 -- the columns that the code leaves, or its refusal, as the definition has them
 abbrev pub columnsOf : Slopes → List (List Float) → Columns
 columnsOf Slopes.Filled j = Formed j
 columnsOf (Slopes.Broken number place runs) j = Broken number place runs
 
--- r is the residuals of the decision z, whose run goes on
-pub record Known (p : CheckedProblem) (z r : List Float) : Type 0 where
-  pub goes : residualsOf p z .fate ≡ Fate.Going
-  pub are : residualsOf p z .r ≡ r
+-- r is the residuals of the candidate's decision, whose run goes on, and its length is theirs
+pub record Known (p : CheckedProblem) (c : Candidate) (r : List Float) : Type 0 where
+  pub goes : residualsOf p (c .z) .fate ≡ Fate.Going
+  pub are : residualsOf p (c .z) .r ≡ r
+  pub long : c .residual ≡ normSlice r (width p)
 
--- of a decision z with its length and its residuals; where the columns are told to be there, j is its Jacobian
-pub record Standing (p : CheckedProblem) (z : List Float) (best : Float) (r : List Float) (columns : Bool) (j : List (List Float)) : Type 0 where
-  pub known : Known p z r
-  pub long : best ≡ normSlice r (width p)
-  pub formed : columns ≡ true → jacobian p z r ≡ Formed j
+-- of a candidate with its residuals; where the columns are told to be there, j is its Jacobian
+pub record Standing (p : CheckedProblem) (c : Candidate) (r : List Float) (columns : Bool) (j : List (List Float)) : Type 0 where
+  pub known : Known p c r
+  pub formed : columns ≡ true → jacobian p (c .z) r ≡ Formed j
 
 abbrev pub Holds : CheckedProblem → List (List Float) → Progress → Type 0
-Holds p j g = Standing p (g .state .z) (g .state .best) (g .r) (g .columns) j
+Holds p j g = Standing p (g .state .candidate) (g .r) (g .columns) j
 
 -- what holds of g holds of x, whatever columns the workspace has
 abbrev pub Keeps : CheckedProblem → Progress → Progress → Type 0
@@ -102,20 +110,20 @@ over g s = record { state = s; r = g .r; columns = g .columns }
 
 -- the seed, whose residuals are r, of which m count
 abbrev pub start : ℕ → List Float → List Float → Progress
-start m seed r = record { state = record { z = seed; best = normSlice r m; lambda = firstDamping; iterations = 0; runs = 1; status = Going }; r = r; columns = false }
+start m seed r = record { state = record { candidate = measured seed r m; lambda = firstDamping; iterations = 0; runs = 1; status = Going }; r = r; columns = false }
 
 -- ---- how it comes about and stays
 
-pub known-of : {p : CheckedProblem} {z : List Float} {e : ResidualVector} → e ≡ residualsOf p z → e .fate ≡ Fate.Going → Known p z (e .r)
-known-of {p} {z} {e} q g = record { goes = rw (← q) g; are = rw (← q) refl }
+pub known-of : {p : CheckedProblem} {z : List Float} {e : ResidualVector} {m : ℕ} → e ≡ residualsOf p z → e .fate ≡ Fate.Going → m ≡ width p → Known p (measured z (e .r) m) (e .r)
+known-of {p} {z} {e} q g em = record { goes = rw (← q) g; are = rw (← q) refl; long = ap (λ x. normSlice (e .r) x) em }
 
 -- a decision that was let in: its columns are not there
-pub stands-new : {p : CheckedProblem} {z r : List Float} {best : Float} {m : ℕ} {j : List (List Float)} → m ≡ width p → Known p z r → best ≡ normSlice r m → Standing p z best r false j
-stands-new {p} {z} {r} em k l = record { known = k; long = l ∙ ap (λ x. normSlice r x) em; formed = λ e. let z : _≡_ {A = ℕ} 0 1 = cc in absurd (omega arith) }
+pub stands-new : {p : CheckedProblem} {c : Candidate} {r : List Float} {j : List (List Float)} → Known p c r → Standing p c r false j
+stands-new k = record { known = k; formed = λ e. let z : _≡_ {A = ℕ} 0 1 = cc in absurd (omega arith) }
 
 -- its columns are formed, or a refusal left something else in their place
-pub stands-formed : {p : CheckedProblem} {z r : List Float} {best : Float} {columns : Bool} {j i : List (List Float)} → Standing p z best r columns j → jacobian p z r ≡ Formed i → Standing p z best r true i
-stands-formed h e = record { known = h .known; long = h .long; formed = λ b. e }
+pub stands-formed : {p : CheckedProblem} {c : Candidate} {r : List Float} {columns : Bool} {j i : List (List Float)} → Standing p c r columns j → jacobian p (c .z) r ≡ Formed i → Standing p c r true i
+stands-formed h e = record { known = h .known; formed = λ b. e }
 
-pub stands-broken : {p : CheckedProblem} {z r : List Float} {best : Float} {columns : Bool} {j i : List (List Float)} → Standing p z best r columns j → Standing p z best r false i
-stands-broken h = record { known = h .known; long = h .long; formed = λ e. let z : _≡_ {A = ℕ} 0 1 = cc in absurd (omega arith) }
+pub stands-broken : {p : CheckedProblem} {c : Candidate} {r : List Float} {columns : Bool} {j i : List (List Float)} → Standing p c r columns j → Standing p c r false i
+stands-broken h = stands-new (h .known)

@@ -15,10 +15,11 @@ use Rattle.forward.specs.Runs.{runOf}
 use Rattle.forward.specs.declared.Run.{Run}
 use Rattle.residuals.specs.Residuals.{residualsOf}
 use Rattle.residuals.specs.declared.ResidualVector.{ResidualVector}
-use Rattle.dense.specs.Rows.{rows}
-use Rattle.dense.specs.Elimination.{Solution, told, dampedStep}
+use Rattle.normal_equations.specs.Rows.{rows}
+use Rattle.elimination.specs.Elimination.{Solution, told, dampedStep}
 use Rattle.scvx.specs.declared.Status.{Status}
 use Rattle.scvx.specs.declared.Status.the-variants.{Going, Ended, Refused}
+use Rattle.scvx.specs.declared.Candidate.{Candidate}
 use Rattle.scvx.specs.declared.State.{State}
 use Rattle.scvx.specs.Search.{numbers, width, Columns, Formed, Broken, jacobian, ran, ended, damped, moved, stiffer, weaker, stronger, judged, tried, steppedBy, stepped, linearBy, linear, goal, improved, goingBy, begun, going, turnBy, turn, statusOf, startOf, start, searched, none, lastBy, last, closedBy, closed, search}
 use Rattle.scvx.specs.Stands.{Standing}
@@ -51,35 +52,35 @@ module _ (p : CheckedProblem) (s : State) (n m : ℕ) (j : List (List Float)) (r
   solved b d e h = sym (ap (λ (x : Bool). steppedBy p s (told x d)) h) ∙ by-told b d e
 
 -- ---- the verdict on a trial
-module _ (s : State) (t : List Float) {x y : Float} (e : y ≡ x) where
-  pub judged-taken : lt y (s .best) ≡ true → moved s t y (weaker (s .lambda)) ≡ judged s t x
+module _ (s : State) (t : Candidate) where
+  pub judged-taken : lt (t .residual) (s .candidate .residual) ≡ true → moved s t (weaker (s .lambda)) ≡ judged s t
   unfolding judged
-  judged-taken h = rw (← e) (sym (ap (λ b. cond b (moved s t y (weaker (s .lambda))) (damped s (stronger (s .lambda)))) h))
+  judged-taken h = sym (ap (λ b. cond b (moved s t (weaker (s .lambda))) (damped s (stronger (s .lambda)))) h)
 
-  pub judged-left : lt y (s .best) ≡ false → damped s (stronger (s .lambda)) ≡ judged s t x
+  pub judged-left : lt (t .residual) (s .candidate .residual) ≡ false → damped s (stronger (s .lambda)) ≡ judged s t
   unfolding judged
-  judged-left h = rw (← e) (sym (ap (λ b. cond b (moved s t y (weaker (s .lambda))) (damped s (stronger (s .lambda)))) h))
+  judged-left h = sym (ap (λ b. cond b (moved s t (weaker (s .lambda))) (damped s (stronger (s .lambda)))) h)
 
 -- ---- the columns
 module _ (p : CheckedProblem) (s : State) (r : List Float) where
-  pub linear-formed : {n : ℕ} {j : List (List Float)} → n ≡ numbers p → jacobian p (s .z) r ≡ Formed j → stepped p (ran s n) j r ≡ linear p s r
+  pub linear-formed : {n : ℕ} {j : List (List Float)} → n ≡ numbers p → jacobian p (s .candidate .z) r ≡ Formed j → stepped p (ran s n) j r ≡ linear p s r
   unfolding linear
   linear-formed {n} {j} en e = ap (λ k. stepped p (ran s k) j r) en ∙ sym (ap (λ (x : Columns). linearBy p s r x) e)
 
-  pub linear-broken : {number place runs : ℕ} → jacobian p (s .z) r ≡ Broken number place runs → ended (ran s runs) (Refused number place) ≡ linear p s r
+  pub linear-broken : {number place runs : ℕ} → jacobian p (s .candidate .z) r ≡ Broken number place runs → ended (ran s runs) (Refused number place) ≡ linear p s r
   unfolding linear
   linear-broken e = sym (ap (λ (x : Columns). linearBy p s r x) e)
 
 -- ---- an iteration whose decision's residuals are known
-module _ (p : CheckedProblem) (k : ℕ) (s : State) {r : List Float} {columns : Bool} {j : List (List Float)} (h : Standing p (s .z) (s .best) r columns j) where
-  by-length : going p k s ≡ cond (le (s .best) goal) (ended (begun k s) Ended) (linear p (begun k s) r)
+module _ (p : CheckedProblem) (k : ℕ) (s : State) {r : List Float} {columns : Bool} {j : List (List Float)} (h : Standing p (s .candidate) r columns j) where
+  by-length : going p k s ≡ cond (le (s .candidate .residual) goal) (ended (begun k s) Ended) (linear p (begun k s) r)
   unfolding going improved
-  by-length = ap (λ (f : Fate). goingBy p (begun k s) (residualsOf p (s .z)) f) (h .known .goes) ∙ rw (h .known .are, ← h .long)
+  by-length = ap (λ (f : Fate). goingBy p (begun k s) (residualsOf p (s .candidate .z)) f) (h .known .goes) ∙ rw (h .known .are, ← h .known .long)
 
-  pub going-ends : le (s .best) goal ≡ true → ended (begun k s) Ended ≡ going p k s
+  pub going-ends : le (s .candidate .residual) goal ≡ true → ended (begun k s) Ended ≡ going p k s
   going-ends e = sym (by-length ∙ ap (λ b. cond b (ended (begun k s) Ended) (linear p (begun k s) r)) e)
 
-  pub going-on : le (s .best) goal ≡ false → linear p (begun k s) r ≡ going p k s
+  pub going-on : le (s .candidate .residual) goal ≡ false → linear p (begun k s) r ≡ going p k s
   going-on e = sym (by-length ∙ ap (λ b. cond b (ended (begun k s) Ended) (linear p (begun k s) r)) e)
 
 -- ---- a turn, by the status
@@ -112,7 +113,7 @@ module _ (p : CheckedProblem) (s : State) where
   closed-refused h = sym (ap (λ (f : Status). closedBy p s f) h)
 
   -- the last run, by its fate
-  pub last-by : {x : Run} {f : Fate} → x ≡ runOf p (s .z) → x .fate ≡ f → lastBy s x f ≡ last p s
+  pub last-by : {x : Run} {f : Fate} → x ≡ runOf p (s .candidate .z) → x .fate ≡ f → lastBy s x f ≡ last p s
   unfolding last
   last-by {x} q h = sym (ap (λ (f : Fate). lastBy s x f) h) ∙ ap (λ (y : Run). lastBy s y (y .fate)) q
 

@@ -2,22 +2,21 @@
 // columns stand one after the other in the front of the workspace.
 ghost use mathlib.Core.Path.{_≡_};
 ghost use mathlib.Core.Bool.{true};
-ghost use Prim.Native.Nat.{_*_, _≤_, _<_};
+ghost use Prim.Native.Nat.{_+_, _*_, _≤_, _<_};
 ghost use lib.ListN.{length, take};
 ghost use Rattle.actuators.specs.Maps.{controlDim, isSized};
 ghost use Rattle.residuals.specs.Residuals.{residualsOf};
-ghost use Rattle.dense.specs.Normal.{slopes};
-ghost use Rattle.dense.specs.Rows.{rows};
+ghost use Rattle.normal_equations.specs.Normal.{slopes};
+ghost use Rattle.normal_equations.specs.Rows.{rows};
 ghost use Rattle.scvx.specs.Search as Search;
-ghost use Rattle.scvx.specs.Stands.{Sizes, columnsOf};
+ghost use Rattle.scvx.specs.Stands.{Sizes, columnLeft, columnsOf};
 use super::Slopes;
 use actuators::control_dim;
 use common::Fate;
-use dense::put_column;
 use forward::decisions::project_decision;
 use forward::decisions::unpack;
+use normal_equations::put_column;
 use problem::CheckedProblem;
-use residuals::ResidualVector;
 use residuals::terms::residuals_of;
 
 // The numbers of a decision.
@@ -47,22 +46,48 @@ pub fn held(p: CheckedProblem, z: [f64; 193]) -> [f64; 193]
     project_decision(map, limit, unpack(z))
 }
 
-// The residuals of the decision with number c moved by 1e-6.
-fn column(p: CheckedProblem, z: [f64; 193], c: usize) -> ResidualVector
-    requires { ⌜ (isSized (p .map) ≡ true) × ((controlDim (p .map) ≤ 12) × (c < 193)) ⌝ }
-    ensures { λ r. ⌜ r ≡ residualsOf p (Search.nudged p z c) ⌝ }
+// The decision with number c moved by 1e-6.
+fn nudged(p: CheckedProblem, z: [f64; 193], c: usize) -> [f64; 193]
+    requires { ⌜ (controlDim (p .map) ≤ 12) × (c < 193) ⌝ }
+    ensures { λ r. ⌜ r ≡ Search.nudged p z c ⌝ }
 {
     let mut plus = z;
     plus[c] = plus[c] + 1.0e-6;
-    residuals_of(p, held(p, plus))
+    held(p, plus)
 }
 
-// A column: the residuals rp of the moved decision against r0.
+// The residuals rp of the moved decision against r0.
 fn put_slopes(column: &mut [f64], rp: [f64; 79], r0: [f64; 79])
     requires { ⌜ length (now column) ≤ 79 ⌝ }
     ensures { λ _. ⌜ now (column .exit) ≡ slopes (length (now (column .entry))) rp r0 ⌝ }
 {
     put_column(column, &rp, &r0);
+}
+
+// Column c of m numbers, of the decision z, whose residuals are r0: the rest of v stays, and all of it where the column's run is refused.
+fn column(
+    p: CheckedProblem,
+    v: &mut [f64],
+    m: usize,
+    c: usize,
+    z: [f64; 193],
+    r0: [f64; 79],
+) -> Fate
+    requires { ⌜ (isSized (p .map) ≡ true) × ((controlDim (p .map) ≤ 12) × ((c < 193) × ((m ≤ 79) × (c * m + m ≤ length (now v))))) ⌝ }
+    ensures { λ r. ⌜ (r ≡ residualsOf p (Search.nudged p z c) .fate) × (now (v .exit) ≡ columnLeft r (now (v .entry)) c m (slopes m (residualsOf p (Search.nudged p z c) .r) r0)) ⌝ }
+{
+    let e = residuals_of(p, nudged(p, z, c));
+    let fate = e.fate;
+    match fate {
+        Fate::Refused(number, place) => Fate::Refused(number, place),
+        Fate::Going => {
+            let rp = e.r;
+            let at = c * m;
+            let end = at + m;
+            put_slopes(&mut v[at..end], rp, r0);
+            Fate::Going
+        }
+    }
 }
 
 // The n columns of m numbers at the decision z, whose residuals are r0, from the front of v on; a refused run ends them.
@@ -79,16 +104,11 @@ pub fn jacobian(
 {
     let mut c: usize = 0;
     while c < n {
-        let e = column(p, z, c);
-        let fate = e.fate;
+        let fate = column(p, v, m, c, z, r0);
         match fate {
             Fate::Refused(number, place) => return Slopes::Broken(number, place, c + 1),
             Fate::Going => {}
         }
-        let rp = e.r;
-        let at = c * m;
-        let end = at + m;
-        put_slopes(&mut v[at..end], rp, r0);
         c += 1;
     }
     Slopes::Filled

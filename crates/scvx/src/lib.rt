@@ -31,10 +31,15 @@ pub enum Status {
     Refused(usize, usize),
 }
 
-// The search after some iterations: the decision, its residual length, the damping factor, the iterations and the forward runs begun.
-pub struct State {
+// A decision with its residual length.
+pub struct Candidate {
     pub z: [f64; 193],
-    pub best: f64,
+    pub residual: f64,
+}
+
+// The search after some iterations: the decision that it stands at, the damping factor, the iterations and the forward runs begun.
+pub struct State {
+    pub candidate: Candidate,
     pub lambda: f64,
     pub iterations: usize,
     pub runs: usize,

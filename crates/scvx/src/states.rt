@@ -1,22 +1,34 @@
-// The parts of an iteration that only change a state's counts, factor or status.
+// A candidate made, and the parts of an iteration that only change a state.
 ghost use mathlib.Core.Path.{_≡_};
 ghost use Prim.Native.Nat.{_+_, _≤_, _<_};
 ghost use Rattle.scvx.specs.Search as Search;
 ghost use Rattle.scvx.specs.Stands as Stands;
+use super::Candidate;
 use super::Progress;
 use super::State;
 use super::Status;
+use residuals::sums::norm_slice;
+
+// The decision z, whose residuals are r, of which m count.
+pub fn measured(z: [f64; 193], r: [f64; 79], m: usize) -> Candidate
+    requires { ⌜ m ≤ 79 ⌝ }
+    ensures { λ x. ⌜ x ≡ Search.measured z r m ⌝ }
+{
+    Candidate {
+        z: z,
+        residual: norm_slice(&r, m),
+    }
+}
 
 // More runs begun.
 pub fn ran(s: State, more: usize) -> State
     requires { ⌜ s .runs + more ≤ 9000 ⌝ }
     ensures { λ r. ⌜ r ≡ Search.ran s more ⌝ }
 {
-    let z = s.z;
+    let candidate = s.candidate;
     let status = s.status;
     State {
-        z: z,
-        best: s.best,
+        candidate: candidate,
         lambda: s.lambda,
         iterations: s.iterations,
         runs: s.runs + more,
@@ -28,10 +40,9 @@ pub fn ran(s: State, more: usize) -> State
 pub fn ended(s: State, status: Status) -> State
     ensures { λ r. ⌜ r ≡ Search.ended s status ⌝ }
 {
-    let z = s.z;
+    let candidate = s.candidate;
     State {
-        z: z,
-        best: s.best,
+        candidate: candidate,
         lambda: s.lambda,
         iterations: s.iterations,
         runs: s.runs,
@@ -43,11 +54,10 @@ pub fn ended(s: State, status: Status) -> State
 pub fn damped(s: State, x: f64) -> State
     ensures { λ r. ⌜ r ≡ Search.damped s x ⌝ }
 {
-    let z = s.z;
+    let candidate = s.candidate;
     let status = s.status;
     State {
-        z: z,
-        best: s.best,
+        candidate: candidate,
         lambda: x,
         iterations: s.iterations,
         runs: s.runs,
@@ -55,15 +65,14 @@ pub fn damped(s: State, x: f64) -> State
     }
 }
 
-// The decision t of length x, with the damping factor y.
-pub fn moved(s: State, t: [f64; 193], x: f64, y: f64) -> State
-    ensures { λ r. ⌜ r ≡ Search.moved s t x y ⌝ }
+// The decision of t, with the damping factor x.
+pub fn moved(s: State, t: Candidate, x: f64) -> State
+    ensures { λ r. ⌜ r ≡ Search.moved s t x ⌝ }
 {
     let status = s.status;
     State {
-        z: t,
-        best: x,
-        lambda: y,
+        candidate: t,
+        lambda: x,
         iterations: s.iterations,
         runs: s.runs,
         status: status,
@@ -75,11 +84,10 @@ pub fn begun(k: usize, s: State) -> State
     requires { ⌜ (k < 40) × (s .runs < 9000) ⌝ }
     ensures { λ r. ⌜ r ≡ Search.begun k s ⌝ }
 {
-    let z = s.z;
+    let candidate = s.candidate;
     let status = s.status;
     State {
-        z: z,
-        best: s.best,
+        candidate: candidate,
         lambda: s.lambda,
         iterations: k + 1,
         runs: s.runs + 1,

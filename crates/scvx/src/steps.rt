@@ -6,11 +6,11 @@ ghost use lib.ListN.{length, take};
 ghost use Rattle.common.specs.Iter.{iter};
 ghost use Rattle.actuators.specs.Maps.{controlDim};
 ghost use Rattle.problem.specs.declared.CheckedProblem.{CheckedProblem};
-ghost use Rattle.residuals.specs.Sums.{normSlice};
-ghost use Rattle.dense.specs.Elimination.{told, dampedStep};
-ghost use Rattle.dense.specs.Rows.{rows};
+ghost use Rattle.elimination.specs.Elimination.{told, dampedStep};
+ghost use Rattle.normal_equations.specs.Rows.{rows};
 ghost use Rattle.scvx.specs.Search as Search;
 ghost use Rattle.scvx.specs.Stands.{Sizes, Known, Keeps, Holds};
+use super::Candidate;
 use super::Progress;
 use super::Slopes;
 use super::Status;
@@ -20,15 +20,15 @@ use super::columns::jacobian;
 use super::states::begun;
 use super::states::damped;
 use super::states::ended;
+use super::states::measured;
 use super::states::moved;
 use super::states::over;
 use super::states::ran;
 use common::Fate;
-use dense::damped_step;
+use elimination::damped_step;
 use float::max;
 use float::min;
 use problem::CheckedProblem;
-use residuals::sums::norm_slice;
 use residuals::terms::residuals_of;
 
 // The decision moved by the step d.
@@ -53,15 +53,14 @@ fn trial_of(p: CheckedProblem, z: [f64; 193], d: &[f64]) -> [f64; 193]
     held(p, apply_step(z, d))
 }
 
-// A trial t with the residuals r, of which m count: it is taken where it is strictly shorter.
-fn judged(g: Progress, t: [f64; 193], r: [f64; 79], m: usize) -> Progress
-    requires { ⌜ m ≤ 79 ⌝ }
-    ensures { λ x. ⌜ (x .state ≡ Search.judged (g .state) t (normSlice r m)) × ((p : CheckedProblem) → m ≡ Search.width p → Known p t r → Keeps p g x) ⌝ }
+// A trial t with the residuals r: it is taken where it is strictly shorter.
+fn judged(g: Progress, t: Candidate, r: [f64; 79]) -> Progress
+    ensures { λ x. ⌜ (x .state ≡ Search.judged (g .state) t) × ((p : CheckedProblem) → Known p t r → Keeps p g x) ⌝ }
 {
     let s = g.state;
-    let x = norm_slice(&r, m);
-    if x < s.best {
-        let next = moved(s, t, x, max(s.lambda * 0.3, 1.0e-8));
+    let c = s.candidate;
+    if t.residual < c.residual {
+        let next = moved(s, t, max(s.lambda * 0.3, 1.0e-8));
         return Progress {
             state: next,
             r: r,
@@ -77,7 +76,8 @@ fn tried(p: CheckedProblem, g: Progress, d: &[f64], m: usize) -> Progress
     ensures { λ x. ⌜ (x .state ≡ Search.tried p (g .state) (now (d .entry))) × Keeps p g x ⌝ }
 {
     let s = g.state;
-    let z = s.z;
+    let c = s.candidate;
+    let z = c.z;
     let t = trial_of(p, z, d);
     let e = residuals_of(p, t);
     let s1 = ran(s, 1);
@@ -86,7 +86,7 @@ fn tried(p: CheckedProblem, g: Progress, d: &[f64], m: usize) -> Progress
         Fate::Refused(number, place) => over(g, ended(s1, Status::Refused(number, place))),
         Fate::Going => {
             let r = e.r;
-            judged(over(g, s1), t, r, m)
+            judged(over(g, s1), measured(t, r, m), r)
         }
     }
 }
@@ -126,7 +126,8 @@ fn formed(p: CheckedProblem, ws: &mut [f64], n: usize, m: usize, g: Progress) ->
     ensures { λ x. ⌜ (x .state ≡ Search.linear p (g .state) (g .r)) × Holds p (rows n m (take (n * m) (now (ws .exit)))) x ⌝ }
 {
     let s = g.state;
-    let z = s.z;
+    let c = s.candidate;
+    let z = c.z;
     let r = g.r;
     let j = jacobian(p, ws, n, m, z, r);
     match j {
@@ -162,7 +163,7 @@ fn linear(p: CheckedProblem, ws: &mut [f64], n: usize, m: usize, g: Progress) ->
     formed(p, ws, n, m, g)
 }
 
-// Iteration k + 1 of a search that goes on. Its run of the decision is counted, and not made: the residuals are known, and `best` is their length.
+// Iteration k + 1 of a search that goes on. Its run of the decision is counted, and not made: the residuals are known, and the candidate has their length.
 pub fn going(
     p: CheckedProblem,
     ws: &mut [f64],
@@ -176,7 +177,8 @@ pub fn going(
 {
     let before = g.state;
     let s = begun(k, before);
-    if s.best <= 5.0e-3 {
+    let c = s.candidate;
+    if c.residual <= 5.0e-3 {
         return over(g, ended(s, Status::Ended));
     }
     linear(p, ws, n, m, over(g, s))

@@ -6,7 +6,7 @@ ghost use Prim.Native.Nat.{_*_, _≤_};
 ghost use lib.ListN.{length, take};
 ghost use Rattle.common.specs.Iter.{iter};
 ghost use Rattle.actuators.specs.Maps.{controlDim, isSized};
-ghost use Rattle.dense.specs.Rows.{rows};
+ghost use Rattle.normal_equations.specs.Rows.{rows};
 ghost use Rattle.scvx.specs.declared.Status.the-variants.{Going};
 ghost use Rattle.scvx.specs.Search as Search;
 ghost use Rattle.scvx.specs.Stands as Stands;
@@ -15,22 +15,21 @@ use super::Found;
 use super::Progress;
 use super::State;
 use super::Status;
+use super::states::measured;
 use super::steps::going;
 use common::Fate;
 use forward::runs::refused_run;
 use forward::runs::run_of;
 use problem::CheckedProblem;
-use residuals::sums::norm_slice;
 
 // The seed's decision, whose residuals r are known: one run.
 pub fn start(m: usize, seed: [f64; 193], r: [f64; 79]) -> Progress
     requires { ⌜ m ≤ 79 ⌝ }
     ensures { λ g. ⌜ g ≡ Stands.start m seed r ⌝ }
 {
-    let best = norm_slice(&r, m);
+    let candidate = measured(seed, r, m);
     let state = State {
-        z: seed,
-        best: best,
+        candidate: candidate,
         lambda: 1.0e-2,
         iterations: 0,
         runs: 1,
@@ -83,7 +82,8 @@ fn last(p: CheckedProblem, s: State) -> Found
     requires { ⌜ (isSized (p .map) ≡ true) × ((controlDim (p .map) ≤ 12) × (s .runs ≤ 8500)) ⌝ }
     ensures { λ r. ⌜ r ≡ Search.last p s ⌝ }
 {
-    let z = s.z;
+    let c = s.candidate;
+    let z = c.z;
     let run = run_of(p, z);
     let fate = run.fate;
     match fate {

@@ -6,6 +6,7 @@ use native.Mathlib.Omega.{arith}
 use lib.Dec.{T}
 use lib.ListN.{length}
 use lib.Ieee.{Float, binary64, le, fits, ofBits}
+use lib.Ieee.Scale.{finite}
 use Rattle.common.specs.Lists.{at}
 use Rattle.common.specs.declared.Fate.{Fate}
 use Rattle.common.specs.declared.Fate.the-variants.{Going, Refused}
@@ -23,17 +24,20 @@ use Rattle.forward.specs.Decisions.{packedLen}
 use Rattle.forward.specs.Runs.{runOf}
 use Rattle.forward.specs.declared.Run.{Run}
 use Rattle.residuals.specs.Sums.{nodeAt}
-use Rattle.residuals.specs.Residuals.{errorOf}
-use Rattle.scvx.specs.Search.{search, searched}
+use Rattle.residuals.specs.Residuals.{errorOf, residualsOf}
+use Rattle.scvx.specs.Search.{search, searched, residualLength}
 use Rattle.ends.specs.Ends as Ends
 use Rattle.run_laws.specs.Values.{goes}
 use Rattle.run_laws.specs.Checked.{Ready}
+use Rattle.run_laws.specs.Defects.{grounded-finite}
 use Rattle.run_laws.specs.Runs.{Spare}
 use Rattle.run_laws.specs.Paths.{Path, control, run-path}
 use Rattle.run_laws.specs.Errors.{TurnIn, error-in, length-test}
 use Rattle.run_laws.specs.Bounds.{torque-under, momentum-under}
 use Rattle.run_laws.specs.Decisions.{Projected, control-small}
+use Rattle.run_laws.specs.Residuals.{residuals-go}
 use Rattle.search_laws.specs.Keeps.{search-gone}
+use Rattle.search_laws.specs.Begun.{seed-measured}
 use Rattle.search_laws.specs.Better.{Better, searched-better}
 use Rattle.search_laws.specs.Decisions.{Sound, searched-sound}
 use Rattle.search_laws.specs.Ends.{Checked, ends-checked}
@@ -56,10 +60,16 @@ pub record Answered (p : CheckedProblem) (seed : List Float) (z : List Float) (r
   -- the torques and the wheels' momenta of all 17 nodes against their limits, as exact numbers
   pub torques : (k : ℕ) → k < 17 → (i : ℕ) → i < 3 → Under (at (nodeAt (run .nodes) k .tau) i) (at (p .«torque_limit») i)
   pub momenta : (k : ℕ) → k < 17 → (i : ℕ) → i < p .map .«wheel_count» → Under (at (nodeAt (run .nodes) k .hw) i) (at (p .map .«wheel_momenta») i)
+  -- what is finite in its numbers and nodes
+  pub path : Path p z run
+  pub defect : T (finite (run .defect))
   -- past the wheels stands +0
   pub spare : (k : ℕ) → k < 17 → Spare (p .map .«wheel_count») (nodeAt (run .nodes) k .hw)
   -- it is the seed's decision, or of a smaller residual length
-  pub better : Better p seed z
+  pub better : Better (residualLength p) seed z
+  -- the residuals of both are there
+  pub measured : T (goes (residualsOf p z .fate))
+  pub seed-measured : T (goes (residualsOf p seed .fate))
   -- past its numbers stands what the seed's has there
   pub sound : Sound p seed z
 
@@ -72,7 +82,7 @@ end-held = held (unfold fits ofBits in tt) (unfold ofBits in tt)
 
 module _ (p : CheckedProblem) (R : Ready p) (seed : List Float) (long : packedLen (controlDim (p .map)) ≤ length seed) (P : Projected (p .map) (p .«torque_limit») seed) where
   -- over the decision and the run
-  module _ (z : List Float) (S : Sound p seed z) (B : Better p seed z) (t : T (goes (runOf p z .fate))) (e : T (goes (Ends.endFate p (runOf p z)))) where
+  module _ (z : List Float) (S : Sound p seed z) (B : Better (residualLength p) seed z) (N : T (goes (residualsOf p seed .fate))) (t : T (goes (runOf p z .fate))) (e : T (goes (Ends.endFate p (runOf p z)))) where
     path : Path p z (runOf p z)
     path = run-path p z R (S .projected .fit) t
 
@@ -92,8 +102,12 @@ module _ (p : CheckedProblem) (R : Ready p) (seed : List Float) (long : packedLe
       rate-small = length-test (nodeAt (runOf p z .nodes) 16 .w) (path .nodes 16 (omega arith) .w) Ends.tolerance end-held (checked .rate);
       torques = λ k h. let n = path .nodes k h in torque-under (nodeAt (runOf p z .nodes) k .tau) (p .«torque_limit») (n .tau) (n .tau-fits) (R .limits) (checked .nodes k h .torque);
       momenta = λ k h. let n = path .nodes k h in momentum-under (p .map .«wheel_momenta») (p .map .«wheel_count») (nodeAt (runOf p z .nodes) k .hw) (n .hw) (R .map .momenta) (checked .nodes k h .momentum);
+      path = path;
+      defect = grounded-finite (runOf p z .defect) Ends.defectTolerance (unfold ofBits in tt) (path .defect) (checked .defect);
       spare = λ k h. path .nodes k h .spare;
       better = B;
+      measured = residuals-go p z R (S .projected .fit) t;
+      seed-measured = N;
       sound = S;
     }
 
@@ -101,4 +115,4 @@ module _ (p : CheckedProblem) (R : Ready p) (seed : List Float) (long : packedLe
   pub answered : T (goes (search p seed .fate)) → T (goes (Ends.endFate p (search p seed .run))) → Answered p seed (search p seed .z) (search p seed .run)
   answered t e =
       let G = search-gone p seed t in
-      rw (G .z, G .run) (answers (searched p seed .z) (searched-sound p R seed long P) (searched-better p seed) (G .went) (rw (G .run) at e))
+      rw (G .z, G .run) (answers (searched p seed .candidate .z) (searched-sound p R seed long P) (searched-better p seed) (seed-measured p seed t) (G .went) (rw (G .run) at e))

@@ -20,14 +20,14 @@ use Rattle.search_laws.specs.Keeps.{Kept, searched-keeps}
 some-kept : (p : CheckedProblem) → Kept p (λ s. 1 ≤ s .runs)
 some-kept p = record { ran = λ s n q. omega arith; ended = λ s f q. q; damped = λ s x q. q; begun = λ k s q. omega arith; moved = λ s d y q h. q }
 
-last-some : (s : State) (p : CheckedProblem) (e : Fate) → 1 ≤ Search.lastBy s (runOf p (s .z)) e .runs
+last-some : (s : State) (p : CheckedProblem) (e : Fate) → 1 ≤ Search.lastBy s (runOf p (s .candidate .z)) e .runs
 last-some s p Fate.Going = omega arith
 last-some s p (Fate.Refused number place) = omega arith
 
 closed-some : (p : CheckedProblem) (s : State) (f : Status) → 1 ≤ s .runs → 1 ≤ Search.closedBy p s f .runs
 unfolding Search.last
-closed-some p s Going h = last-some s p (runOf p (s .z) .fate)
-closed-some p s Ended h = last-some s p (runOf p (s .z) .fate)
+closed-some p s Going h = last-some s p (runOf p (s .candidate .z) .fate)
+closed-some p s Ended h = last-some s p (runOf p (s .candidate .z) .fate)
 closed-some p s (Refused number place) h = h
 
 -- A RUN begins in every search
@@ -37,14 +37,14 @@ runs-least p seed = closed-some p (Search.searched p seed) (Search.searched p se
 
 -- ---- at most
 module _ (p : CheckedProblem) where
-  last-most : (s : State) (e : Fate) → Search.lastBy s (runOf p (s .z)) e .runs ≤ s .runs + 1
+  last-most : (s : State) (e : Fate) → Search.lastBy s (runOf p (s .candidate .z)) e .runs ≤ s .runs + 1
   last-most s Fate.Going = le-refl (s .runs + 1)
   last-most s (Fate.Refused number place) = le-refl (s .runs + 1)
 
   closed-most : (s : State) (f : Status) → Search.closedBy p s f .runs ≤ s .runs + 1
   unfolding Search.last
-  closed-most s Going = last-most s (runOf p (s .z) .fate)
-  closed-most s Ended = last-most s (runOf p (s .z) .fate)
+  closed-most s Going = last-most s (runOf p (s .candidate .z) .fate)
+  closed-most s Ended = last-most s (runOf p (s .candidate .z) .fate)
   closed-most s (Refused number place) = omega arith
 
   searched-most : (seed : List Float) → Search.searched p seed .runs ≤ 1 + 40 * (Search.numbers p + 2)

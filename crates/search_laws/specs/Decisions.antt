@@ -117,9 +117,9 @@ module _ (p : CheckedProblem) (R : Ready p) (seed : List Float) (long : packedLe
       long2 : size ≤ length z2
       long2 = rw (length-set z1 0 x, A .tail .long, S .tail .long) long
 
-  sound-kept : Kept p (λ s. Sound p seed (s .z))
-  sound-kept = record { ran = λ s n q. q; ended = λ s f q. q; damped = λ s x q. q; begun = λ k s q. q; moved = λ s d y q h. trial-sound (s .z) d q }
+  sound-kept : Kept p (λ s. Sound p seed (s .candidate .z))
+  sound-kept = record { ran = λ s n q. q; ended = λ s f q. q; damped = λ s x q. q; begun = λ k s q. q; moved = λ s d y q h. trial-sound (s .candidate .z) d q }
 
   -- SOUND: the decision of every search from a projected seed
-  pub searched-sound : Projected (p .map) (p .«torque_limit») seed → Sound p seed (Search.searched p seed .z)
-  searched-sound P = searched-keeps p (λ s. Sound p seed (s .z)) sound-kept seed (unfold Search.start in record { projected = P; tail = tail-same size seed })
+  pub searched-sound : Projected (p .map) (p .«torque_limit») seed → Sound p seed (Search.searched p seed .candidate .z)
+  searched-sound P = searched-keeps p (λ s. Sound p seed (s .candidate .z)) sound-kept seed (unfold Search.start in record { projected = P; tail = tail-same size seed })

@@ -12,7 +12,7 @@ use Rattle.problem.specs.declared.CheckedProblem.{CheckedProblem}
 use Rattle.forward.specs.Runs.{runOf}
 use Rattle.residuals.specs.Residuals.{residualsOf}
 use Rattle.residuals.specs.declared.ResidualVector.{ResidualVector}
-use Rattle.dense.specs.Elimination.{Solution, Solved, Singular, dampedStep}
+use Rattle.elimination.specs.Elimination.{Solution, Solved, Singular, dampedStep}
 use Rattle.scvx.specs.Search as Search
 use Rattle.scvx.specs.Search.{Columns, Formed, Broken}
 use Rattle.scvx.specs.declared.Status.{Status}
@@ -27,26 +27,26 @@ pub record Kept (p : CheckedProblem) (Q : State → Type 0) : Type 0 where
   pub ended : (s : State) (f : Status) → Q s → Q (Search.ended s f)
   pub damped : (s : State) (x : Float) → Q s → Q (Search.damped s x)
   pub begun : (k : ℕ) (s : State) → Q s → Q (Search.begun k s)
-  pub moved : (s : State) (d : List Float) (y : Float) → Q s → T (lt (Search.residualLength p (Search.trialOf p (s .z) d)) (s .best))
-      → Q (Search.moved s (Search.trialOf p (s .z) d) (Search.residualLength p (Search.trialOf p (s .z) d)) y)
+  pub moved : (s : State) (d : List Float) (y : Float) → Q s → T (lt (Search.residualLength p (Search.trialOf p (s .candidate .z) d)) (s .candidate .residual))
+      → Q (Search.moved s (Search.candidateOf p (Search.trialOf p (s .candidate .z) d)) y)
 
 module _ (p : CheckedProblem) (Q : State → Type 0) (K : Kept p Q) where
-  judge : (s : State) (d : List Float) (y u : Float) (b : Bool) → (T b → T (lt (Search.residualLength p (Search.trialOf p (s .z) d)) (s .best))) → Q s
-      → Q (cond b (Search.moved s (Search.trialOf p (s .z) d) (Search.residualLength p (Search.trialOf p (s .z) d)) y) (Search.damped s u))
+  judge : (s : State) (d : List Float) (y u : Float) (b : Bool) → (T b → T (lt (Search.residualLength p (Search.trialOf p (s .candidate .z) d)) (s .candidate .residual))) → Q s
+      → Q (cond b (Search.moved s (Search.candidateOf p (Search.trialOf p (s .candidate .z) d)) y) (Search.damped s u))
   judge s d y u true h q = K .moved s d y q (h tt)
   judge s d y u false h q = K .damped s u q
 
-  judged-keeps : (s : State) (d : List Float) → Q s → Q (Search.judged s (Search.trialOf p (s .z) d) (Search.residualLength p (Search.trialOf p (s .z) d)))
+  judged-keeps : (s : State) (d : List Float) → Q s → Q (Search.judged s (Search.candidateOf p (Search.trialOf p (s .candidate .z) d)))
   unfolding Search.judged
-  judged-keeps s d q = judge s d _ _ (lt (Search.residualLength p (Search.trialOf p (s .z) d)) (s .best)) (λ h. h) q
+  judged-keeps s d q = judge s d _ _ (lt (Search.residualLength p (Search.trialOf p (s .candidate .z) d)) (s .candidate .residual)) (λ h. h) q
 
-  triedBy-keeps : (s : State) (d : List Float) (f : Fate) → Q s → Q (Search.triedBy p s (Search.trialOf p (s .z) d) (residualsOf p (Search.trialOf p (s .z) d)) f)
+  triedBy-keeps : (s : State) (d : List Float) (f : Fate) → Q s → Q (Search.triedBy p s (Search.trialOf p (s .candidate .z) d) (residualsOf p (Search.trialOf p (s .candidate .z) d)) f)
   triedBy-keeps s d Fate.Going q = judged-keeps s d q
   triedBy-keeps s d (Fate.Refused number place) q = K .ended s (Refused number place) q
 
   tried-keeps : (s : State) (d : List Float) → Q s → Q (Search.tried p s d)
   unfolding Search.tried
-  tried-keeps s d q = triedBy-keeps (Search.ran s 1) d (residualsOf p (Search.trialOf p (s .z) d) .fate) (K .ran s 1 q)
+  tried-keeps s d q = triedBy-keeps (Search.ran s 1) d (residualsOf p (Search.trialOf p (s .candidate .z) d) .fate) (K .ran s 1 q)
 
   steppedBy-keeps : (s : State) (x : Solution) → Q s → Q (Search.steppedBy p s x)
   steppedBy-keeps s (Solved d) q = tried-keeps s d q
@@ -62,7 +62,7 @@ module _ (p : CheckedProblem) (Q : State → Type 0) (K : Kept p Q) where
 
   linear-keeps : (s : State) (r : List Float) → Q s → Q (Search.linear p s r)
   unfolding Search.linear
-  linear-keeps s r q = linearBy-keeps s r (Search.jacobian p (s .z) r) q
+  linear-keeps s r q = linearBy-keeps s r (Search.jacobian p (s .candidate .z) r) q
 
   either : (b : Bool) (x y : State) → Q x → Q y → Q (cond b x y)
   either true x y h k = h
@@ -78,7 +78,7 @@ module _ (p : CheckedProblem) (Q : State → Type 0) (K : Kept p Q) where
 
   turnBy-keeps : (k : ℕ) (s : State) (f : Status) → Q s → Q (Search.turnBy p k s f)
   unfolding Search.going
-  turnBy-keeps k s Going q = goingBy-keeps (Search.begun k s) (residualsOf p (s .z)) (residualsOf p (s .z) .fate) (K .begun k s q)
+  turnBy-keeps k s Going q = goingBy-keeps (Search.begun k s) (residualsOf p (s .candidate .z)) (residualsOf p (s .candidate .z) .fate) (K .begun k s q)
   turnBy-keeps k s Ended q = q
   turnBy-keeps k s (Refused number place) q = q
 
@@ -94,20 +94,20 @@ module _ (p : CheckedProblem) (Q : State → Type 0) (K : Kept p Q) where
 
 -- ---- what the search answers, from the state that it ends in: one run more, of the decision, and that run goes on
 pub record Gone (p : CheckedProblem) (s : State) (f : Found) : Type 0 where
-  pub z : f .z ≡ s .z
+  pub z : f .z ≡ s .candidate .z
   pub runs : f .runs ≡ s .runs + 1
-  pub run : f .run ≡ runOf p (s .z)
-  pub went : T (goes (runOf p (s .z) .fate))
+  pub run : f .run ≡ runOf p (s .candidate .z)
+  pub went : T (goes (runOf p (s .candidate .z) .fate))
 
 module _ (p : CheckedProblem) (s : State) where
-  last-gone : (e : Fate) → runOf p (s .z) .fate ≡ e → T (goes (Search.lastBy s (runOf p (s .z)) e .fate)) → Gone p s (Search.lastBy s (runOf p (s .z)) e)
+  last-gone : (e : Fate) → runOf p (s .candidate .z) .fate ≡ e → T (goes (Search.lastBy s (runOf p (s .candidate .z)) e .fate)) → Gone p s (Search.lastBy s (runOf p (s .candidate .z)) e)
   last-gone Fate.Going h t = record { z = refl; runs = refl; run = refl; went = rw h tt }
   last-gone (Fate.Refused number place) h t = absurd t
 
   closed-gone : (f : Status) → T (goes (Search.closedBy p s f .fate)) → Gone p s (Search.closedBy p s f)
   unfolding Search.last
-  closed-gone Going t = last-gone (runOf p (s .z) .fate) refl t
-  closed-gone Ended t = last-gone (runOf p (s .z) .fate) refl t
+  closed-gone Going t = last-gone (runOf p (s .candidate .z) .fate) refl t
+  closed-gone Ended t = last-gone (runOf p (s .candidate .z) .fate) refl t
   closed-gone (Refused number place) t = absurd t
 
 pub search-gone : (p : CheckedProblem) (seed : List Float) → T (goes (Search.search p seed .fate)) → Gone p (Search.searched p seed) (Search.search p seed)

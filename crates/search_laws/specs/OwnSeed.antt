@@ -59,7 +59,7 @@ module _ (q0 : Quat) (j : List (List Float)) (limit : List Float) (slew : Limit)
 
   angled : (axis : List Float) (theta : Float) → Timed (Profiles.withTheta q0 j axis theta limit slew)
   unfolding Profiles.withTheta
-  angled axis theta = either (not (finite theta) || le theta Vec.zero) _ _ zero-fits (accelerated axis theta (Profiles.alphaFromBox j axis limit))
+  angled axis theta = either (not (finite theta) || le theta Vec.plusZero) _ _ zero-fits (accelerated axis theta (Profiles.alphaFromBox j axis limit))
 
   halved : (axis : List Float) (a : Angle) → Timed (Profiles.withHalf q0 j axis limit slew a)
   halved axis Angle.Outside = zero-fits

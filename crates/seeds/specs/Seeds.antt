@@ -30,7 +30,7 @@ allocateTurn m torques k z = pasted z (1 + k * controlDim m) (1 + k * controlDim
 
 -- the duration as it stands and the 16 rows, past which stands +0; torque 16 is not read
 unfoldable pub allocated : ActuatorMap → Float → List Float → List Float
-allocated m duration torques = iter (allocateTurn m torques) (set (replicate 193 Vec.zero) 0 duration) 16
+allocated m duration torques = iter (allocateTurn m torques) (set (replicate 193 Vec.plusZero) 0 duration) 16
 
 -- each control of the rows held to its limit
 unfoldable pub seedDecision : ActuatorMap → List Float → Float → List Float → List Float

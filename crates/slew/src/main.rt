@@ -1,29 +1,4 @@
-// Plans the problem whose text stands on standard input: the answer goes to standard output and, where it is refused, a sentence to standard error.
-use common::Fate;
-use libc::STDERR_FILENO;
-use libc::STDIN_FILENO;
-use libc::STDOUT_FILENO;
-use plan_text::plan_text;
-use refusal_text::explain;
-
-// What a refusal means, in a sentence.
-fn say(number: usize, place: usize) {
-    let mut sentence = [0u8; 256];
-    let n = explain(number, place, &mut sentence);
-    io::write_all(STDERR_FILENO, &sentence[..n]);
-}
-
-// A text longer than 4,096 bytes is refused, so one byte more is all that is looked at.
+// Plans the problem whose text stands on standard input (crates/programs/src/plans.rt).
 fn main() {
-    let mut text = [0u8; 4097];
-    let length = io::read_full(STDIN_FILENO, &mut text);
-    let mut ws = [0.0; 8000];
-    let mut out = [0u8; 16384];
-    let told = plan_text(&text[..length], &mut ws, &mut out);
-    let bytes = told.bytes;
-    io::write_all(STDOUT_FILENO, &out[..bytes]);
-    let fate = told.fate;
-    if let Fate::Refused(number, place) = fate {
-        say(number, place);
-    }
+    programs::plans::run();
 }

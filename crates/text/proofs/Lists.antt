@@ -2,21 +2,22 @@
 use Prim.Native.Nat.{ℕ, _+_, _≤_}
 use native.Mathlib.Omega.{arith}
 use mathlib.Core.Path.{_≡_, refl}
-use mathlib.Core.List.{List}
+use mathlib.Core.List.{List, [], _∷_}
 use mathlib.Core.Bool.{Bool, true, false}
+use borrow.Author.Tests.{le-ltb}
 use lib.Dec.{ltb, eqb}
 use lib.ListN.{length}
 use Rattle.common.specs.Iter.{iter, iter-stays}
 use Rattle.common.specs.declared.Fate.the-variants.{Going}
 use Rattle.actuators.specs.declared.Actuators.{Actuators}
 use Rattle.actuators.specs.Maps.{noActuators}
-use Rattle.text.specs.declared.lines.Row.{Row}
 use Rattle.text.specs.declared.listing.Item.{Item}
 use Rattle.text.specs.declared.listing.Listing.{Listing}
+use Rattle.text.specs.declared.Found.{Found}
 use Rattle.text.specs.Bytes.{bytes}
-use Rattle.text.specs.Lines.{isAt, lineAt, limitLineAt}
+use Rattle.text.specs.Lines.{isAt, LineForm}
 use Rattle.text.specs.Listing.{pickActuators, pickListing, withWheel, withThruster, withPyramid, withItem, wrongLine, endAt, closeAt, nextLine, firstLine, turn, listAt, itemAt}
-use Rattle.text.specs.Reader.{line1, line2, line3, line4, line5, line6, line7, line8, firstWrong, fieldsOf}
+use Rattle.text.specs.Reader.{headForms, nothing, nextLine as lineNext, linesFrom, linesAt}
 
 -- ---- counts: a line adds at most one to each
 
@@ -90,26 +91,24 @@ turn-goes s k c d h e = simp h e
 
 module _ (s : List ℕ) (at : ℕ) (c₀ c : Listing) (k : ℕ) (f : c₀ ≡ firstLine s at) (e : c ≡ iter (turn s) c₀ k) where
   -- a list that is closed, or wrong, is the answer
-  pub list-early : k ≤ length s → c .unclosed ≡ false → c ≡ listAt s at
+  pub list-early : length s ≤ 4096 → k ≤ length s → c .unclosed ≡ false → c ≡ listAt s at
   unfolding listAt
-  list-early l h = rw (← f) (iter-stays (turn s) c₀ k (length s) l e (λ j. simp h))
+  list-early m l h = simp (le-ltb 4096 (length s) m) (rw (← f) (iter-stays (turn s) c₀ k (length s) l e (λ j. simp h)))
 
-  pub list-whole : k ≡ length s → c ≡ listAt s at
+  pub list-whole : length s ≤ 4096 → k ≡ length s → c ≡ listAt s at
   unfolding listAt
-  list-whole l = rw (← f, ← l) e
+  list-whole m l = simp (le-ltb 4096 (length s) m) (rw (← f, ← l) e)
 
--- ---- the first eight lines
+-- ---- the lines before the list, one after another
 
-pub fields-is : (s : List ℕ) (r1 r2 r3 r4 r5 r6 r7 r8 : Row) (place : ℕ)
-    → r1 ≡ lineAt s 0 (bytes "(problem") 0 (bytes "\n")
-    → r2 ≡ lineAt s (r1 .at) (bytes " (q0") 4 (bytes ")\n")
-    → r3 ≡ lineAt s (r2 .at) (bytes " (qf") 4 (bytes ")\n")
-    → r4 ≡ lineAt s (r3 .at) (bytes " (inertia") 9 (bytes ")\n")
-    → r5 ≡ lineAt s (r4 .at) (bytes " (limit") 3 (bytes ")\n")
-    → r6 ≡ limitLineAt s (r5 .at) (bytes " (slew") 0 (bytes " none)\n") (bytes ")\n")
-    → r7 ≡ lineAt s (r6 .at) (bytes " (weights") 6 (bytes ")\n")
-    → r8 ≡ lineAt s (r7 .at) (bytes " (tolerance") 2 (bytes ")\n")
-    → place ≡ firstWrong (r1 .ok) (r2 .ok) (r3 .ok) (r4 .ok) (r5 .ok) (r6 .ok) (r7 .ok) (r8 .ok)
-    → record { place = place; at = r8 .at; q0 = r2; qf = r3; inertia = r4; limit = r5; slew = r6; weights = r7; tolerance = r8 } ≡ fieldsOf s
-unfolding fieldsOf line1 line2 line3 line4 line5 line6 line7 line8
-fields-is s r1 r2 r3 r4 r5 r6 r7 r8 place e1 e2 e3 e4 e5 e6 e7 e8 p = rw (p, e8, e7, e6, e5, e4, e3, e2, e1)
+module _ (s : List ℕ) (line : ℕ) (c : Found) where
+  pub lines-more : (f : LineForm) (fs : List LineForm) (next r : Found) → next ≡ lineNext s line c f → r ≡ linesFrom s (line + 1) next fs → r ≡ linesFrom s line c (f ∷ fs)
+  unfolding linesFrom
+  lines-more f fs next r e h = rw (← e) h
+
+  pub lines-end : c ≡ linesFrom s line c []
+  unfolding linesFrom
+  lines-end = refl
+
+pub lines-begin : (s : List ℕ) (at : ℕ) (c r : Found) → c ≡ nothing Going at → r ≡ linesFrom s 1 c headForms → r ≡ linesAt s at
+lines-begin s at c r e h = rw (← e) h

@@ -6,17 +6,17 @@ use native.Mathlib.Nat.{add-assoc, le-of-lt, lt-of-not-le, sub-zero}
 use mathlib.Core.Path.{_≡_, refl, sym}
 use mathlib.Core.List.{List, [], _∷_}
 use mathlib.Core.Bool.{Bool, true, false, _&&_}
-use lib.Dec.{ltb}
+use lib.Dec.{ltb, eqb}
 use lib.ListN.{set, length, getD, drop, drop-of-length-le, List·getD-eq-default}
 use lib.Seq.{drop-cons}
 use lib.Ieee as Ieee
 use borrow.Author.Tests.{lt-ltb, le-ltb, le-leb, lt-leb, eq-eqb, ne-eqb}
-use Rattle.common.specs.declared.Limit.the-variants.{Nothing}
+use Rattle.common.specs.declared.Limit.the-variants.{At}
 use Rattle.text.specs.declared.lines.Row.{Row}
 use Rattle.text.specs.declared.hex.Real.{Real}
 use Rattle.text.specs.declared.hex.Real.the-variants.{Is, Wrong}
 use Rattle.text.specs.Hex.{RealIs}
-use Rattle.text.specs.Lines.{isAt, IsAt, wordAt, WordIs, rowFrom, rowAt, RowIs, wrongRow, lineAt, limitLineAt, limited, zeros}
+use Rattle.text.specs.Lines.{isAt, IsAt, wordAt, WordIs, wrongRow, rowFrom, rowAt, noFloats, withFloat, limited}
 
 suc-sub-one : (k : ℕ) → suc k - 1 ≡ k
 suc-sub-one k = omega arith
@@ -69,56 +69,51 @@ word-some s at r e h = record { is = simp (eq-eqb _ _ e) (h .is); within = h .wi
 
 -- ---- rows
 
-module _ (s : List ℕ) (k i : ℕ) (v : List Ieee.Float) where
-  pub row-step : (n : ℕ) → 0 < n → (x : Ieee.Float) (j : ℕ) → wordAt s i ≡ Is x j → rowFrom s n k i v ≡ rowFrom s (n - 1) (k + 1) j (set v k x)
+module _ (s : List ℕ) (r : Row) where
+  pub row-step : (n : ℕ) → 0 < n → (x : Ieee.Float) (j : ℕ) → wordAt s (r .at) ≡ Is x j → rowFrom s n r ≡ rowFrom s (n - 1) (withFloat r x j)
   unfolding rowFrom
   row-step zero p x j e = absurd (omega arith)
   row-step (suc n) p x j e = simp (e, suc-sub-one)
 
-  pub row-word : (n : ℕ) → 0 < n → wordAt s i ≡ Wrong → rowFrom s n k i v ≡ wrongRow
+  pub row-stop : (n : ℕ) → wordAt s (r .at) ≡ Wrong → rowFrom s n r ≡ r
   unfolding rowFrom
-  row-word zero p e = absurd (omega arith)
-  row-word (suc n) p e = simp e
+  row-stop zero e = refl
+  row-stop (suc n) e = simp e
 
-  pub row-end : (n : ℕ) → n ≡ 0 → rowFrom s n k i v ≡ record { ok = true; at = i; v = v; limit = Nothing }
+  pub row-end : (n : ℕ) → n ≡ 0 → rowFrom s n r ≡ r
   unfolding rowFrom
   row-end n e = rw e
 
-pub row-start : (s : List ℕ) (at n : ℕ) → rowAt s at n ≡ rowFrom s (n - 0) 0 at zeros
-unfolding rowAt
-row-start s at n = rw sub-zero
+-- the row with one number more, as the code makes it
+pub with-float : (r : Row) (k : ℕ) (v : List Ieee.Float) (x : Ieee.Float) (j : ℕ) → r .count ≡ k → v ≡ set (r .v) k x → record { ok = true; at = j; count = k + 1; v = v; limit = At x } ≡ withFloat r x j
+with-float r k v x j e f = rw (f, ← e)
 
-pub row-wrong : (s : List ℕ) (at n : ℕ) (r : Row) → r ≡ wrongRow → rowAt s at n ≡ wrongRow → RowIs s at n r
-row-wrong s at n r e h = record { is = cc; within = rw e zero-le }
+pub row-start : (s : List ℕ) (at : ℕ) → rowAt s at ≡ rowFrom s (length s - 0) (noFloats at)
+unfolding rowAt
+row-start s at = rw sub-zero
 
 pub word-within : (s : List ℕ) (at : ℕ) (x : Ieee.Float) (j : ℕ) (r : Real) → WordIs s at r → r ≡ Is x j → j ≤ length s
 word-within s at x j r h e = rw e at (h .within)
 
--- ---- lines
+-- ---- floats and a limit
 
-module _ (s : List ℕ) (at : ℕ) (head : List ℕ) (n : ℕ) (tail : List ℕ) where
-  pub line-head : isAt s at head ≡ false → lineAt s at head n tail ≡ wrongRow
-  unfolding lineAt
-  line-head e = simp e
+module _ (s : List ℕ) (n : ℕ) (r : Row) where
+  pub limited-fewer : r .count < n → limited s n r ≡ wrongRow
+  unfolding limited
+  limited-fewer h =
+      let a : eqb (r .count) n ≡ false = ne-eqb (r .count) n (λ (e : r .count ≡ n). omega arith) in
+      let b : eqb (r .count) (n + 1) ≡ false = ne-eqb (r .count) (n + 1) (λ (e : r .count ≡ n + 1). omega arith) in
+      simp (a, b)
 
-  pub line-row : (r : Row) → isAt s at head ≡ true → r ≡ rowAt s (at + length head) n → r .ok ≡ false → lineAt s at head n tail ≡ wrongRow
-  unfolding lineAt
-  line-row r e q b = simp (e, ← q, b)
+  pub limited-more : n ≤ r .count → (r .count ≡ n → ⊥) → (r .count - n ≡ 1 → ⊥) → limited s n r ≡ wrongRow
+  unfolding limited
+  limited-more h k l =
+      let b : eqb (r .count) (n + 1) ≡ false = ne-eqb (r .count) (n + 1) (λ (e : r .count ≡ n + 1). l (omega arith)) in
+      simp (ne-eqb _ _ k, b)
 
-  pub line-tail : (r : Row) → isAt s at head ≡ true → r ≡ rowAt s (at + length head) n → r .ok ≡ true → isAt s (r .at) tail ≡ false → lineAt s at head n tail ≡ wrongRow
-  unfolding lineAt
-  line-tail r e q b t = simp (e, ← q, b, t)
-
-  pub line-right : (r : Row) → isAt s at head ≡ true → r ≡ rowAt s (at + length head) n → r .ok ≡ true → isAt s (r .at) tail ≡ true
-      → lineAt s at head n tail ≡ record { ok = true; at = r .at + length tail; v = r .v; limit = Nothing }
-  unfolding lineAt
-  line-right r e q b t = simp (e, ← q, b, t)
-
-module _ (s : List ℕ) (at : ℕ) (head : List ℕ) (n : ℕ) (without tail : List ℕ) where
-  pub unlimited-is : (a : Row) → a ≡ lineAt s at head n without → a .ok ≡ true → a ≡ limitLineAt s at head n without tail
-  unfolding limitLineAt
-  unlimited-is a e b = simp (← e, b)
-
-  pub limited-is : (a b : Row) → a ≡ lineAt s at head n without → a .ok ≡ false → b ≡ lineAt s at head (n + 1) tail → limited n b ≡ limitLineAt s at head n without tail
-  unfolding limitLineAt
-  limited-is a b e f g = simp (← e, f, ← g)
+  pub limited-one : n ≤ r .count → r .count - n ≡ 1 → r ≡ limited s n r
+  unfolding limited
+  limited-one h k =
+      let a : eqb (r .count) n ≡ false = ne-eqb (r .count) n (λ (e : r .count ≡ n). omega arith) in
+      let b : eqb (r .count) (n + 1) ≡ true = eq-eqb (r .count) (n + 1) (omega arith) in
+      simp (a, b)

@@ -8,9 +8,9 @@ use Rattle.common.specs.declared.Fate.the-variants.{Going, Refused}
 use Rattle.actuators.specs.Maps.{noActuators}
 use Rattle.text.specs.Bytes.{bytes}
 use Rattle.text.specs.Hex.{digit, more, hexAt, realAt, digitByte, hexText, realText}
-use Rattle.text.specs.Lines.{isAt, wordAt, rowFrom, rowAt, lineAt, limitLineAt}
+use Rattle.text.specs.Lines.{isAt, wordAt, rowFrom, rowAt, floats, withoutLimit, limited, wordsAt, ended, lineAt}
 use Rattle.text.specs.Listing.{itemAt, withWheel, withThruster, withPyramid, withItem, endAt, closeAt, nextLine, firstLine, listAt}
-use Rattle.text.specs.Reader.{line1, line2, line3, line4, line5, line6, line7, line8, firstWrong, fieldsOf, ended, afterFields, readProblem}
+use Rattle.text.specs.Reader.{withRow, nextLine as lineNext, linesFrom, headAt, withList, nextList, problemOf, readOf, readProblem}
 
 -- the example, with what stands for qf and from line 9 on
 abbrev text : String → String → String
@@ -29,7 +29,7 @@ examples :
     × Reads (text "3FF 0 0 0" " (actuators))") (Refused 21 9)
     × Reads (text "3FF 0 0 0" " (actuators))\n\n") (Refused 21 10)
     × Reads (text "3FF 0 0 0" " (actuators\n  (thruster 0 0 0 0)\n  (wheel 0 0 0 0 0 none)))\n") (Refused 21 11)
-unfolding digit more hexAt realAt isAt wordAt rowFrom rowAt lineAt limitLineAt itemAt withWheel withThruster withPyramid withItem endAt closeAt nextLine firstLine listAt line1 line2 line3 line4 line5 line6 line7 line8 firstWrong fieldsOf ended afterFields readProblem iter noActuators
+unfolding digit more hexAt realAt isAt wordAt rowFrom rowAt floats withoutLimit limited wordsAt ended lineAt itemAt withWheel withThruster withPyramid withItem endAt closeAt nextLine firstLine listAt withRow lineNext linesFrom headAt withList nextList problemOf readOf readProblem iter noActuators
 examples = (refl, refl, refl, refl, refl, refl, refl)
 
 abbrev eightWheels : String
@@ -39,7 +39,7 @@ eightWheels = "  (wheel 0 0 0 0 0 none)\n  (wheel 0 0 0 0 0 none)\n  (wheel 0 0 
 ninth :
     (readProblem (bytes (text "3FF 0 0 0" (" (actuators\n" ++ eightWheels ++ "  (wheel 0 0 0 0 0 none)))\n"))) .problem .actuators .«wheel_count» ≡ 9)
     × Reads (text "3FF 0 0 0" (" (actuators\n" ++ eightWheels ++ "  (wheel 0 0 0 0 none)))\n")) (Refused 21 18)
-unfolding digit more hexAt realAt isAt wordAt rowFrom rowAt lineAt limitLineAt itemAt withWheel withThruster withPyramid withItem endAt closeAt nextLine firstLine listAt line1 line2 line3 line4 line5 line6 line7 line8 firstWrong fieldsOf ended afterFields readProblem iter noActuators
+unfolding digit more hexAt realAt isAt wordAt rowFrom rowAt floats withoutLimit limited wordsAt ended lineAt itemAt withWheel withThruster withPyramid withItem endAt closeAt nextLine firstLine listAt withRow lineNext linesFrom headAt withList nextList problemOf readOf readProblem iter noActuators
 ninth = (refl, refl)
 
 -- 1, -0 and the NaN

@@ -12,10 +12,11 @@ use Rattle.actuators.specs.declared.Cmgs.the-variants.{With}
 use Rattle.actuators.specs.declared.Actuators.{Actuators}
 use Rattle.actuators.specs.Maps.{noActuators}
 use Rattle.text.specs.declared.lines.Row.{Row}
+use Rattle.text.specs.declared.lines.Words.the-variants.{Floats, Limited}
 use Rattle.text.specs.declared.listing.Item.{Item}
 use Rattle.text.specs.declared.listing.Listing.{Listing}
 use Rattle.text.specs.Bytes.{bytes}
-use Rattle.text.specs.Lines.{isAt, lineAt, limitLineAt, wrongRow}
+use Rattle.text.specs.Lines.{isAt, LineForm, form, lineAt, wrongRow}
 
 -- number k of a row
 abbrev num : Row → ℕ → Float
@@ -30,15 +31,21 @@ abbrev pub pickItem : Bool → Item → Item → Item
 pickItem true a b = a
 pickItem false a b = b
 
+abbrev pub wheelForm : LineForm
+wheelForm = form (bytes "  (wheel") (Limited 5) (bytes ")")
+
+abbrev pub thrusterForm : LineForm
+thrusterForm = form (bytes "  (thruster") (Floats 4) (bytes ")")
+
+abbrev pub pyramidForm : LineForm
+pyramidForm = form (bytes "  (cmg") (Floats 4) (bytes ")")
+
 -- one actuator up to its bracket, with its kind (1 wheel, 2 thruster, 3 pyramid, 0 none of them) and the least kind that may follow
 unfoldable pub itemAt : List ℕ → ℕ → Item
 itemAt s at =
-    pickItem (limitLineAt s at (bytes "  (wheel") 5 (bytes " none)") (bytes ")") .ok)
-    (record { kind = 1; next = 1; row = limitLineAt s at (bytes "  (wheel") 5 (bytes " none)") (bytes ")") })
-    (pickItem (lineAt s at (bytes "  (thruster") 4 (bytes ")") .ok)
-    (record { kind = 2; next = 2; row = lineAt s at (bytes "  (thruster") 4 (bytes ")") })
-    (pickItem (lineAt s at (bytes "  (cmg") 4 (bytes ")") .ok)
-    (record { kind = 3; next = 4; row = lineAt s at (bytes "  (cmg") 4 (bytes ")") })
+    pickItem (lineAt s at wheelForm .ok) (record { kind = 1; next = 1; row = lineAt s at wheelForm })
+    (pickItem (lineAt s at thrusterForm .ok) (record { kind = 2; next = 2; row = lineAt s at thrusterForm })
+    (pickItem (lineAt s at pyramidForm .ok) (record { kind = 3; next = 4; row = lineAt s at pyramidForm })
     (record { kind = 0; next = 0; row = wrongRow })))
 
 -- axis, torque, momentum, power; past the eighth a wheel is counted only
@@ -119,6 +126,6 @@ firstLine s at = pickListing (isAt s at (bytes " (actuators")) (closeAt s 9 (at 
 abbrev pub turn : List ℕ → ℕ → Listing → Listing
 turn s k c = pickListing (c .unclosed) (nextLine s c) c
 
--- no text has more lines than bytes
+-- no text has more lines than bytes; one over 4,096 bytes has no list
 unfoldable pub listAt : List ℕ → ℕ → Listing
-listAt s at = iter (turn s) (firstLine s at) (length s)
+listAt s at = pickListing (ltb 4096 (length s)) (wrongLine 0 at 1 noActuators) (iter (turn s) (firstLine s at) (length s))

@@ -1,71 +1,95 @@
 -- The problem of a text, or the first line, from 1, that is wrong or missing. Definitions only.
-use Prim.Native.Nat.{ℕ}
-use mathlib.Core.Bool.{Bool, true, false, cond}
+use Prim.Native.Nat.{ℕ, _+_, _-_}
+use mathlib.Core.Bool.{Bool, true, false}
 use mathlib.Core.List.{List, [], _∷_}
-use lib.Dec.{ltb, eqb}
-use lib.ListN.{length}
+use lib.Dec.{ltb}
+use lib.ListN.{length, getD, set, replicate}
 use lib.Ieee.{Float}
 use Rattle.common.specs.Lists as Lists
 use Rattle.common.specs.Answer as Answer
 use Rattle.common.specs.declared.Fate.{Fate}
 use Rattle.common.specs.declared.Fate.the-variants.{Going, Refused}
+use Rattle.common.specs.declared.Limit.the-variants.{Nothing}
 use Rattle.geom.specs.declared.Quat.{Quat}
 use Rattle.actuators.specs.declared.Actuators.{Actuators}
 use Rattle.actuators.specs.Maps.{noActuators}
 use Rattle.problem.specs.declared.Weights.{Weights}
 use Rattle.problem.specs.declared.Problem.{Problem}
 use Rattle.text.specs.declared.lines.Row.{Row}
+use Rattle.text.specs.declared.lines.Words.the-variants.{Floats, Limited}
 use Rattle.text.specs.declared.listing.Listing.{Listing}
-use Rattle.text.specs.declared.Fields.{Fields}
+use Rattle.text.specs.declared.Found.{Found}
 use Rattle.text.specs.declared.Read.{Read}
 use Rattle.text.specs.Bytes.{bytes}
-use Rattle.text.specs.Lines.{lineAt, limitLineAt, wrongRow}
+use Rattle.text.specs.Lines.{LineForm, form, lineAt, wrongRow}
 use Rattle.text.specs.Listing.{listAt}
 
--- ---- the first eight lines, each where the one before ends
-module _ (s : List ℕ) where
-  unfoldable pub line1 : Row
-  line1 = lineAt s 0 (bytes "(problem") 0 (bytes "\n")
+-- ---- the lines before the list of actuators, in their order
+abbrev pub headForms : List LineForm
+headForms =
+    form (bytes "(problem") (Floats 0) (bytes "\n")
+    ∷ form (bytes " (q0") (Floats 4) (bytes ")\n")
+    ∷ form (bytes " (qf") (Floats 4) (bytes ")\n")
+    ∷ form (bytes " (inertia") (Floats 9) (bytes ")\n")
+    ∷ form (bytes " (limit") (Floats 3) (bytes ")\n")
+    ∷ form (bytes " (slew") (Limited 0) (bytes ")\n")
+    ∷ form (bytes " (weights") (Floats 6) (bytes ")\n")
+    ∷ form (bytes " (tolerance") (Floats 2) (bytes ")\n")
+    ∷ []
 
-  unfoldable pub line2 : Row
-  line2 = lineAt s (line1 .at) (bytes " (q0") 4 (bytes ")\n")
+-- ---- one line after another: each begins where the one before ends, and the first wrong one ends the reading
 
-  unfoldable pub line3 : Row
-  line3 = lineAt s (line2 .at) (bytes " (qf") 4 (bytes ")\n")
+-- nothing found; so it stands beside a refusal too
+abbrev pub nothing : Fate → ℕ → Found
+nothing fate at = record { fate = fate; at = at; rows = replicate 8 wrongRow; actuators = noActuators }
 
-  unfoldable pub line4 : Row
-  line4 = lineAt s (line3 .at) (bytes " (inertia") 9 (bytes ")\n")
+abbrev pub wrong : ℕ → Found
+wrong line = nothing (Refused 21 line) 0
 
-  unfoldable pub line5 : Row
-  line5 = lineAt s (line4 .at) (bytes " (limit") 3 (bytes ")\n")
+abbrev pub pickFound : Bool → Found → Found → Found
+pickFound true a b = a
+pickFound false a b = b
 
-  unfoldable pub line6 : Row
-  line6 = limitLineAt s (line5 .at) (bytes " (slew") 0 (bytes " none)\n") (bytes ")\n")
+-- line number `line`, from 1, has this row
+unfoldable pub withRow : Found → ℕ → Row → Found
+withRow c line r = pickFound (r .ok) (record { fate = Going; at = r .at; rows = set (c .rows) (line - 1) r; actuators = c .actuators }) (wrong line)
 
-  unfoldable pub line7 : Row
-  line7 = lineAt s (line6 .at) (bytes " (weights") 6 (bytes ")\n")
+-- what goes on goes on to more
+abbrev pub goesOn : Fate → Found → Found → Found
+goesOn (Refused number line) c more = c
+goesOn Going c more = more
 
-  unfoldable pub line8 : Row
-  line8 = lineAt s (line7 .at) (bytes " (tolerance") 2 (bytes ")\n")
+unfoldable pub nextLine : List ℕ → ℕ → Found → LineForm → Found
+nextLine s line c f = goesOn (c .fate) c (withRow c line (lineAt s (c .at) f))
 
--- the first of eight lines that is not right; 0 where all are
-unfoldable pub firstWrong : Bool → Bool → Bool → Bool → Bool → Bool → Bool → Bool → ℕ
-firstWrong a b c d e f g h = cond a (cond b (cond c (cond d (cond e (cond f (cond g (cond h 0 8) 7) 6) 5) 4) 3) 2) 1
+unfoldable pub linesFrom : List ℕ → ℕ → Found → List LineForm → Found
+linesFrom s line c [] = c
+linesFrom s line c (f ∷ fs) = linesFrom s (line + 1) (nextLine s line c f) fs
 
-unfoldable pub fieldsOf : List ℕ → Fields
-fieldsOf s = record {
-  place = firstWrong (line1 s .ok) (line2 s .ok) (line3 s .ok) (line4 s .ok) (line5 s .ok) (line6 s .ok) (line7 s .ok) (line8 s .ok);
-  at = line8 s .at;
-  q0 = line2 s;
-  qf = line3 s;
-  inertia = line4 s;
-  limit = line5 s;
-  slew = line6 s;
-  weights = line7 s;
-  tolerance = line8 s;
-}
+abbrev pub linesAt : List ℕ → ℕ → Found
+linesAt s at = linesFrom s 1 (nothing Going at) headForms
 
--- ---- what they say
+-- place 0 over 4,096 bytes
+unfoldable pub headAt : List ℕ → ℕ → Found
+headAt s at = pickFound (ltb 4096 (length s)) (wrong 0) (linesAt s at)
+
+-- ---- then the list, which must be closed
+abbrev pub listedBy : Fate → Found → Listing → Found
+listedBy (Refused number line) c l = wrong line
+listedBy Going c l = record { fate = Going; at = l .at; rows = c .rows; actuators = l .actuators }
+
+unfoldable pub withList : Found → Listing → Found
+withList c l = pickFound (l .unclosed) (wrong (l .line)) (listedBy (l .fate) c l)
+
+unfoldable pub nextList : Found → Listing → Found
+nextList c l = goesOn (c .fate) c (withList c l)
+
+-- ---- what the lines say
+
+-- the row of line number `line`
+abbrev row : List Row → ℕ → Row
+row rows line = getD rows (line - 1) (record { ok = false; at = 0; count = 0; v = []; limit = Nothing })
+
 abbrev num : Row → ℕ → Float
 num r k = Lists.at (r .v) k
 
@@ -76,47 +100,29 @@ quatOf r = record { w = num r 0; x = num r 1; y = num r 2; z = num r 3 }
 abbrev pub weightsOf : Row → Weights
 weightsOf r = record { time = num r 0; control = num r 1; energy = num r 2; pointing = num r 3; smoothness = num r 4; momentum = num r 5 }
 
-abbrev pub problemOf : Fields → Actuators → Problem
-problemOf f a = record {
-  q0 = quatOf (f .q0);
-  qf = quatOf (f .qf);
-  inertia = f .inertia .v;
-  «torque_limit» = num (f .limit) 0 ∷ num (f .limit) 1 ∷ num (f .limit) 2 ∷ [];
-  slew = f .slew .limit;
-  weights = weightsOf (f .weights);
-  «norm_tolerance» = num (f .tolerance) 0;
-  «tie_tolerance» = num (f .tolerance) 1;
+unfoldable pub problemOf : List Row → Actuators → Problem
+problemOf rows a = record {
+  q0 = quatOf (row rows 2);
+  qf = quatOf (row rows 3);
+  inertia = row rows 4 .v;
+  «torque_limit» = num (row rows 5) 0 ∷ num (row rows 5) 1 ∷ num (row rows 5) 2 ∷ [];
+  slew = row rows 6 .limit;
+  weights = weightsOf (row rows 7);
+  «norm_tolerance» = num (row rows 8) 0;
+  «tie_tolerance» = num (row rows 8) 1;
   actuators = a;
 }
 
--- ---- the whole text
+-- beside a refusal zeros and no actuators
+abbrev pub found : Found → Read
+found c = record { fate = c .fate; problem = problemOf (c .rows) (c .actuators) }
 
--- zeros and no actuators stand beside a refusal
-abbrev pub blankProblem : Problem
-blankProblem = problemOf (record { place = 0; at = 0; q0 = wrongRow; qf = wrongRow; inertia = wrongRow; limit = wrongRow; slew = wrongRow; weights = wrongRow; tolerance = wrongRow }) noActuators
+unfoldable pub readOf : Found → Listing → Read
+readOf c l = found (nextList c l)
 
-abbrev pub refused : ℕ → Read
-refused line = record { fate = Refused 21 line; problem = blankProblem }
-
-abbrev pub pickRead : Bool → Read → Read → Read
-pickRead true a b = a
-pickRead false a b = b
-
-abbrev pub endedBy : Fate → Fields → Listing → Read
-endedBy (Refused number line) f c = refused line
-endedBy Going f c = record { fate = Going; problem = problemOf f (c .actuators) }
-
--- the list must be closed
-unfoldable pub ended : Fields → Listing → Read
-ended f c = pickRead (c .unclosed) (refused (c .line)) (endedBy (c .fate) f c)
-
--- the first eight lines, then the list
-unfoldable pub afterFields : List ℕ → Fields → Read
-afterFields s f = pickRead (eqb (f .place) 0) (ended f (listAt s (f .at))) (refused (f .place))
-
--- the problem, or 21 with its line; place 0 over 4,096 bytes
+-- ---- the whole text: the problem, or 21 with its line
 unfoldable pub readProblem : List ℕ → Read
-readProblem s = pickRead (ltb 4096 (length s)) (refused 0) (afterFields s (fieldsOf s))
+readProblem s = readOf (headAt s 0) (listAt s (headAt s 0 .at))
 
 -- ---- in document 01's terms
 abbrev answerBy : Fate → Problem → Answer.Answer Problem

@@ -1,12 +1,12 @@
 // The program's text: nested brackets, one form a line, read into the problem that the planner takes.
 ghost use mathlib.Core.Path.{_≡_};
 ghost use Prim.Native.Nat.{_≤_};
-ghost use lib.ListN.{length};
+ghost use lib.ListN.{set};
+ghost use Rattle.text.specs.Lines as Lines;
 ghost use Rattle.text.specs.Reader as Reader;
 use actuators::Actuators;
 use actuators::no_actuators;
 use common::Fate;
-use common::Limit;
 use geom::Quat;
 use problem::Problem;
 use problem::Weights;
@@ -16,23 +16,17 @@ pub mod lines;
 pub mod listing;
 
 use lines::Row;
-use lines::limit_line_at;
+use lines::Words;
 use lines::line_at;
 use lines::wrong_row;
 use listing::Listing;
-use listing::list_at;
 
-// Lines 2 to 8, with the first of the first eight lines that is wrong (0 where none is) and the position after them.
-pub struct Fields {
-    pub place: usize,
+// What was found in a text so far: how the reading goes, the position after it, the rows of the first eight lines, the actuators. Beside a refusal there is nothing.
+pub struct Found {
+    pub fate: Fate,
     pub at: usize,
-    pub q0: Row,
-    pub qf: Row,
-    pub inertia: Row,
-    pub limit: Row,
-    pub slew: Row,
-    pub weights: Row,
-    pub tolerance: Row,
+    pub rows: [Row; 8],
+    pub actuators: Actuators,
 }
 
 // What a text gives: the problem, or refusal 21 with the line and a blank problem.
@@ -41,69 +35,128 @@ pub struct Read {
     pub problem: Problem,
 }
 
-// The first of eight lines that is not right, from 1; 0 where all are.
-fn first_wrong(a: bool, b: bool, c: bool, d: bool, e: bool, f: bool, g: bool, h: bool) -> usize
-    ensures { λ r. ⌜ r ≡ Reader.firstWrong a b c d e f g h ⌝ }
+// Nothing is found yet at a position, or a line is wrong.
+fn nothing(fate: Fate, at: usize) -> Found
+    ensures { λ r. ⌜ r ≡ Reader.nothing fate at ⌝ }
 {
-    if !a {
-        return 1;
+    let row = wrong_row();
+    let rows = [row; 8];
+    let actuators = no_actuators();
+    Found {
+        fate: fate,
+        at: at,
+        rows: rows,
+        actuators: actuators,
     }
-    if !b {
-        return 2;
-    }
-    if !c {
-        return 3;
-    }
-    if !d {
-        return 4;
-    }
-    if !e {
-        return 5;
-    }
-    if !f {
-        return 6;
-    }
-    if !g {
-        return 7;
-    }
-    if !h {
-        return 8;
-    }
-    0
 }
 
-// The first eight lines, each where the one before ends.
-fn fields_of(s: &[u8]) -> Fields
-    ensures { λ r. ⌜ r ≡ Reader.fieldsOf (now (s .entry)) ⌝ }
+// A line's row in its place, from 0.
+fn put_row(rows: [Row; 8], k: usize, row: Row) -> [Row; 8]
+    ensures { λ r. ⌜ r ≡ set rows k row ⌝ }
 {
-    let begin = line_at(s, 0, b"(problem", 0, b"\n");
-    let q0 = line_at(s, begin.at, b" (q0", 4, b")\n");
-    let qf = line_at(s, q0.at, b" (qf", 4, b")\n");
-    let inertia = line_at(s, qf.at, b" (inertia", 9, b")\n");
-    let limit = line_at(s, inertia.at, b" (limit", 3, b")\n");
-    let slew = limit_line_at(s, limit.at, b" (slew", 0, b" none)\n", b")\n");
-    let weights = line_at(s, slew.at, b" (weights", 6, b")\n");
-    let tolerance = line_at(s, weights.at, b" (tolerance", 2, b")\n");
-    let place = first_wrong(
-        begin.ok,
-        q0.ok,
-        qf.ok,
-        inertia.ok,
-        limit.ok,
-        slew.ok,
-        weights.ok,
-        tolerance.ok,
-    );
-    Fields {
-        place: place,
-        at: tolerance.at,
-        q0: q0,
-        qf: qf,
-        inertia: inertia,
-        limit: limit,
-        slew: slew,
-        weights: weights,
-        tolerance: tolerance,
+    let mut more = rows;
+    if k >= 8 {
+        return more;
+    }
+    more[k] = row;
+    more
+}
+
+// One line more: its row, or refusal 21 where it is wrong.
+fn with_row(c: Found, line: usize, row: Row) -> Found
+    requires { ⌜ 1 ≤ line ⌝ }
+    ensures { λ r. ⌜ r ≡ Reader.withRow c line row ⌝ }
+{
+    if !row.ok {
+        return nothing(Fate::Refused(21, line), 0);
+    }
+    let rows = c.rows;
+    let more = put_row(rows, line - 1, row);
+    let actuators = c.actuators;
+    Found {
+        fate: Fate::Going,
+        at: row.at,
+        rows: more,
+        actuators: actuators,
+    }
+}
+
+// The line of a form after what was found, unless a line before it is wrong.
+fn next_line(s: &[u8], c: Found, line: usize, head: &[u8], words: Words, tail: &[u8]) -> Found
+    requires { ⌜ 1 ≤ line ⌝ }
+    ensures { λ r. ⌜ r ≡ Reader.nextLine (now (s .entry)) line c (Lines.form (now (head .entry)) words (now (tail .entry))) ⌝ }
+{
+    let fate = c.fate;
+    match fate {
+        Fate::Refused(_, _) => c,
+        Fate::Going => with_row(c, line, line_at(s, c.at, head, words, tail)),
+    }
+}
+
+// The first eight lines from a position on.
+fn lines_at(s: &[u8], at: usize) -> Found
+    ensures { λ r. ⌜ r ≡ Reader.linesAt (now (s .entry)) at ⌝ }
+{
+    let c = nothing(Fate::Going, at);
+    let c = next_line(s, c, 1, b"(problem", Words::Floats(0), b"\n");
+    let c = next_line(s, c, 2, b" (q0", Words::Floats(4), b")\n");
+    let c = next_line(s, c, 3, b" (qf", Words::Floats(4), b")\n");
+    let c = next_line(s, c, 4, b" (inertia", Words::Floats(9), b")\n");
+    let c = next_line(s, c, 5, b" (limit", Words::Floats(3), b")\n");
+    let c = next_line(s, c, 6, b" (slew", Words::Limited(0), b")\n");
+    let c = next_line(s, c, 7, b" (weights", Words::Floats(6), b")\n");
+    next_line(s, c, 8, b" (tolerance", Words::Floats(2), b")\n")
+}
+
+// The same, but a text of more than 4,096 bytes is refused at line 0.
+pub fn head_at(s: &[u8], at: usize) -> Found
+    ensures { λ r. ⌜ r ≡ Reader.headAt (now (s .entry)) at ⌝ }
+{
+    if s.len() > 4096 {
+        return nothing(Fate::Refused(21, 0), 0);
+    }
+    lines_at(s, at)
+}
+
+// Where the first eight lines end.
+pub fn head_end(s: &[u8], at: usize) -> usize
+    ensures { λ r. ⌜ r ≡ Reader.headAt (now (s .entry)) at .at ⌝ }
+{
+    let c = head_at(s, at);
+    c.at
+}
+
+// What was found with the list of actuators, which must be closed.
+fn with_list(c: Found, list: Listing) -> Found
+    ensures { λ r. ⌜ r ≡ Reader.withList c list ⌝ }
+{
+    if list.unclosed {
+        return nothing(Fate::Refused(21, list.line), 0);
+    }
+    let fate = list.fate;
+    match fate {
+        Fate::Refused(_, line) => nothing(Fate::Refused(21, line), 0),
+        Fate::Going => {
+            let rows = c.rows;
+            let actuators = list.actuators;
+            Found {
+                fate: Fate::Going,
+                at: list.at,
+                rows: rows,
+                actuators: actuators,
+            }
+        }
+    }
+}
+
+// The same, unless a line before the list is wrong.
+fn next_list(c: Found, list: Listing) -> Found
+    ensures { λ r. ⌜ r ≡ Reader.nextList c list ⌝ }
+{
+    let fate = c.fate;
+    match fate {
+        Fate::Refused(_, _) => c,
+        Fate::Going => with_list(c, list),
     }
 }
 
@@ -135,20 +188,20 @@ fn weights_of(row: Row) -> Weights
     }
 }
 
-// The problem of the lines that were read.
-fn problem_of(fields: Fields, actuators: Actuators) -> Problem
-    ensures { λ r. ⌜ r ≡ Reader.problemOf fields actuators ⌝ }
+// The problem of the first eight lines and the actuators.
+fn problem_of(rows: [Row; 8], actuators: Actuators) -> Problem
+    ensures { λ r. ⌜ r ≡ Reader.problemOf rows actuators ⌝ }
 {
-    let q0 = fields.q0;
-    let qf = fields.qf;
-    let inertia_row = fields.inertia;
+    let q0 = rows[1];
+    let qf = rows[2];
+    let inertia_row = rows[3];
     let inertia = inertia_row.v;
-    let limit_row = fields.limit;
+    let limit_row = rows[4];
     let limit = limit_row.v;
-    let slew_row = fields.slew;
+    let slew_row = rows[5];
     let slew = slew_row.limit;
-    let weights = fields.weights;
-    let tolerance_row = fields.tolerance;
+    let weights = rows[6];
+    let tolerance_row = rows[7];
     let tolerance = tolerance_row.v;
     Problem {
         q0: quat_of(q0),
@@ -163,67 +216,16 @@ fn problem_of(fields: Fields, actuators: Actuators) -> Problem
     }
 }
 
-// The problem of a refused text: zeros and no actuators.
-pub fn blank_problem() -> Problem
-    ensures { λ r. ⌜ r ≡ Reader.blankProblem ⌝ }
+// The problem of what was found and of the list behind it; beside a refusal zeros and no actuators.
+pub fn read_of(head: Found, list: Listing) -> Read
+    ensures { λ r. ⌜ r ≡ Reader.readOf head list ⌝ }
 {
-    let row = wrong_row();
-    let fields = Fields {
-        place: 0,
-        at: 0,
-        q0: row,
-        qf: row,
-        inertia: row,
-        limit: row,
-        slew: row,
-        weights: row,
-        tolerance: row,
-    };
-    problem_of(fields, no_actuators())
-}
-
-// Refusal 21 with its line.
-fn refused(line: usize) -> Read
-    ensures { λ r. ⌜ r ≡ Reader.refused line ⌝ }
-{
+    let c = next_list(head, list);
+    let fate = c.fate;
+    let rows = c.rows;
+    let actuators = c.actuators;
     Read {
-        fate: Fate::Refused(21, line),
-        problem: blank_problem(),
+        fate: fate,
+        problem: problem_of(rows, actuators),
     }
-}
-
-// The problem, once the list of actuators is read to its end.
-fn ended(fields: Fields, list: Listing) -> Read
-    ensures { λ r. ⌜ r ≡ Reader.ended fields list ⌝ }
-{
-    if list.unclosed {
-        return refused(list.line);
-    }
-    let fate = list.fate;
-    match fate {
-        Fate::Refused(_, line) => refused(line),
-        Fate::Going => {
-            let actuators = list.actuators;
-            Read {
-                fate: Fate::Going,
-                problem: problem_of(fields, actuators),
-            }
-        }
-    }
-}
-
-// The problem of a text, or refusal 21 with the first line, from 1, that is wrong or missing; place 0 over 4,096 bytes.
-pub fn read_problem(text: &[u8]) -> Read
-    ensures { λ r. ⌜ r ≡ Reader.readProblem (now (text .entry)) ⌝ }
-{
-    if text.len() > 4096 {
-        return refused(0);
-    }
-    let fields = fields_of(text);
-    let place = fields.place;
-    if place != 0 {
-        return refused(place);
-    }
-    let list = list_at(text, fields.at);
-    ended(fields, list)
 }

@@ -1,17 +1,24 @@
 // A line of the program's text: what it begins with, its floats, what it ends with.
 ghost use mathlib.Core.Path.{_≡_};
-ghost use Prim.Native.Nat.{_≤_, _<_};
-ghost use lib.ListN.{length};
+ghost use Prim.Native.Nat.{_≤_};
+ghost use lib.ListN.{length, set};
 ghost use Rattle.text.specs.Lines as Lines;
 use crate::hex::Real;
 use crate::hex::byte;
 use crate::hex::real_at;
 use common::Limit;
 
-// Up to nine floats of a line, the optional limit that ends some lines, and the position after them.
+// What stands between a line's head and its tail: so many floats; or so many, and then a limit or `none`.
+pub enum Words {
+    Floats(usize),
+    Limited(usize),
+}
+
+// The floats of a line: how many they are, the first nine of them, the last as a limit, and the position after them.
 pub struct Row {
     pub ok: bool,
     pub at: usize,
+    pub count: usize,
     pub v: [f64; 9],
     pub limit: Limit,
 }
@@ -43,6 +50,7 @@ pub fn wrong_row() -> Row
     Row {
         ok: false,
         at: 0,
+        count: 0,
         v: [0.0; 9],
         limit: Limit::Nothing,
     }
@@ -59,39 +67,106 @@ fn word_at(s: &[u8], at: usize) -> Real
     real_at(s, at + 1)
 }
 
-// n times a blank and a float.
-fn row_at(s: &[u8], at: usize, n: usize) -> Row
-    requires { ⌜ (at ≤ length (now s)) × (n ≤ 9) ⌝ }
-    ensures { λ r. ⌜ Lines.RowIs (now (s .entry)) at n r ⌝ }
+// Float number k in its place; past the ninth there is none.
+fn put_float(v: [f64; 9], k: usize, x: f64) -> [f64; 9]
+    ensures { λ r. ⌜ r ≡ set v k x ⌝ }
 {
-    let mut v = [0.0; 9];
-    let mut i = at;
-    let mut k: usize = 0;
-    while k < n {
-        let Real::Is(x, next) = word_at(s, i) else {
-            return wrong_row();
-        };
-        v[k] = x;
-        i = next;
-        k += 1;
+    let mut more = v;
+    if k >= 9 {
+        return more;
     }
+    more[k] = x;
+    more
+}
+
+// As many blanks and floats as stand at a position.
+fn row_at(s: &[u8], at: usize) -> Row
+    requires { ⌜ at ≤ length (now s) ⌝ }
+    ensures { λ r. ⌜ r ≡ Lines.rowAt (now (s .entry)) at ⌝ }
+{
+    let mut r = Row {
+        ok: true,
+        at: at,
+        count: 0,
+        v: [0.0; 9],
+        limit: Limit::Nothing,
+    };
+    let mut k: usize = 0;
+    while k < s.len() {
+        let Real::Is(x, next) = word_at(s, r.at) else {
+            return r;
+        };
+        let v = r.v;
+        let more = put_float(v, k, x);
+        k += 1;
+        r = Row {
+            ok: true,
+            at: next,
+            count: k,
+            v: more,
+            limit: Limit::At(x),
+        };
+    }
+    r
+}
+
+// A row of n floats.
+fn floats(r: Row, n: usize) -> Row
+    ensures { λ q. ⌜ q ≡ Lines.floats n r ⌝ }
+{
+    if r.count == n { r } else { wrong_row() }
+}
+
+// A row of n floats with `none` behind them, or of one more, which is the limit.
+fn limited(s: &[u8], r: Row, n: usize) -> Row
+    ensures { λ q. ⌜ q ≡ Lines.limited (now (s .entry)) n r ⌝ }
+{
+    if r.count == n {
+        return without_limit(s, r);
+    }
+    if r.count < n {
+        return wrong_row();
+    }
+    if r.count - n != 1 {
+        return wrong_row();
+    }
+    r
+}
+
+// A row with `none` behind it.
+fn without_limit(s: &[u8], r: Row) -> Row
+    ensures { λ q. ⌜ q ≡ Lines.withoutLimit (now (s .entry)) r ⌝ }
+{
+    let i = r.at;
+    if !is_at(s, i, b" none") {
+        return wrong_row();
+    }
+    let v = r.v;
     Row {
         ok: true,
-        at: i,
+        at: i + 5,
+        count: r.count,
         v: v,
         limit: Limit::Nothing,
     }
 }
 
-// A line: what it begins with, n floats, what it ends with.
-pub fn line_at(s: &[u8], at: usize, head: &[u8], n: usize, tail: &[u8]) -> Row
-    requires { ⌜ n ≤ 9 ⌝ }
-    ensures { λ r. ⌜ r ≡ Lines.lineAt (now (s .entry)) at (now (head .entry)) n (now (tail .entry)) ⌝ }
+// The words of a line.
+fn words_at(s: &[u8], at: usize, words: Words) -> Row
+    requires { ⌜ at ≤ length (now s) ⌝ }
+    ensures { λ r. ⌜ r ≡ Lines.wordsAt (now (s .entry)) at words ⌝ }
 {
-    if !is_at(s, at, head) {
-        return wrong_row();
+    let r = row_at(s, at);
+    match words {
+        Words::Floats(n) => floats(r, n),
+        Words::Limited(n) => limited(s, r, n),
     }
-    let r = row_at(s, at + head.len(), n);
+}
+
+// A row with a line's tail behind it.
+fn ended(s: &[u8], r: Row, tail: &[u8]) -> Row
+    ensures { λ q. ⌜ q ≡ Lines.ended (now (s .entry)) (now (tail .entry)) r ⌝ }
+{
     if !r.ok {
         return wrong_row();
     }
@@ -100,29 +175,23 @@ pub fn line_at(s: &[u8], at: usize, head: &[u8], n: usize, tail: &[u8]) -> Row
         return wrong_row();
     }
     let v = r.v;
+    let limit = r.limit;
     Row {
         ok: true,
         at: i + tail.len(),
+        count: r.count,
         v: v,
-        limit: Limit::Nothing,
+        limit: limit,
     }
 }
 
-// A line whose last word is `none` or a limit.
-pub fn limit_line_at(s: &[u8], at: usize, head: &[u8], n: usize, without: &[u8], tail: &[u8]) -> Row
-    requires { ⌜ n < 9 ⌝ }
-    ensures { λ r. ⌜ r ≡ Lines.limitLineAt (now (s .entry)) at (now (head .entry)) n (now (without .entry)) (now (tail .entry)) ⌝ }
+// A line: what it begins with, its words, what it ends with.
+pub fn line_at(s: &[u8], at: usize, head: &[u8], words: Words, tail: &[u8]) -> Row
+    ensures { λ r. ⌜ r ≡ Lines.lineAt (now (s .entry)) at (Lines.form (now (head .entry)) words (now (tail .entry))) ⌝ }
 {
-    let unlimited = line_at(s, at, head, n, without);
-    if unlimited.ok {
-        return unlimited;
+    if !is_at(s, at, head) {
+        return wrong_row();
     }
-    let limited = line_at(s, at, head, n + 1, tail);
-    let v = limited.v;
-    Row {
-        ok: limited.ok,
-        at: limited.at,
-        v: v,
-        limit: Limit::At(v[n]),
-    }
+    let r = words_at(s, at + head.len(), words);
+    ended(s, r, tail)
 }

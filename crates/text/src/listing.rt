@@ -1,11 +1,11 @@
 // The list of actuators in the program's text: wheels, then thrusters, then at most one pyramid, a line each.
 ghost use mathlib.Core.Path.{_≡_};
-ghost use Prim.Native.Nat.{_≤_, _<_};
-ghost use lib.ListN.{length, set};
+ghost use Prim.Native.Nat.{_<_};
+ghost use lib.ListN.{set};
 ghost use Rattle.text.specs.Listing as Listings;
 use crate::lines::Row;
+use crate::lines::Words;
 use crate::lines::is_at;
-use crate::lines::limit_line_at;
 use crate::lines::line_at;
 use crate::lines::wrong_row;
 use actuators::Actuators;
@@ -37,7 +37,7 @@ pub struct Listing {
 fn item_at(s: &[u8], at: usize) -> Item
     ensures { λ r. ⌜ r ≡ Listings.itemAt (now (s .entry)) at ⌝ }
 {
-    let wheel = limit_line_at(s, at, b"  (wheel", 5, b" none)", b")");
+    let wheel = line_at(s, at, b"  (wheel", Words::Limited(5), b")");
     if wheel.ok {
         return Item {
             kind: 1,
@@ -45,7 +45,7 @@ fn item_at(s: &[u8], at: usize) -> Item
             row: wheel,
         };
     }
-    let thruster = line_at(s, at, b"  (thruster", 4, b")");
+    let thruster = line_at(s, at, b"  (thruster", Words::Floats(4), b")");
     if thruster.ok {
         return Item {
             kind: 2,
@@ -53,7 +53,7 @@ fn item_at(s: &[u8], at: usize) -> Item
             row: thruster,
         };
     }
-    let pyramid = line_at(s, at, b"  (cmg", 4, b")");
+    let pyramid = line_at(s, at, b"  (cmg", Words::Floats(4), b")");
     if pyramid.ok {
         return Item {
             kind: 3,
@@ -260,11 +260,13 @@ fn first_line(s: &[u8], at: usize) -> Listing
     close_at(s, 9, at + 11, 1, none)
 }
 
-// The whole list, from line 9 on: at most as many lines as there are bytes.
+// The whole list, from line 9 on: at most as many lines as there are bytes. Over 4,096 bytes there is none.
 pub fn list_at(s: &[u8], at: usize) -> Listing
-    requires { ⌜ length (now s) ≤ 4096 ⌝ }
     ensures { λ r. ⌜ r ≡ Listings.listAt (now (s .entry)) at ⌝ }
 {
+    if s.len() > 4096 {
+        return wrong_line(0, at, 1, no_actuators());
+    }
     let mut c = first_line(s, at);
     let mut k: usize = 0;
     while k < s.len() {

@@ -1,26 +1,21 @@
-// The text reader: a struct that holds its text and a position in it, with thin functions over the plain ones on slice and number. Whoever has a plain
-// slice calls `read`, whose contract says nothing of the struct.
+// The text reader: a struct that holds its text and a position in it, with thin functions over the plain ones on slice and number. A function gives back what
+// stands at the reader's position, or the reader behind it: it cannot give both (docs/DECISIONS.md). Whoever has a plain slice calls `read`, whose contract says
+// nothing of the struct.
 ghost use mathlib.Core.Path.{_≡_};
-ghost use lib.ListN.{drop};
+ghost use Rattle.text.specs.Listing as Listings;
 ghost use Rattle.text.specs.Reader as Texts;
+use text::Found;
 use text::Read;
-use text::read_problem;
+use text::head_at;
+use text::head_end;
+use text::listing::Listing;
+use text::listing::list_at;
+use text::read_of;
 
-// A text, and where in it a problem is to begin.
+// A text, and where in it the reader stands.
 pub struct Reader<'a> {
     pub src: &'a [u8],
     pub at: usize,
-}
-
-// The problem that begins at a position and takes the rest of the text; past the end there is none.
-pub fn read_at(s: &[u8], at: usize) -> Read
-    ensures { λ r. ⌜ r ≡ Texts.readProblem (drop at (now (s .entry))) ⌝ }
-{
-    if at > s.len() {
-        let end = s.len();
-        return read_problem(&s[end..]);
-    }
-    read_problem(&s[at..])
 }
 
 // A reader at the start of a text.
@@ -30,16 +25,45 @@ pub fn new<'a>(src: &'a [u8]) -> Reader<'a>
     Reader { src, at: 0 }
 }
 
-// The problem at the reader's position.
-pub fn problem<'a>(r: Reader<'a>) -> Read
-    ensures { λ p. ⌜ p ≡ Texts.readProblem (drop (r .entry .at) (now (r .entry .src))) ⌝ }
+// The first eight lines from the reader's position on.
+pub fn head<'a>(r: Reader<'a>) -> Found
+    ensures { λ f. ⌜ f ≡ Texts.headAt (now (r .entry .src)) (r .entry .at) ⌝ }
 {
-    read_at(r.src, r.at)
+    head_at(r.src, r.at)
+}
+
+// The reader behind them.
+pub fn past_head<'a>(r: Reader<'a>) -> Reader<'a>
+    ensures { λ q. ⌜ (q .src ≡ r .entry .src) × (q .at ≡ Texts.headAt (now (r .entry .src)) (r .entry .at) .at) ⌝ }
+{
+    let at = head_end(r.src, r.at);
+    Reader { src: r.src, at }
+}
+
+// The list of actuators at the reader's position.
+pub fn list<'a>(r: Reader<'a>) -> Listing
+    ensures { λ l. ⌜ l ≡ Listings.listAt (now (r .entry .src)) (r .entry .at) ⌝ }
+{
+    list_at(r.src, r.at)
+}
+
+// The first eight lines of a text.
+pub fn read_head(s: &[u8]) -> Found
+    ensures { λ f. ⌜ f ≡ Texts.headAt (now (s .entry)) 0 ⌝ }
+{
+    head(new(s))
+}
+
+// The list of actuators behind them.
+pub fn read_list(s: &[u8]) -> Listing
+    ensures { λ l. ⌜ l ≡ Listings.listAt (now (s .entry)) (Texts.headAt (now (s .entry)) 0 .at) ⌝ }
+{
+    list(past_head(new(s)))
 }
 
 // The problem of a whole text.
 pub fn read(s: &[u8]) -> Read
     ensures { λ p. ⌜ p ≡ Texts.readProblem (now (s .entry)) ⌝ }
 {
-    problem(new(s))
+    read_of(read_head(s), read_list(s))
 }

@@ -17,9 +17,10 @@ pub struct Problem {
     pub limited: bool,
 }
 
-/// A path: its duration, its decision, its 17 nodes of 22 numbers.
+/// A path: its duration, the largest defect of its run, its decision, its 17 nodes of 22 numbers.
 pub struct Path {
     pub duration: f64,
+    pub max_defect: f64,
     pub decision: [f64; 193],
     pub nodes: [f64; 374],
 }
@@ -54,6 +55,7 @@ mod c {
             workspace_count: usize,
             told: &mut [usize; 5],
             duration: &mut f64,
+            max_defect: &mut f64,
             decision: &mut [f64; 193],
             nodes: &mut [f64; 374],
         ) -> usize;
@@ -100,7 +102,7 @@ pub fn sample_text(text: &[u8], workspace: &mut [f64], requested: usize, index: 
 
 /// The path of a problem in numbers.
 pub fn plan_numbers(p: &Problem, workspace: &mut [f64]) -> Result<Path, Refusal> {
-    let (mut told, mut path) = ([0; 5], Path { duration: 0.0, decision: [0.0; 193], nodes: [0.0; 374] });
+    let (mut told, mut path) = ([0; 5], Path { duration: 0.0, max_defect: 0.0, decision: [0.0; 193], nodes: [0.0; 374] });
     let number = unsafe {
         c::slew_plan_numbers(
             &p.counts,
@@ -111,6 +113,7 @@ pub fn plan_numbers(p: &Problem, workspace: &mut [f64]) -> Result<Path, Refusal>
             workspace.len(),
             &mut told,
             &mut path.duration,
+            &mut path.max_defect,
             &mut path.decision,
             &mut path.nodes,
         )

@@ -178,10 +178,11 @@ pub fn slew_damped_step(v: &mut [f64], m: usize, r: &[f64], lambda: f64, g: &mut
     unsafe { slices::slew_damped_step(v.as_mut_ptr(), v.len(), m, r.as_ptr(), r.len(), lambda, g.as_mut_ptr(), g.len()) }
 }
 
-/// What an entry of the planner fills: place, runs, controls, wheels, iterations; duration; decision; nodes.
+/// What an entry of the planner fills: place, runs, controls, wheels, iterations; duration; largest defect; decision; nodes.
 pub struct Planned {
     pub counts: [usize; 5],
     pub duration: f64,
+    pub max_defect: f64,
     pub z: [f64; 193],
     pub nodes: [[f64; 22]; 17],
 }
@@ -198,6 +199,7 @@ mod entries {
             ws_len: usize,
             counts: &mut [usize; 5],
             duration: &mut f64,
+            max_defect: &mut f64,
             z: &mut [f64; 193],
             nodes: &mut [[f64; 22]; 17],
         ) -> usize;
@@ -215,6 +217,7 @@ mod entries {
             ws_len: usize,
             counts: &mut [usize; 5],
             duration: &mut f64,
+            max_defect: &mut f64,
             z: &mut [f64; 193],
             nodes: &mut [[f64; 22]; 17],
         ) -> usize;
@@ -224,7 +227,8 @@ mod entries {
 /// Our entry's seed; the workspace is a slice.
 pub fn slew_plan_numbers(flat: &crate::maps::Flat, b: &[f64; 29], limited: bool, ws: &mut [f64], o: &mut Planned) -> usize {
     let (c, v) = (&flat.counts, &flat.numbers);
-    unsafe { entries::slew_plan_numbers(c, v, b, limited, ws.as_mut_ptr(), ws.len(), &mut o.counts, &mut o.duration, &mut o.z, &mut o.nodes) }
+    let lent = (ws.as_mut_ptr(), ws.len());
+    unsafe { entries::slew_plan_numbers(c, v, b, limited, lent.0, lent.1, &mut o.counts, &mut o.duration, &mut o.max_defect, &mut o.z, &mut o.nodes) }
 }
 
 /// A caller's seed: three slices that do not overlap.
@@ -234,7 +238,7 @@ pub fn slew_plan_from_numbers(flat: &crate::maps::Flat, b: &[f64; 29], limited: 
     let lent = (ws.as_mut_ptr(), ws.len());
     unsafe {
         entries::slew_plan_from_numbers(
-            c, v, b, limited, seed.duration, r.0, r.1, t.0, t.1, lent.0, lent.1, &mut o.counts, &mut o.duration, &mut o.z, &mut o.nodes,
+            c, v, b, limited, seed.duration, r.0, r.1, t.0, t.1, lent.0, lent.1, &mut o.counts, &mut o.duration, &mut o.max_defect, &mut o.z, &mut o.nodes,
         )
     }
 }

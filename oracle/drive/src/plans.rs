@@ -153,7 +153,7 @@ fn at_stop(plan: &Plan, controls: &[f64]) -> bool {
 }
 
 /// Number, place, runs, then 1 for a workspace that is untouched before the first run and all +0 after it; of a path also the controls, wheels, iterations,
-/// duration, decision and nodes.
+/// duration, largest defect, decision and nodes.
 fn plan_by_rust(i: &[u64], o: &mut Words) -> bool {
     let plan = Plan::take(&mut Reader(i));
     let found = by_rust(&plan, false);
@@ -163,6 +163,7 @@ fn plan_by_rust(i: &[u64], o: &mut Words) -> bool {
     if let Some((nodes, decision)) = &found.path {
         [found.controls as u64, found.wheels as u64, u64::from(nodes.iterations)].iter().for_each(|n| o.n(*n));
         o.f(nodes.duration);
+        o.f(nodes.defect);
         o.all(decision);
         (decision.len()..193).for_each(|_| o.f(0.0));
         put_nodes(nodes, o);
@@ -174,7 +175,7 @@ fn plan_by_rust(i: &[u64], o: &mut Words) -> bool {
 fn plan_by_port(i: &[u64], o: &mut Words) {
     let plan = Plan::take(&mut Reader(i));
     let mut ws = vec![plan.fill; plan.lent];
-    let mut out = Planned { counts: [77; 5], duration: 1.0, z: [1.0; 193], nodes: [[1.0; 22]; 17] };
+    let mut out = Planned { counts: [77; 5], duration: 1.0, max_defect: 1.0, z: [1.0; 193], nodes: [[1.0; 22]; 17] };
     let number = match &plan.seed {
         None => slew_plan_numbers(&plan.flat, &plan.body, plan.limited, &mut ws, &mut out),
         Some(seed) => slew_plan_from_numbers(&plan.flat, &plan.body, plan.limited, seed, &mut ws, &mut out),
@@ -188,10 +189,11 @@ fn plan_by_port(i: &[u64], o: &mut Words) {
     if number == 0 {
         [controls, wheels, iterations].iter().for_each(|n| o.n(*n as u64));
         o.f(out.duration);
+        o.f(out.max_defect);
         o.all(&out.z);
         out.nodes.iter().for_each(|node| o.all(node));
     } else {
-        let zeros = out.z.iter().chain(out.nodes.iter().flatten()).chain([&out.duration]).all(|x| x.to_bits() == 0);
+        let zeros = out.z.iter().chain(out.nodes.iter().flatten()).chain([&out.duration, &out.max_defect]).all(|x| x.to_bits() == 0);
         assert!(zeros && [controls, wheels, iterations] == [0; 3], "the path beside a refusal is blank");
     }
 }

@@ -76,11 +76,7 @@ fn by_map(i: &[u64], o: &mut Words, of: impl FnOnce(&Map, &mut Reader<'_>) -> Re
     match answer {
         _ if libm::was_outside() => o.given(11, &[]),
         Ok(v) => o.given(0, &v),
-        Err(err) => match refusal(&rust::words(err)).0 {
-            // a row too short, for which document 01 has no number
-            99 => return false,
-            number => o.given(number, &[]),
-        },
+        Err(err) => o.given(refusal(&rust::words(err)).0, &[]),
     }
     true
 }
@@ -314,7 +310,10 @@ pub const RUNS: [Entry; 12] = [
         |r, w| {
             let flat = maps::sound(r);
             flat.put(w);
-            row(r, w, flat.width());
+            // with no actuators a row too short is refused; with actuators the Rust panics
+            let short = flat.counts[..3] == [0; 3] && r.one_in(4);
+            let width = if short { r.below(3) as usize } else { flat.width() };
+            row(r, w, width);
             w.all(&three(r));
             w.all(&three(r));
             w.all(&four(r));

@@ -116,7 +116,7 @@ impl Entry {
 
 /// The number and place that document 01 gives to a refusal of the Rust.
 pub fn refusal(text: &str) -> (u64, u64) {
-    const TABLE: [(&str, u64, u64); 29] = [
+    const TABLE: [(&str, u64, u64); 30] = [
         ("planner quaternion", 5, 0),
         ("3x3 matrix is not invertible", 6, 0),
         ("inertia tensor is not symmetric", 6, 0),
@@ -136,6 +136,7 @@ pub fn refusal(text: &str) -> (u64, u64) {
         ("slew-rate limit produced an invalid", 7, 2),
         ("slew_rate_limit_rad_s must be", 4, 0),
         ("planner needs three independent", 8, 0),
+        ("body-torque control has the wrong width", 8, 0),
         ("collocation seed", 10, 0),
         ("CMG pyramid is singular", 12, 0),
         ("wheel power exceeds", 13, 0),

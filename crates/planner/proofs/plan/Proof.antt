@@ -1,11 +1,12 @@
 -- `planner::plan` meets its contract.
 use mathlib.Core.Path.{refl}
+use mathlib.Core.List.{[]}
 use Rattle.problem.specs.Problems.{check}
 use Rattle.planner.specs.Plans as Plans
 use Rattle.planner.specs.PlanLaws.{sized-as}
 use Rattle.planner.specs.Outcomes.{outcome-as, entry-refused, entry-as}
-use Rattle.planner.specs.Promises.{Promised, ownSeed}
-use Rattle.planner.specs.PromisesKept.{plan-promised}
+use Rattle.planner.specs.Promises.{Answers, ownSeed}
+use Rattle.planner.specs.PromisesKept.{plan-answers}
 use Rattle.planner.proofs.Fitting.{problem-held}
 use borrow.Author.Needs.{needs}
 use Rattle.planner.proofs.plan.Statement.{statement}
@@ -28,14 +29,14 @@ with-profile-requires c κs = sized-as _ (c .before .before .before .before .che
 
 returns : tie.Need-returns
 unfolding Plans.plan
-returns c = entry-refused (λ r. Promised (c .before .before .before .before .before .before .args .p) (ownSeed (check (c .before .before .before .before .before .before .args .p) .problem)) r) _ (c .refused .ensures) (rw (← c .before .before .before .before .check .ensures, c .before .before .fate .given .1) refl)
+returns c = entry-refused (λ r. Answers (c .before .before .before .before .before .before .args .p) (ownSeed (check (c .before .before .before .before .before .before .args .p) .problem)) r) _ [] (c .refused .ensures) (rw (← c .before .before .before .before .check .ensures, c .before .before .fate .given .1) refl) (λ fit. plan-answers _ (problem-held (c .before .before .before .before .before .before .args .p) _ (c .before .before .before .before .before .before .good .0)) _)
 
 same-length : tie.Need-same-length
 same-length c = search needs
 
 returns-2 : tie.Need-returns-2
 unfolding Plans.plan
-returns-2 c = entry-as (λ r. Promised (c .before .before .before .before .before .before .before .before .before .args .p) (ownSeed (check (c .before .before .before .before .before .before .before .before .before .args .p) .problem)) r) (outcome-as (c .before .before .with-profile .ensures) (rw (← c .before .before .before .before .before .before .before .check .ensures, c .before .before .before .before .before .enum-told .given .1) refl)) (λ fit g. plan-promised _ (problem-held (c .before .before .before .before .before .before .before .before .before .args .p) _ (c .before .before .before .before .before .before .before .before .before .good .0)) _ g)
+returns-2 c = entry-as (λ r. Answers (c .before .before .before .before .before .before .before .before .before .args .p) (ownSeed (check (c .before .before .before .before .before .before .before .before .before .args .p) .problem)) r) (outcome-as (c .before .before .with-profile .ensures) (rw (← c .before .before .before .before .before .before .before .check .ensures, c .before .before .before .before .before .enum-told .given .1) refl)) (λ fit. plan-answers _ (problem-held (c .before .before .before .before .before .before .before .before .before .args .p) _ (c .before .before .before .before .before .before .before .before .before .good .0)) _)
 
 pub plan-spec : {M : Type 1} → statement M
 plan-spec =

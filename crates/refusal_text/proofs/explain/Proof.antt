@@ -2,9 +2,8 @@
 use mathlib.Core.Path.{_≡_}
 use borrow.Author.Tests.{ne-eqb, lt-ltb, le-ltb}
 use Rattle.refusal_text.specs.Sentences.{explain}
-use Rattle.text_writer.specs.PutLaws.{puts-most}
 use mathlib.Core.Logic.{⊎-elim, inl, inr}
-use Rattle.refusal_text.proofs.Unknown.{unknown}
+use Rattle.refusal_text.proofs.Past21.{explain-later}
 use borrow.Author.Needs.{needs}
 use native.Mathlib.Omega.{arith}
 use Rattle.refusal_text.proofs.explain.Statement.{statement}
@@ -25,11 +24,8 @@ run-requires c κs = search needs
 end-check-requires : tie.Need-end-check-requires
 end-check-requires c κs = search needs
 
-slice-aggregate-put-all : tie.Need-slice-aggregate-put-all
-slice-aggregate-put-all c = search needs
-
-put-all-requires : tie.Need-put-all-requires
-put-all-requires c κs = search needs
+later-requires : tie.Need-later-requires
+later-requires c κs = search needs
 
 same-length : tie.Need-same-length
 same-length c = search needs
@@ -71,7 +67,7 @@ same-length-6 c = search needs
 
 returns-6 : tie.Need-returns-6
 unfolding explain
-returns-6 c = rw (unknown _ _ (⊎-elim (λ w. inl (w .taken)) (λ w. inr (w .3 .left)) (c .before .before .before .before .before .if1 .came)) (c .before .before .before .before .before .before .match .rest .0 .1) (c .before .before .before .before .before .before .match .rest .1)) (puts-most (omega arith) (c .before .before .put-all .ensures))
+returns-6 c = rw (explain-later _ _ (⊎-elim (λ w. inl (w .taken)) (λ w. inr (w .3 .left)) (c .before .before .before .before .if1 .came)) (c .before .before .before .before .before .match .rest .0 .1) (c .before .before .before .before .before .match .rest .1)) (c .before .before .later .ensures)
 
 pub explain-spec : {M : Type 1} → statement M
 explain-spec =
@@ -82,8 +78,7 @@ explain-spec =
     argument-requires
     run-requires
     end-check-requires
-    slice-aggregate-put-all
-    put-all-requires
+    later-requires
     same-length
     returns
     same-length-2

@@ -10,7 +10,7 @@ use Rattle.sample_text.proofs.plan_course.Tie as tie
 returns : tie.Need-returns
 returns c =
     let start = c .before .before .before .before .before .before .before .before .args in (
-      c .unread .ensures ∙ course-unread (start .text .now) (length (start .ws .now)) (c .before .before .before .before .before .read-problem .ensures) (c .before .before .fate .given .1),
+      c .unread .ensures ∙ course-unread (start .text .now) (length (start .ws .now)) (c .before .before .before .before .before .read .ensures) (c .before .before .fate .given .1),
       rw (c .unread .ensures, runs-of) (leaves-none _),
     )
 
@@ -18,7 +18,7 @@ returns-2 : tie.Need-returns-2
 returns-2 c =
     let start = c .before .before .before .before .before .before .before .before .before .before .before .args in
     let made = c .before .before .before .plan .ensures in (
-      c .course-of .ensures ∙ course-planned (start .text .now) (length (start .ws .now)) (c .before .before .before .before .before .before .before .before .read-problem .ensures) (c .before .before .before .before .before .enum-told .given .1) (made .0),
+      c .course-of .ensures ∙ course-planned (start .text .now) (length (start .ws .now)) (c .before .before .before .before .before .before .before .before .read .ensures) (c .before .before .before .before .before .enum-told .given .1) (made .0),
       rw (c .course-of .ensures, runs-of) (made .1 .0),
     )
 

@@ -1,7 +1,7 @@
 //! store_texts FILE: writes the texts that the crate replay_texts runs, with the answers of the published Rust read and written by texts.rs.
 //!
-//! A case: a line of the kind (1 a plan, 2 from a caller's seed, 3 a dense sample), the text's bytes, the words, the answer's bytes; a line of the words; the
-//! text; the answer; a line feed. Numbers are hexadecimal. No case crosses a multiple of 65,536 bytes: empty lines fill up.
+//! A case: a line of the kind (1 a plan, 2 from a caller's seed, 3 a dense sample; 16 more: the answer is wrong on purpose), the text's bytes, the words, the
+//! answer's bytes; a line of the words; the text; the answer; a line feed. Numbers are hexadecimal. No case crosses a multiple of 65,536 bytes: empty lines fill up.
 
 use drive::damage::{self, EXAMPLE, example_with, filled, text_of};
 use drive::plans::begun;
@@ -18,22 +18,53 @@ const LENT: usize = 8_000;
 
 const BLOCK: usize = 65_536;
 
+/// Added to a kind where the answer is wrong on purpose; of so many cases of a kind one is stored so besides.
+const WRONG: u64 = 16;
+const OF: u64 = 20;
+
 const WHEEL: &str = "\n  (wheel 3FF 0 0 3FF 3FF none)";
 
-/// The bytes so far, which texts are among them, and how many answers there are by kind, number and place.
+/// The bytes so far, which texts are among them, how many answers there are by kind, number and place, how many of each kind, and how many are wrong on purpose.
 #[derive(Default)]
 struct Store {
     bytes: Vec<u8>,
     plans: BTreeSet<Vec<u8>>,
     met: BTreeMap<(u64, u64, u64), u64>,
+    put: [u64; 4],
+    wrong: u64,
 }
 
 fn line_of(words: &[u64]) -> String {
     words.iter().map(|word| format!("{word:x}")).collect::<Vec<String>>().join(" ")
 }
 
+/// An answer that is wrong in one byte, of which the k-th is another digit, the last missing, or one too many.
+fn wrong(answer: &[u8], k: u64) -> Vec<u8> {
+    let digits: Vec<usize> = (0..answer.len()).filter(|at| answer[*at].is_ascii_digit()).collect();
+    let mut other = answer.to_vec();
+    match k % 4 {
+        0 => other.truncate(answer.len() - 1),
+        1 => other.push(b'1'),
+        _ => {
+            let at = digits[(k as usize * 7_919) % digits.len()];
+            other[at] = if other[at] == b'7' { b'6' } else { b'7' };
+        }
+    }
+    other
+}
+
 impl Store {
+    /// A case, and now and then the same with a wrong answer.
     fn put(&mut self, kind: u64, text: &[u8], words: &[u64], answer: &[u8]) {
+        self.put_case(kind, text, words, answer);
+        self.put[kind as usize] += 1;
+        if self.put[kind as usize] % OF == 0 {
+            self.put_case(kind + WRONG, text, words, &wrong(answer, self.put[kind as usize] / OF));
+            self.wrong += 1;
+        }
+    }
+
+    fn put_case(&mut self, kind: u64, text: &[u8], words: &[u64], answer: &[u8]) {
         let head = line_of(&[kind, text.len() as u64, words.len() as u64, answer.len() as u64]);
         let case = [head.as_bytes(), b"\n", line_of(words).as_bytes(), b"\n", text, answer, b"\n"].concat();
         assert!(case.len() <= BLOCK, "a case fits a block");
@@ -269,6 +300,6 @@ fn main() -> ExitCode {
     for ((kind, number, place), count) in &store.met {
         println!("kind {kind} number {number} place {place}: {count}");
     }
-    println!("{} cases, {} bytes, in {file}", store.met.values().sum::<u64>(), store.bytes.len());
+    println!("{} cases, {} wrong answers on purpose, {} bytes, in {file}", store.met.values().sum::<u64>(), store.wrong, store.bytes.len());
     ExitCode::SUCCESS
 }

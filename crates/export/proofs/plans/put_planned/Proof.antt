@@ -1,4 +1,6 @@
 -- `export::plans::put_planned` meets its contract, by the contracts of what it calls. Assumes nothing.
+use mathlib.Core.Path.{_∙_}
+use Rattle.export.specs.Told.{of-plan}
 use borrow.Author.Needs.{needs}
 use Rattle.export.proofs.plans.put_planned.Statement.{statement}
 use Rattle.export.proofs.plans.put_planned.Tie as tie
@@ -13,19 +15,23 @@ number-of-requires : tie.Need-number-of-requires
 number-of-requires c κs = search needs
 
 returns : tie.Need-returns
-returns c = (
-  rw (c .number-of .ensures),
-  (
-    rw (c .before .before .before .place-of .ensures),
-    (
-      search needs,
+returns c =
+    let t = of-plan (c .before .before .before .before .before .before .before .args .r) in (
+      c .number-of .ensures ∙ t .number,
       (
-        search needs,
-        rw (c .before .rows .ensures),
+        rw (c .before .before .before .place-of .ensures, t .place, ← t .runs),
+        (
+          search needs,
+          (
+            search needs,
+            (
+              search needs,
+              rw (c .before .rows .ensures),
+            ),
+          ),
+        ),
       ),
-    ),
-  ),
-)
+    )
 
 pub put-planned-spec : {M : Type 1} → statement M
 put-planned-spec = tie.close (tie.spec place-of-requires rows-requires number-of-requires returns)

@@ -1,4 +1,6 @@
 -- `export_runs::rigs::slew_body_torque` meets its contract, by the contracts of what it calls. Assumes nothing.
+use mathlib.Core.Path.{_∙_}
+use Rattle.export_runs.specs.Told.{of-fate}
 use borrow.Author.Needs.{needs}
 use Rattle.export_runs.proofs.rigs.slew_body_torque.Statement.{statement}
 use Rattle.export_runs.proofs.rigs.slew_body_torque.Tie as tie
@@ -14,7 +16,7 @@ number-of-requires c κs = search needs
 
 returns : tie.Need-returns
 returns c = (
-  rw (c .number-of .ensures, c .before .before .body-torque .ensures, c .before .before .before .before .before .before .map-of .ensures),
+  c .number-of .ensures ∙ of-fate (c .before .before .body-torque .result .tau) (c .before .before .body-torque .result .fate) .number ∙ rw (c .before .before .body-torque .ensures, c .before .before .before .before .before .before .map-of .ensures),
   rw (c .before .before .body-torque .ensures, c .before .before .before .before .before .before .map-of .ensures),
 )
 

@@ -1,4 +1,5 @@
-use mathlib.Core.Path.{_∙_}
+-- `forward::runs::run_of` meets its contract. Assumes nothing.
+use mathlib.Core.Path.{refl, _∙_}
 use lib.Ieee as Ieee
 use Rattle.controls.specs.Sizes.{dim-sized}
 use Rattle.forward.specs.Runs as Runs
@@ -33,22 +34,22 @@ enum-told-2 : tie.Need-enum-told-2
 enum-told-2 c = search needs
 
 start-requires : tie.Need-start-requires
-start-requires c κs = search needs
+start-requires c κs = dim-sized _ (c .before .before .before .before .before .before .before .before .before .before .before .before .before .before .before .pre .0) .wheels
 
 run-from-requires : tie.Need-run-from-requires
 unfolding Runs.start
 run-from-requires c κs = (
-  rw (c .before .before .before .before .before .before .before .before .before .before .before .before .rig-of .ensures, c .before .before .before .before .before .before .before .before .before .before .before .before .before .control-dim .ensures) (dim-sized _ (c .before .before .before .before .before .before .before .before .before .before .before .before .before .before .before .pre .0)),
-  (rw (c .before .before .before .before .before .before .before .before .before .before .before .before .before .control-dim .ensures) (c .before .before .before .before .before .before .before .before .before .before .before .before .before .before .before .pre .1), rw (c .before .before .before .before .before .before .before .before .before .before .before .before .rig-of .ensures, c .start .ensures) (launch-goes _ (c .before .before .before .before .before .before .before .launch .ensures) (c .before .before .before .before .before .enum-told2 .given .1))),
+  rw (c .before .before .before .before .before .before .before .before .before .before .before .before .before .rig-of .ensures, c .before .before .before .before .before .before .before .before .before .before .before .before .before .before .control-dim .ensures) (dim-sized _ (c .before .before .before .before .before .before .before .before .before .before .before .before .before .before .before .before .pre .0)),
+  (rw (c .before .before .before .before .before .before .before .before .before .before .before .before .before .before .control-dim .ensures) (c .before .before .before .before .before .before .before .before .before .before .before .before .before .before .before .before .pre .1), rw (c .before .before .before .before .before .before .before .before .before .before .before .before .before .rig-of .ensures, c .start .ensures) (launch-goes _ (c .before .before .before .before .before .before .before .before .launch .ensures) (c .before .before .before .before .before .before .enum-told2 .given .1))),
 )
 
 returns : tie.Need-returns
-unfolding Runs.runOf
-returns c = c .refused-run .ensures ∙ launch-refused _ _ _ _ (c .before .before .before .launch .ensures) (c .before .enum-told .given .1)
+unfolding Runs.runOf Runs.start
+returns c = c .refused-run .ensures ∙ launch-refused _ _ _ _ refl (c .before .before .before .launch .ensures) (c .before .enum-told .given .1)
 
 returns-2 : tie.Need-returns-2
 unfolding Runs.runOf Ieee.ofBits
-returns-2 c = rw (c .run-from .ensures, c .before .before .before .before .before .before .before .before .before .before .before .before .before .rig-of .ensures, c .before .before .before .before .before .before .before .before .before .before .before .before .before .before .control-dim .ensures, c .before .before .before .before .before .before .before .before .before .frame-of .ensures, c .before .start .ensures)
+returns-2 c = rw (c .run-from .ensures, c .before .before .before .before .before .before .before .before .before .before .before .before .before .before .rig-of .ensures, c .before .before .before .before .before .before .before .before .before .before .before .before .before .before .before .control-dim .ensures, c .before .before .before .before .before .before .before .before .before .before .frame-of .ensures, c .before .start .ensures)
 
 pub run-of-spec : {M : Type 1} → statement M
 run-of-spec =

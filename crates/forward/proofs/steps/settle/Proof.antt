@@ -68,18 +68,18 @@ part-momenta-next-end c = omega (arith, row-room _ _ (c .before .before .before 
 momenta-next-requires : tie.Need-momenta-next-requires
 momenta-next-requires c κs = search needs
 
-slice-aggregate-axis-sum : tie.Need-slice-aggregate-axis-sum
-slice-aggregate-axis-sum c = search needs
+slice-aggregate-body-momentum : tie.Need-slice-aggregate-body-momentum
+slice-aggregate-body-momentum c = search needs
 
-axis-sum-requires : tie.Need-axis-sum-requires
-axis-sum-requires c κs = search needs
+body-momentum-requires : tie.Need-body-momentum-requires
+body-momentum-requires c κs = search needs
 
 lead-from-requires : tie.Need-lead-from-requires
 lead-from-requires c κs = search needs
 
 returns-3 : tie.Need-returns-3
 unfolding Ieee.ofBits
-returns-3 c = settled-going _ _ _ _ _ (c .lead-from .ensures) (λ q q2. ends-settled _ _ _ (facing q (c .before .before .before .before .before .before .before .before .before .before .before .before .before .before .before .before .before .before .before .before .before .before .before .before .before .args .s)) _ _ _ q2 (c .before .before .before .before .before .before .before .before .before .before .before .before .before .before .before .before .before .before .swing .ensures) (c .before .before .before .before .before .before .before .before .before .before .before .before .before .before .before .before .enum-told .given .1) refl (sym (c .before .before .before .before .before .before .before .before .before .before .before .before .before .before .over-power .ensures) ∙ c .before .before .before .before .before .before .before .before .before .before .before .before .before .if1 .left) (c .before .before .before .before .before .before .before .before .before .before .before .momenta-next .ensures) (c .before .before .before .before .before .before .before .before .axis-sum .ensures)) (hands-on _ _ _ _ _ (c .before .before .before .before .before .before .before .before .before .before .before .before .before .before .before .before .before .before .swing .ensures) (c .before .before .before .before .before .before .before .before .before .before .before .before .before .before .before .before .enum-told .given .1))
+returns-3 c = settled-going _ _ _ _ _ (c .lead-from .ensures) (λ q q2. ends-settled _ _ _ (facing q (c .before .before .before .before .before .before .before .before .before .before .before .before .before .before .before .before .before .before .before .before .before .before .before .before .args .s)) _ _ _ q2 (c .before .before .before .before .before .before .before .before .before .before .before .before .before .before .before .before .before .swing .ensures) (c .before .before .before .before .before .before .before .before .before .before .before .before .before .before .before .enum-told .given .1) refl (sym (c .before .before .before .before .before .before .before .before .before .before .before .before .before .over-power .ensures) ∙ c .before .before .before .before .before .before .before .before .before .before .before .before .if1 .left) (c .before .before .before .before .before .before .before .before .before .before .momenta-next .ensures) (c .before .before .before .before .before .before .before .before .body-momentum .ensures)) (hands-on _ _ _ _ _ (c .before .before .before .before .before .before .before .before .before .before .before .before .before .before .before .before .before .swing .ensures) (c .before .before .before .before .before .before .before .before .before .before .before .before .before .before .before .enum-told .given .1))
 
 pub settle-spec : {M : Type 1} → statement M
 settle-spec =
@@ -105,7 +105,7 @@ settle-spec =
     part-momenta-next-start
     part-momenta-next-end
     momenta-next-requires
-    slice-aggregate-axis-sum
-    axis-sum-requires
+    slice-aggregate-body-momentum
+    body-momentum-requires
     lead-from-requires
     returns-3)

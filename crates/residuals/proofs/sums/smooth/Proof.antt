@@ -10,7 +10,7 @@ use Rattle.residuals.proofs.sums.smooth.Statement.{statement}
 use Rattle.residuals.proofs.sums.smooth.Tie as tie
 
 abbrev Inv-loop : tie.InvT-loop
-Inv-loop dt nodes e₀ k₀ e k = (k ≤ 16) × (e ≡ iter (Sums.smoothTurn nodes dt) Vec.zero k)
+Inv-loop dt nodes e₀ k₀ e k = (k ≤ 16) × (e ≡ iter (Sums.smoothTurn nodes dt) Vec.plusZero k)
 
 abbrev μ-loop : tie.MeasureT-loop
 μ-loop dt nodes e₀ k₀ e k = 16 - k

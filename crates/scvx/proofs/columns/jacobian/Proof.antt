@@ -1,10 +1,9 @@
 -- `scvx::columns::jacobian` meets its contract. Assumes nothing.
 use Prim.Native.Nat.{_+_, _*_, _-_, _≤_}
-use mathlib.Core.Path.{_≡_, _∙_}
+use mathlib.Core.Path.{_≡_, sym, _∙_}
 use lib.ListN.{length}
 use Rattle.common.specs.Iter.{row-end}
-use Rattle.dense.specs.Rows.{length-row-put}
-use Rattle.scvx.specs.ColumnLaws.{Front, front-none, front-next, front-broken, front-whole, part-length}
+use Rattle.scvx.specs.ColumnLaws.{Front, front-none, front-next, front-broken, front-whole}
 use native.Mathlib.Omega.{arith}
 use borrow.Author.Needs.{needs}
 use Rattle.scvx.proofs.columns.jacobian.Statement.{statement}
@@ -19,42 +18,28 @@ abbrev μ-loop : tie.MeasureT-loop
 loop-holds : tie.Need-loop-holds Inv-loop μ-loop
 loop-holds c = (search needs, (search needs, front-none _ _ _ _ _))
 
+column-requires : tie.Need-column-requires Inv-loop μ-loop
+column-requires c κs =
+    let a = c .before .before .before .before .args in
+    let s = c .before .before .before .before .pre in
+    let l = c .before .before .loop in
+    (s .sized, (s .narrow, (omega (arith, s .n-most), (s .m-most, omega (arith, row-end (l .c) (a .n) (a .m) (omega arith), s .fits, l .inv .1 .0)))))
+
 returns : tie.Need-returns Inv-loop μ-loop
 returns c =
-    let a = c .before .before .before .before .before .before .before .args in
-    let l = c .before .before .before .before .before .loop in
-    front-broken (a .p) (a .m) (a .z) (a .r0) (l .c) (l .v) (l .inv .1 .1) (c .before .before .before .column .ensures) (c .before .before .before .before .before .before .before .pre .m-is) (omega (arith, c .before .before .before .before .before .before .before .pre .n-is)) (c .before .fate .given .1)
-
-mul-at : tie.Need-mul-at Inv-loop μ-loop
-mul-at c = omega (arith, row-end (c .before .before .before .before .before .loop .c) (c .before .before .before .before .before .before .before .args .n) (c .before .before .before .before .before .before .before .args .m) (omega arith), c .before .before .before .before .before .before .before .pre .fits)
-
-add-end : tie.Need-add-end Inv-loop μ-loop
-add-end c = omega (arith, row-end (c .before .before .before .before .before .loop .c) (c .before .before .before .before .before .before .before .args .n) (c .before .before .before .before .before .before .before .args .m) (omega arith), c .before .before .before .before .before .before .before .pre .fits)
-
-mul-put-slopes : tie.Need-mul-put-slopes Inv-loop μ-loop
-mul-put-slopes c = omega (arith, row-end (c .before .before .before .before .before .loop .c) (c .before .before .before .before .before .before .before .args .n) (c .before .before .before .before .before .before .before .args .m) (omega arith), c .before .before .before .before .before .before .before .pre .fits)
-
-part-put-slopes-end : tie.Need-part-put-slopes-end Inv-loop μ-loop
-part-put-slopes-end c = omega (arith, row-end (c .before .before .before .before .before .loop .c) (c .before .before .before .before .before .before .before .args .n) (c .before .before .before .before .before .before .before .args .m) (omega arith), c .before .before .before .before .before .before .before .pre .fits)
-
-put-slopes-requires : tie.Need-put-slopes-requires Inv-loop μ-loop
-put-slopes-requires c κs =
-    let l = c .before .before .before .before .before .before .loop in
-    let room : l .c * c .before .before .before .before .before .before .before .before .args .m + c .before .before .before .before .before .before .before .before .args .m ≤ length (l .v) = omega (arith, row-end (l .c) (c .before .before .before .before .before .before .before .before .args .n) (c .before .before .before .before .before .before .before .before .args .m) (omega arith), c .before .before .before .before .before .before .before .before .pre .fits) in
-    omega (arith, part-length (c .before .before .before .before .before .before .before .before .args .m) (l .v) (l .c) room, c .before .before .before .before .before .before .before .before .pre .m-most)
+    let a = c .before .before .before .before .before .before .before .before .before .before .args in
+    let s = c .before .before .before .before .before .before .before .before .before .before .pre in
+    let l = c .before .before .before .before .before .before .before .before .loop in
+    front-broken (a .p) (a .m) (a .z) (a .r0) (l .c) (l .v) (l .inv .1 .1) (s .m-is) (omega (arith, s .n-is)) (sym (c .before .before .before .before .before .column .ensures .0) ∙ c .before .fate .given .1)
 
 loop-again : tie.Need-loop-again Inv-loop μ-loop
 loop-again c =
-    let a = c .before .before .before .before .before .before .before .before .before .before .before .args in
-    let l = c .before .before .before .before .before .before .before .before .before .loop in
-    let f = c .before .before .put-slopes in
-    let room : l .c * a .m + a .m ≤ length (l .v) = omega (arith, row-end (l .c) (a .n) (a .m) (omega arith), c .before .before .before .before .before .before .before .before .before .before .before .pre .fits) in (
-      search needs,
-      (
-        length-row-put (a .m) (l .v) (f .last .0) (l .c) room (f .kept .0 ∙ part-length (a .m) (l .v) (l .c) room) ∙ l .inv .1 .0,
-        front-next (a .p) (a .m) (a .z) (a .r0) (l .c) (l .v) (l .inv .1 .1) (c .before .before .before .before .before .before .before .column .ensures) (f .last .0) room (c .before .before .before .before .before .enum-told .given .1) (f .ensures),
-      ),
-    )
+    let a = c .before .before .before .before .before .before .before .before .before .args in
+    let l = c .before .before .before .before .before .before .before .loop in
+    let t = c .before .before .before .before .column .ensures in
+    let room : l .c * a .m + a .m ≤ length (l .v) = omega (arith, row-end (l .c) (a .n) (a .m) (omega arith), c .before .before .before .before .before .before .before .before .before .pre .fits, l .inv .1 .0) in
+    let next = front-next (a .p) (a .m) (a .z) (a .r0) (l .c) (l .v) (l .inv .1 .1) room (t .0) (c .enum-told .given .1) (t .1) in
+    (search needs, (next .0 ∙ l .inv .1 .0, next .1))
 
 returns-2 : tie.Need-returns-2 Inv-loop μ-loop
 returns-2 c =
@@ -70,19 +55,12 @@ jacobian-spec =
     Inv-loop
     μ-loop
     loop-holds
-    (λ c κs. search needs)
+    column-requires
     (λ c. search needs)
     (λ c. search needs)
     (λ c. search needs)
     returns
     (λ c. search needs)
-    mul-at
-    add-end
-    mul-put-slopes
-    (λ c. search needs)
-    (λ c. search needs)
-    part-put-slopes-end
-    put-slopes-requires
     (λ c. search needs)
     (λ c. search needs)
     loop-again

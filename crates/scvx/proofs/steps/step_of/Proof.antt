@@ -5,7 +5,7 @@ use mathlib.Core.List.{List}
 use lib.ListN.{length, take, drop, replicate}
 use lib.Seq.{length-take-le, length-front, take-at}
 use lib.Ieee.{Float, binary64, ofBits}
-use Rattle.dense.specs.Elimination.{told}
+use Rattle.elimination.specs.Elimination.{told}
 use Rattle.scvx.specs.StepLaws.{told-front, kept-front}
 use native.Mathlib.Omega.{arith}
 use borrow.Author.Needs.{needs}

@@ -5,6 +5,9 @@ use borrow.Author.Needs.{needs}
 use Rattle.scvx.proofs.steps.tried.Statement.{statement}
 use Rattle.scvx.proofs.steps.tried.Tie as tie
 
+measured-requires : tie.Need-measured-requires
+measured-requires c κs = c .before .before .before .before .before .before .before .before .before .before .before .pre .0 .m-most
+
 returns : tie.Need-returns
 unfolding Search.tried
 returns c = (
@@ -14,10 +17,13 @@ returns c = (
 
 returns-2 : tie.Need-returns-2
 unfolding Search.tried
-returns-2 c = (
-  rw (← c .before .before .before .before .before .before .before .trial-of .ensures, ← c .before .before .before .before .before .before .residuals-of .ensures, c .before .before .before .enum-told .given .1) (rw (c .before .over2 .ensures, c .before .before .before .before .before .ran .ensures, c .before .before .before .before .before .before .before .before .before .before .before .pre .0 .m-is) at (c .judged .ensures .0)),
-  λ j h. c .judged .ensures .1 (c .before .before .before .before .before .before .before .before .before .before .before .args .p) (c .before .before .before .before .before .before .before .before .before .before .before .pre .0 .m-is) (known-of (c .before .before .before .before .before .before .residuals-of .ensures) (c .before .before .before .enum-told .given .1)) j (rw (c .before .over2 .ensures, c .before .before .before .before .before .ran .ensures) h),
-)
+returns-2 c =
+    let sizes = c .before .before .before .before .before .before .before .before .before .before .before .before .before .pre .0 in
+    let goes = c .before .before .before .before .enum-told .given .1 in
+    let t = c .judged .ensures in (
+      rw (← c .before .before .before .before .before .before .before .before .trial-of .ensures, ← c .before .before .before .before .before .before .before .residuals-of .ensures, goes) (rw (c .before .before .over2 .ensures, c .before .before .before .before .before .before .ran .ensures, c .before .measured .ensures, sizes .m-is) at (t .0)),
+      λ j h. t .1 (c .before .before .before .before .before .before .before .before .before .before .before .before .before .args .p) (rw (c .before .measured .ensures) (known-of (c .before .before .before .before .before .before .before .residuals-of .ensures) goes (sizes .m-is))) j (rw (c .before .before .over2 .ensures, c .before .before .before .before .before .before .ran .ensures) h),
+    )
 
 pub tried-spec : {M : Type 1} → statement M
 tried-spec =
@@ -31,6 +37,7 @@ tried-spec =
     (λ c κs. search needs)
     (λ c. search needs)
     (λ c κs. search needs)
+    measured-requires
     (λ c κs. search needs)
     returns
     returns-2)

@@ -6,12 +6,11 @@ use Rattle.scvx.proofs.turns.start.Tie as tie
 
 returns : tie.Need-returns
 unfolding Ieee.ofBits
-returns c = rw (c .norm-slice .ensures)
+returns c = rw (c .measured .ensures)
 
 pub start-spec : {M : Type 1} → statement M
 start-spec =
     tie.close
     (tie.spec
-    (λ c. search needs)
     (λ c κs. search needs)
     returns)

@@ -3,7 +3,7 @@ use Prim.Native.Nat.{_+_, _*_, _-_, _≤_}
 use mathlib.Core.Path.{_≡_, ap, sym, _∙_}
 use lib.ListN.{length, take}
 use Rattle.common.specs.Iter.{iter, iter-none, iter-next, iter-stays}
-use Rattle.dense.specs.Rows.{rows}
+use Rattle.normal_equations.specs.Rows.{rows}
 use Rattle.scvx.specs.declared.Status.the-variants.{Going}
 use Rattle.scvx.specs.declared.State.{State}
 use Rattle.scvx.specs.Search as Search

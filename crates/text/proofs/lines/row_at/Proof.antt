@@ -1,63 +1,41 @@
 -- `text::lines::row_at` meets its contract. Assumes nothing.
 use Prim.Native.Nat.{_+_, _-_, _≤_}
+use native.Mathlib.Omega.{arith}
 use mathlib.Core.Path.{_≡_, refl, sym, _∙_}
-use lib.ListN.{length, length-set}
+use lib.ListN.{length}
 use Rattle.text.specs.declared.hex.Real.the-variants.{Is}
 use Rattle.text.specs.Lines.{wordAt, rowFrom, rowAt}
-use Rattle.text.proofs.Rows.{row-start, row-step, row-word, row-end, row-wrong, word-within}
+use Rattle.text.proofs.Rows.{row-start, with-float, row-step, row-stop, row-end, word-within}
 use borrow.Author.Needs.{needs}
-use native.Mathlib.Omega.{arith}
 use Rattle.text.proofs.lines.row_at.Statement.{statement}
 use Rattle.text.proofs.lines.row_at.Tie as tie
 
 abbrev Inv-loop : tie.InvT-loop
-Inv-loop s at n v₀ i₀ k₀ v i k = (k ≤ n) × (i ≤ length s) × (length v ≡ 9) × (rowAt s at n ≡ rowFrom s (n - k) k i v)
+Inv-loop s at r₀ k₀ r k = (k ≤ length s) × (r .count ≡ k) × (r .at ≤ length s) × (rowAt s at ≡ rowFrom s (length s - k) r)
 
 abbrev μ-loop : tie.MeasureT-loop
-μ-loop s at n v₀ i₀ k₀ v i k = n - k
+μ-loop s at r₀ k₀ r k = length s - k
 
 loop-holds : tie.Need-loop-holds Inv-loop μ-loop
-loop-holds c = (omega arith, omega arith, refl, row-start _ _ _)
-
-word-at-requires : tie.Need-word-at-requires Inv-loop μ-loop
-word-at-requires c κs = search needs
-
-enum-known-x : tie.Need-enum-known-x Inv-loop μ-loop
-enum-known-x c = search needs
-
-enum-told : tie.Need-enum-told Inv-loop μ-loop
-enum-told c = search needs
-
-wrong-row-requires : tie.Need-wrong-row-requires Inv-loop μ-loop
-wrong-row-requires c κs = search needs
+loop-holds c = (omega arith, refl, omega arith, row-start _ _)
 
 returns : tie.Need-returns Inv-loop μ-loop
-returns c = row-wrong _ _ _ _ (c .wrong-row .ensures) (c .before .before .before .before .before .loop .inv .3 ∙ row-word _ _ _ _ _ (omega arith) (sym (c .before .before .before .word-at .ensures .is) ∙ c .before .enum-told .given .1))
-
-mul-v : tie.Need-mul-v Inv-loop μ-loop
-mul-v c = omega arith
-
-array-write-v : tie.Need-array-write-v Inv-loop μ-loop
-array-write-v c = omega arith
-
-add-k : tie.Need-add-k Inv-loop μ-loop
-add-k c = search needs
-
-loop-less : tie.Need-loop-less Inv-loop μ-loop
-loop-less c = search needs
+returns c = sym (c .before .before .before .before .loop .inv .3 ∙ row-stop _ _ _ (sym (c .before .before .word-at .ensures .is) ∙ c .enum-told .given .1))
 
 loop-again : tie.Need-loop-again Inv-loop μ-loop
 loop-again c =
-    let a = c .before .before .before .before .before .before .before .args in
-    let l = c .before .before .before .before .before .loop in
-    let x = c .before .x .given .0 .0 in
-    let j = c .before .x .given .0 .1 .0 in
-    let e : wordAt (a .s .now) (l .i) ≡ Is x j = sym (c .before .before .before .word-at .ensures .is) ∙ c .before .x .given .1 in
-    let n : a .n - (l .k + 1) ≡ a .n - l .k - 1 = omega arith in
-    (omega arith, word-within _ _ x j _ (c .before .before .before .word-at .ensures) (c .before .x .given .1), length-set (l .v) (l .k) x ∙ l .inv .2, rw n (l .inv .3 ∙ row-step (a .s .now) (l .k) (l .i) (l .v) _ (omega arith) x j e))
+    let found = c .before .before .before in
+    let word = found .before .before in
+    let start = word .before .before .before .before .args in
+    let l = word .before .before .loop in
+    let x = found .x .given .0 .0 in
+    let j = found .x .given .0 .1 .0 in
+    let e : wordAt (start .s .now) (l .r .at) ≡ Is x j = sym (word .word-at .ensures .is) ∙ found .x .given .1 in
+    let n : length (start .s .now) - (l .k + 1) ≡ length (start .s .now) - l .k - 1 = omega arith in
+    (omega arith, refl, word-within _ _ x j _ (word .word-at .ensures) (found .x .given .1), rw (n, with-float (l .r) (l .k) _ x j (l .inv .1) (c .put-float .ensures)) (l .inv .3 ∙ row-step (start .s .now) (l .r) _ (omega arith) x j e))
 
 returns-2 : tie.Need-returns-2 Inv-loop μ-loop
-returns-2 c = let l = c .before .loop in record { is = sym (l .inv .3 ∙ row-end _ _ _ _ _ (omega arith)); within = omega arith }
+returns-2 c = sym (c .before .loop .inv .3 ∙ row-end _ _ _ (omega arith))
 
 pub row-at-spec : {M : Type 1} → statement M
 row-at-spec =
@@ -66,14 +44,12 @@ row-at-spec =
     Inv-loop
     μ-loop
     loop-holds
-    word-at-requires
-    enum-known-x
-    enum-told
-    wrong-row-requires
+    (λ c κs. search needs)
+    (λ c. search needs)
+    (λ c. search needs)
     returns
-    mul-v
-    array-write-v
-    add-k
-    loop-less
+    (λ c κs. search needs)
+    (λ c. search needs)
+    (λ c. search needs)
     loop-again
     returns-2)

@@ -1,13 +1,13 @@
 -- `text::listing::list_at` meets its contract. Assumes nothing.
 use Prim.Native.Nat.{_-_, _≤_}
+use native.Mathlib.Omega.{arith}
 use mathlib.Core.Path.{_≡_}
 use lib.ListN.{length}
-use borrow.Author.Tests.{not-true, not-false}
+use borrow.Author.Tests.{lt-ltb, not-true, not-false}
 use Rattle.common.specs.Iter.{iter, iter-none, iter-next}
-use Rattle.text.specs.Listing.{turn}
+use Rattle.text.specs.Listing.{turn, listAt}
 use Rattle.text.proofs.Lists.{Counts, counts-first, counts-next, turn-goes, list-early, list-whole}
 use borrow.Author.Needs.{needs}
-use native.Mathlib.Omega.{arith}
 use Rattle.text.proofs.listing.list_at.Statement.{statement}
 use Rattle.text.proofs.listing.list_at.Tie as tie
 
@@ -17,41 +17,30 @@ Inv-loop s at c₀ k₀ c k = (k ≤ length s) × (c ≡ iter (turn s) c₀ k) �
 abbrev μ-loop : tie.MeasureT-loop
 μ-loop s at c₀ k₀ c k = length s - k
 
-first-line-requires : tie.Need-first-line-requires Inv-loop μ-loop
-first-line-requires c κs = search needs
+returns : tie.Need-returns Inv-loop μ-loop
+unfolding listAt
+returns c = simp (lt-ltb _ _ (c .before .before .if1 .taken)) (rw (c .before .no-actuators .ensures) at (c .wrong-line .ensures))
 
 loop-holds : tie.Need-loop-holds Inv-loop μ-loop
 loop-holds c = (omega arith, iter-none _ _, rw (c .first-line .ensures) (counts-first _ _))
 
-returns : tie.Need-returns Inv-loop μ-loop
-returns c = list-early _ _ _ (c .before .before .before .loop .c) (c .before .before .before .loop .k) (c .before .before .before .before .first-line .ensures) (c .before .before .before .loop .inv .1) (omega arith) (not-true _ (c .if1 .taken))
+returns-2 : tie.Need-returns-2 Inv-loop μ-loop
+returns-2 c =
+    let l = c .before .before .before in
+    list-early _ _ _ (l .loop .c) (l .loop .k) (l .before .first-line .ensures) (l .loop .inv .1) (l .before .before .if1 .left) (omega arith) (not-true _ (c .if2 .taken))
 
 next-line-requires : tie.Need-next-line-requires Inv-loop μ-loop
 next-line-requires c κs = omega arith
 
-add-k : tie.Need-add-k Inv-loop μ-loop
-add-k c = search needs
-
-loop-less : tie.Need-loop-less Inv-loop μ-loop
-loop-less c = search needs
-
 loop-again : tie.Need-loop-again Inv-loop μ-loop
-loop-again c = (omega arith, iter-next _ _ _ (c .before .before .before .before .loop .inv .1) (turn-goes _ (c .before .before .before .before .loop .k) _ _ (not-false _ (c .before .if1 .left)) (c .next-line .ensures)), rw (c .next-line .ensures) (counts-next _ _ _ (c .before .before .before .before .loop .inv .2)))
+loop-again c =
+    let l = c .before .before .before .before .loop in
+    (omega arith, iter-next _ _ _ (l .inv .1) (turn-goes _ (l .k) _ _ (not-false _ (c .before .if2 .left)) (c .next-line .ensures)), rw (c .next-line .ensures) (counts-next _ _ _ (l .inv .2)))
 
-returns-2 : tie.Need-returns-2 Inv-loop μ-loop
-returns-2 c = list-whole _ _ _ (c .before .loop .c) (c .before .loop .k) (c .before .before .first-line .ensures) (c .before .loop .inv .1) (omega arith)
+returns-3 : tie.Need-returns-3 Inv-loop μ-loop
+returns-3 c =
+    let l = c .before in
+    list-whole _ _ _ (l .loop .c) (l .loop .k) (l .before .first-line .ensures) (l .loop .inv .1) (l .before .before .if1 .left) (omega arith)
 
 pub list-at-spec : {M : Type 1} → statement M
-list-at-spec =
-    tie.close
-    (tie.spec
-    Inv-loop
-    μ-loop
-    first-line-requires
-    loop-holds
-    returns
-    next-line-requires
-    add-k
-    loop-less
-    loop-again
-    returns-2)
+list-at-spec = tie.close (tie.spec Inv-loop μ-loop (λ c κs. search needs) (λ c κs. search needs) returns (λ c κs. search needs) loop-holds returns-2 next-line-requires (λ c. search needs) (λ c. search needs) loop-again returns-3)

@@ -1,0 +1,8 @@
+-- `elimination::pivots::positive` meets its contract. Assumes nothing.
+use Rattle.elimination.specs.TwoColumns.{abs-neg}
+use mathlib.Core.Path.{refl}
+use Rattle.elimination.proofs.pivots.positive.Statement.{statement}
+use Rattle.elimination.proofs.pivots.positive.Tie as tie
+
+pub positive-spec : {M : Type 1} → statement M
+positive-spec = tie.close (tie.spec (λ c. abs-neg _) (λ c. refl))

@@ -1,0 +1,2 @@
+-- What the programs answer.
+pub mod Programs

@@ -1,0 +1,27 @@
+-- What program `slew` answers to a text: its plan with our own seed and 8,000 numbers lent, printed, and the sentence of a refusal. Definitions only.
+use Prim.Native.Nat.{ℕ, _≤_}
+use mathlib.Core.Path.{_≡_}
+use mathlib.Core.List.{List, []}
+use lib.ListN.{length}
+use Rattle.common.specs.declared.Fate.{Fate}
+use Rattle.common.specs.declared.Fate.the-variants.{Going, Refused}
+use Rattle.planner.specs.declared.Planned.{Planned}
+use Rattle.text_writer.specs.Puts.{Puts}
+use Rattle.refusal_text.specs.Sentences as Sentences
+use Rattle.plan_text.specs.PlanTexts as PlanTexts
+use Rattle.programs.specs.declared.plans.Answered.{Answered}
+
+abbrev pub slew : List ℕ → Planned
+slew text = PlanTexts.planned text 8000
+
+-- for standard error
+abbrev pub sentence : Fate → List ℕ
+sentence (Refused number place) = Sentences.explain number place
+sentence Going = []
+
+-- both texts are put into lent buffers; the bytes that are told lie within the first
+pub record Answers (text out said : List ℕ) (r : Answered) (out′ said′ : List ℕ) : Type 0 where
+  pub bytes : r .bytes ≡ PlanTexts.told (slew text) out .bytes
+  pub prints : out′ ≡ PlanTexts.written (slew text) out
+  pub within : r .bytes ≤ length out′
+  pub says : Puts said 0 (sentence (PlanTexts.told (slew text) out .fate)) 212 said′ (r .said)

@@ -1,0 +1,79 @@
+// Program `slew_samples`: prints the dense samples of the problem whose text stands on standard input, one a line. The argument is the number of samples asked for, 17
+// where there is none; a path has more where its rate asks for more. A refusal is printed in the place of the samples that are left, with a sentence on standard
+// error. A program of this language has no exit status: a bad argument shows by its sentence, and by nothing on standard output.
+ghost use mathlib.Core.Path.{_≡_};
+ghost use Rattle.sample_text.specs.SampleTexts as SampleTexts;
+use libc::STDERR_FILENO;
+use libc::STDIN_FILENO;
+use libc::STDOUT_FILENO;
+use sample_text::Course;
+use sample_text::lines::write_step;
+use sample_text::plan_course;
+use sample_text::requests::Requested;
+use sample_text::requests::read_requested;
+
+// The plan of a text in 8,000 numbers, to take samples of.
+pub fn course(text: &[u8]) -> Course
+    ensures { λ r. ⌜ r ≡ SampleTexts.planCourse (now (text .entry)) 8000 ⌝ }
+{
+    let mut ws = [0.0; 8000];
+    plan_course(text, &mut ws)
+}
+
+// Prints one sample, and answers whether another follows.
+fn print_step(c: Course, requested: usize, index: usize) -> bool {
+    let mut out = [0u8; 272];
+    let mut said = [0u8; 212];
+    let line = write_step(c, requested, c.alpha, index, &mut out, &mut said);
+    let bytes = line.bytes;
+    io::write_all(STDOUT_FILENO, &out[..bytes]);
+    let told = line.said;
+    io::write_all(STDERR_FILENO, &said[..told]);
+    line.more
+}
+
+// No path has more than 100,000 samples.
+fn print_steps(c: Course, requested: usize) {
+    let mut index: usize = 0;
+    while index < 100_000 {
+        if !print_step(c, requested, index) {
+            return;
+        }
+        index += 1;
+    }
+}
+
+// A text longer than 4,096 bytes is refused, so one byte more is all that is looked at.
+fn print_samples(requested: usize) {
+    let mut text = [0u8; 4097];
+    let length = io::read_full(STDIN_FILENO, &mut text);
+    let c = course(&text[..length]);
+    print_steps(c, requested);
+}
+
+// The number of samples asked for. The first of the program's arguments is its own name.
+fn asked() -> Requested {
+    let given = os::arg_count();
+    if given < 2 {
+        return Requested::Of(17);
+    }
+    if given > 2 {
+        return Requested::Not;
+    }
+    let mut word = [0u8; 64];
+    let length = os::arg(1, &mut word);
+    read_requested(&word[..length])
+}
+
+pub fn run() {
+    let request = asked();
+    match request {
+        Requested::Of(requested) => print_samples(requested),
+        Requested::Not => {
+            io::write_all(
+                STDERR_FILENO,
+                b"slew_samples takes one argument at most, the number of samples in decimal digits.\n",
+            );
+        }
+    }
+}

@@ -1,0 +1,30 @@
+-- `text::lines::ended` meets its contract. Assumes nothing.
+use native.Mathlib.Omega.{arith}
+use borrow.Author.Tests.{not-true, not-false}
+use Rattle.geom.specs.Tests.{met, unmet}
+use Rattle.text.specs.Lines.{ended}
+use borrow.Author.Needs.{needs}
+use Rattle.text.proofs.lines.ended.Statement.{statement}
+use Rattle.text.proofs.lines.ended.Tie as tie
+
+returns : tie.Need-returns
+unfolding ended
+returns c = let start = c .before .before .before .before .before .args in simp (not-true (start .r .ok) (c .before .if1 .taken)) (c .wrong-row .ensures)
+
+returns-2 : tie.Need-returns-2
+unfolding ended
+returns-2 c =
+    let start = c .before .before .before .before .before .before .before .args in
+    simp (not-false (start .r .ok) (c .before .before .before .if1 .left), unmet (c .before .before .is-at .ensures .is) (c .before .if2 .taken)) (c .wrong-row2 .ensures)
+
+after-tail : tie.Need-add-t10
+after-tail c = omega (arith, c .before .before .is-at .ensures .within (not-false _ (c .before .if2 .left)))
+
+returns-3 : tie.Need-returns-3
+unfolding ended
+returns-3 c =
+    let start = c .before .before .before .before .before .before .before .args in
+    simp (not-false (start .r .ok) (c .before .before .before .if1 .left), met (c .before .before .is-at .ensures .is) (c .before .if2 .left))
+
+pub ended-spec : {M : Type 1} → statement M
+ended-spec = tie.close (tie.spec (λ c κs. search needs) returns (λ c κs. search needs) (λ c κs. search needs) returns-2 after-tail returns-3)

@@ -1,0 +1,16 @@
+-- `text::lines::words_at` meets its contract. Assumes nothing.
+use Rattle.text.specs.Lines.{wordsAt}
+use borrow.Author.Needs.{needs}
+use Rattle.text.proofs.lines.words_at.Statement.{statement}
+use Rattle.text.proofs.lines.words_at.Tie as tie
+
+returns : tie.Need-returns
+unfolding wordsAt
+returns c = simp (c .before .before .words .given .1, ← c .before .before .before .before .row-at .ensures) (c .floats .ensures)
+
+returns-2 : tie.Need-returns-2
+unfolding wordsAt
+returns-2 c = simp (c .before .before .words2 .given .1, ← c .before .before .before .before .row-at .ensures) (c .limited .ensures)
+
+pub words-at-spec : {M : Type 1} → statement M
+words-at-spec = tie.close (tie.spec (λ c κs. search needs) (λ c. search needs) (λ c κs. search needs) (λ c. search needs) (λ c κs. search needs) returns returns-2)
