@@ -7,7 +7,7 @@
  * overlaps nothing else that is lent; floats round to nearest and subnormals are kept, as in every program that has not changed this; the thread has
  * 256 kB of stack (over the examples a call used up to 107 kB).
  *
- * A refusal is its number of 1 to 21, with a place and the forward runs begun (README.md, "Refusals"); 0 is no refusal. */
+ * A refusal is its number of 1 to 21 or 28, with a place and the forward runs begun (README.md, "Refusals"); 0 is no refusal. */
 #ifndef SLEW_H
 #define SLEW_H
 
@@ -101,6 +101,21 @@ size_t slew_sample_count(double duration, size_t requested, double alpha, size_t
 size_t slew_sample_path(const double inertia[9], double tolerance, double duration, const double nodes[374],
                         size_t requested, double alpha, size_t index,
                         double sample[14], size_t *place);
+
+/* Below: functions that stand beside a plan. Link target/staticlib/libexport_tools.a, which `rt staticlib export_tools` writes. */
+
+/* Byte planes of a recorder's column: each number's 64 bits are combined with its predecessor's by exclusive or (the first is kept), then all top bytes stand
+ * first, all next bytes after them, down to the lowest. Like bytes stand together, so a compressor finds more in them. A column is up to SLEW_COLUMN_MOST bit
+ * patterns: for doubles cast the pointer, `(const uint64_t *)doubles`, and every bit comes back, a NaN's too. Any words of 64 bits serve as well.
+ *
+ * Returns 0, and the first 8 * column_count bytes of `out` are the planes; or 28 where the column is longer or `out` shorter than that, and `out` is as it was.
+ * What stood behind the planes stays. A column of 0 gives no bytes. */
+#define SLEW_COLUMN_MOST 4096
+size_t slew_encode_planes(const uint64_t *column, size_t column_count, uint8_t *out, size_t out_count);
+
+/* And back. Returns 0, and the first bytes_count / 8 words of `out` are the column whose planes the bytes are: there is exactly one for any 8 * n bytes. Or 28
+ * where bytes_count is not 8 times a count up to SLEW_COLUMN_MOST or `out` is shorter than that count, and `out` is as it was. What stood behind the column stays. */
+size_t slew_decode_planes(const uint8_t *bytes, size_t bytes_count, uint64_t *out, size_t out_count);
 
 #ifdef __cplusplus
 }

@@ -119,7 +119,7 @@ class Answers(unittest.TestCase):
         self.assertRaises(slewtext.Fault, slewtext.read_path, "")
 
     def test_every_refusal_has_a_sentence(self):
-        for number in range(1, 22):
+        for number in (*range(1, 22), 28):
             for place in (0, 1, 2, 9, 16, 20):
                 said = slewtext.explain(f"(refused\n (number {number})\n (place {place})\n (runs 5))\n")
                 self.assertTrue(said.startswith(f"Refusal {number}, place {place}, after 5 forward runs. ") and said.endswith(".\n"))
@@ -127,6 +127,71 @@ class Answers(unittest.TestCase):
 
     def test_a_path_is_explained(self):
         self.assertEqual(slewtext.explain(path_text()), "A path of 1 s, found in 1 iterations and 3 forward runs.\n")
+
+
+class Planes(unittest.TestCase):
+    STORED = os.path.join(os.path.dirname(TOOL), "..", "crates", "slew_samples", "stdout")
+
+    def stored(self):
+        with open(self.STORED, encoding="utf-8") as file:
+            return file.read()
+
+    def test_the_proved_example(self):
+        """The words and bytes of `example` in crates/byte_planes/specs/Laws.antt."""
+        words = [0x3FF0_0000_0000_0000, 0x3FF8_0000_0000_0001, 0x7FF8_0000_0000_0001, 0xFFF0_0000_0000_00FF]
+        planes = bytes([0x3F, 0x00, 0x40, 0x80, 0xF0, 0x08, 0x00, 0x08] + [0] * 20 + [0x00, 0x01, 0x00, 0xFE])
+        self.assertEqual(slewtext.encode_planes(words), planes)
+        self.assertEqual(slewtext.decode_planes(planes), words)
+
+    def test_columns_and_bytes_come_back(self):
+        draw = random.Random(2)
+        for count in (0, 1, 2, 3, 17, 419, 4095, 4096):
+            column, planes = [draw.getrandbits(64) for _ in range(count)], draw.randbytes(8 * count)
+            self.assertEqual(slewtext.decode_planes(slewtext.encode_planes(column)), column)
+            self.assertEqual(slewtext.encode_planes(slewtext.decode_planes(planes)), planes)
+
+    def test_stored_samples_come_back(self):
+        text = self.stored()
+        made = slewtext.planes_of(text)
+        self.assertEqual(len(made), 16 + 14 * 8 * 20)
+        self.assertEqual(slewtext.text_of_planes(made), text)
+
+    def test_blocks(self):
+        draw = random.Random(3)
+        for count in (1, 4096, 4097, 8193):
+            columns = [[draw.getrandbits(64) for _ in range(count)] for _ in range(14)]
+            text = slewtext.samples_text(columns)
+            made = slewtext.planes_of(text)
+            self.assertEqual(slewtext.text_of_planes(made), text)
+            first = min(count, 4096)
+            self.assertEqual(made[16:16 + 8 * first], slewtext.encode_planes(columns[0][:first]))
+
+    def test_texts_that_would_not_come_back(self):
+        text = self.stored()
+        bad = (
+            text.replace(" (sample 0 ", " (sample 00 ", 1), text.replace(" (sample 0 ", " (sample  0 ", 1), text[:-1], text + "\n", text.replace("(sample", "(Sample", 1),
+            text[:-2] + "\n", "(samples)\n", "", "(refused\n (number 7)\n (place 0)\n (runs 0))\n", text.replace(" (sample 0 3FF", " (sample 0", 1),
+        )
+        for damaged in bad:
+            self.assertRaises(slewtext.Fault, slewtext.planes_of, damaged)
+
+    def test_damaged_files(self):
+        made = slewtext.planes_of(self.stored())
+        for damaged in (b"", made[:8], made[:-1], made + b"0", b"slewpln2" + made[8:], made[:8] + bytes(8), made[:8] + b"\xff" * 8, made[:15] + b"\x15" + made[16:]):
+            with self.assertRaises(slewtext.Fault) as caught:
+                slewtext.text_of_planes(damaged)
+            self.assertTrue(str(caught.exception).endswith("."))
+
+    def test_commands(self):
+        tool = lambda word, given: subprocess.run([sys.executable, TOOL, word, "-"], input=given, capture_output=True)
+        text = self.stored().encode()
+        made = tool("planes", text).stdout
+        self.assertEqual(tool("unplanes", made).stdout, text)
+        for word, given in (("planes", b"\xff\xfe"), ("planes", text.replace(b"\n", b"\r\n")), ("planes", text[:-3]), ("unplanes", text), ("unplanes", made[:-1])):
+            fault = tool(word, given)
+            self.assertEqual((fault.returncode, fault.stdout), (1, b""))
+            self.assertEqual(len(fault.stderr.splitlines()), 1)
+            self.assertNotIn(b"Traceback", fault.stderr)
 
 
 class Drawings(unittest.TestCase):

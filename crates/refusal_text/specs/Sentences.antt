@@ -95,7 +95,9 @@ endCheck number place =
 
 -- refusals above 21, one line each, and the numbers that no refusal has
 unfoldable pub later : ℕ → ℕ → List ℕ
-later number place = bytes "No refusal has this number.\n"
+later number place =
+    cond (eqb number 28) (bytes "The column has more than 4,096 numbers, the bytes are not 8 for each, or the output is too short.\n")
+    (bytes "No refusal has this number.\n")
 
 -- what a refusal means: what was wrong, with which item, and what to change
 unfoldable pub explain : ℕ → ℕ → List ℕ

@@ -283,7 +283,14 @@ fn end_check(number: usize, place: usize, out: &mut [u8]) -> usize
 fn later(number: usize, place: usize, out: &mut [u8]) -> usize
     ensures { λ r. ⌜ Puts (now (out .entry)) 0 (Sentences.later number place) 212 (now (out .exit)) r ⌝ }
 {
-    put_all(out, 0, b"No refusal has this number.\n")
+    match number {
+        28 => put_all(
+            out,
+            0,
+            b"The column has more than 4,096 numbers, the bytes are not 8 for each, or the output is too short.\n",
+        ),
+        _ => put_all(out, 0, b"No refusal has this number.\n"),
+    }
 }
 
 // What a refusal means: what was wrong, with which item, and what to change.

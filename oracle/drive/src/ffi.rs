@@ -287,3 +287,21 @@ pub fn slew_sample(text: &[u8], ws: &mut [f64], requested: usize, alpha: f64, in
     let (t, lent) = ((text.as_ptr(), text.len()), (ws.as_mut_ptr(), ws.len()));
     unsafe { texts::slew_sample(t.0, t.1, lent.0, lent.1, requested, alpha, index, out.as_mut_ptr(), out.len()) }
 }
+
+/// Byte planes of a column of words.
+mod columns {
+    unsafe extern "C" {
+        pub fn slew_encode_planes(column: *const u64, column_len: usize, out: *mut u8, out_len: usize) -> usize;
+        pub fn slew_decode_planes(bytes: *const u8, bytes_len: usize, out: *mut u64, out_len: usize) -> usize;
+    }
+}
+
+/// A refusal's number, or 0.
+pub fn slew_encode_planes(column: &[u64], out: &mut [u8]) -> usize {
+    unsafe { columns::slew_encode_planes(column.as_ptr(), column.len(), out.as_mut_ptr(), out.len()) }
+}
+
+/// A refusal's number, or 0.
+pub fn slew_decode_planes(bytes: &[u8], out: &mut [u64]) -> usize {
+    unsafe { columns::slew_decode_planes(bytes.as_ptr(), bytes.len(), out.as_mut_ptr(), out.len()) }
+}

@@ -11,6 +11,7 @@ pub mod edges;
 pub mod leaves;
 pub mod libraries;
 pub mod maps;
+pub mod planes;
 pub mod plans;
 pub mod problems;
 pub mod pulses;

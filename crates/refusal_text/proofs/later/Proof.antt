@@ -1,4 +1,6 @@
--- `refusal_text::later` meets its contract. Assumes nothing.
+-- `refusal_text::later` meets its contract: each arm is the definition's. Assumes nothing.
+use mathlib.Core.Path.{_≡_}
+use borrow.Author.Tests.{ne-eqb}
 use Rattle.refusal_text.specs.Sentences.{later}
 use Rattle.text_writer.specs.PutLaws.{puts-most}
 use borrow.Author.Needs.{needs}
@@ -12,12 +14,35 @@ slice-aggregate-put-all c = search needs
 put-all-requires : tie.Need-put-all-requires
 put-all-requires c κs = search needs
 
+slice-aggregate-put-all-2 : tie.Need-slice-aggregate-put-all-2
+slice-aggregate-put-all-2 c = search needs
+
+put-all-requires-2 : tie.Need-put-all-requires-2
+put-all-requires-2 c κs = search needs
+
 same-length : tie.Need-same-length
 same-length c = search needs
 
 returns : tie.Need-returns
 unfolding later
-returns c = puts-most (omega arith) (c .before .before .put-all .ensures)
+returns c = let e : c .before .before .before .before .before .before .before .args .number ≡ 28 = c .before .before .before .before .before .match .keys1 in rw e (puts-most (omega arith) (c .before .before .put-all .ensures))
+
+same-length-2 : tie.Need-same-length-2
+same-length-2 c = search needs
+
+returns-2 : tie.Need-returns-2
+unfolding later
+returns-2 c = simp (ne-eqb (c .before .before .before .before .before .before .before .args .number) 28 (c .before .before .before .before .before .match .rest .1)) (puts-most (omega arith) (c .before .before .put-all2 .ensures))
 
 pub later-spec : {M : Type 1} → statement M
-later-spec = tie.close (tie.spec slice-aggregate-put-all put-all-requires same-length returns)
+later-spec =
+    tie.close
+    (tie.spec
+    slice-aggregate-put-all
+    put-all-requires
+    slice-aggregate-put-all-2
+    put-all-requires-2
+    same-length
+    returns
+    same-length-2
+    returns-2)

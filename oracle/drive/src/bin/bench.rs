@@ -1,6 +1,6 @@
 //! bench [PART] [TURNS]: the port's time over the Rust's, measured by turns in one run, as tables in Markdown. PART is leaves, runs, residuals, systems,
-//! samples or plans; without one all of them. Each figure is the least of TURNS turns (11), in time of the processor, so that what others do beside it counts
-//! little.
+//! samples, planes or plans; without one all of them. Each figure is the least of TURNS turns (11), in time of the processor, so that what others do beside it
+//! counts little.
 
 use drive::ffi::*;
 use drive::plans::{FAMILIES, Family, Plan, begun, by_rust, tame};
@@ -316,23 +316,73 @@ fn samples(turns: u32) {
     line(&format!("one of {count}"), NANOSECONDS * count as f64, ours.least, Some(with_ours), Some(platform));
 }
 
+/// Byte planes by the port's loops: plane by plane.
+fn encode_planes(column: &[u64], out: &mut [u8]) {
+    let n = column.len();
+    for j in 0..8 {
+        let mut previous = 0;
+        for i in 0..n {
+            out[j * n + i] = ((column[i] ^ previous) >> (8 * (7 - j))) as u8;
+            previous = column[i];
+        }
+    }
+}
+
+/// And back: word by word.
+fn decode_planes(bytes: &[u8], out: &mut [u64]) {
+    let n = bytes.len() / 8;
+    let mut previous = 0;
+    for i in 0..n {
+        let word = (0..8).fold(0, |w, j| w << 8 | u64::from(bytes[j * n + i]));
+        previous ^= word;
+        out[i] = previous;
+    }
+}
+
+/// Both ways on columns of the most words, of the samples of an example, and of a path's nodes; then the same as bytes of a column in a second.
+fn planes(turns: u32) {
+    head("byte planes of a column, nanoseconds; the Rust's are the same loops");
+    let mut told = String::new();
+    for n in [4096, 419, 17] {
+        let mut random = Random::new(19);
+        let column: Vec<u64> = (0..n).map(|_| random.word()).collect();
+        let (mut bytes, mut own, mut back, mut again) = (vec![0; 8 * n], vec![0; 8 * n], vec![0; n], vec![0; n]);
+        assert_eq!((slew_encode_planes(&column, &mut bytes), slew_decode_planes(&bytes, &mut back)), (0, 0));
+        let lent = bytes.clone();
+        let encode = measured(turns, [&mut || encode_planes(black_box(&column), black_box(&mut own)), &mut || {
+            assert_eq!(slew_encode_planes(black_box(&column), black_box(&mut bytes)), 0);
+        }]);
+        let decode = measured(turns, [&mut || decode_planes(black_box(&lent), black_box(&mut again)), &mut || {
+            assert_eq!(slew_decode_planes(black_box(&lent), black_box(&mut back)), 0);
+        }]);
+        assert!(own == bytes && again == back && back == column, "the loops agree");
+        for (name, [rust, ours]) in [("encode", encode), ("decode", decode)] {
+            line(&format!("{name} {n} words"), NANOSECONDS, ours.least, None, Some(rust));
+            let rate = |seconds: f64| 8.0e-9 * n as f64 / seconds;
+            told += &format!("| {name} {n} words | {:.2} | {:.2} |\n", rate(ours.least), rate(rust.least));
+        }
+    }
+    print!("\n| byte planes, GB/s | ours | Rust |\n|---|---|---|\n{told}");
+}
+
 fn main() {
     let mut args = std::env::args().skip(1).peekable();
     let part = args.next_if(|word| word.parse::<u32>().is_err());
     let turns = args.next().map_or(11, |n| n.parse().expect("TURNS is a number"));
     type Part = (&'static str, fn(u32), u32);
     // a plan takes long: a third of the turns
-    let parts: [Part; 6] = [
+    let parts: [Part; 7] = [
         ("leaves", leaves, turns),
         ("runs", runs, turns),
         ("residuals", residuals, turns),
         ("systems", systems, turns),
         ("samples", samples, turns),
+        ("planes", planes, turns),
         ("plans", plans, turns.div_ceil(3)),
     ];
     let chosen: Vec<&Part> = parts.iter().filter(|(name, _, _)| part.as_ref().is_none_or(|word| word == name)).collect();
     if chosen.is_empty() {
-        eprintln!("usage: bench [leaves | runs | residuals | systems | samples | plans] [TURNS]");
+        eprintln!("usage: bench [leaves | runs | residuals | systems | samples | planes | plans] [TURNS]");
         std::process::exit(2);
     }
     println!("The least of {turns} turns in the processor's time. Ratios: ours over the Rust's, below 1 ours is faster.");
