@@ -7,7 +7,7 @@
  * overlaps nothing else that is lent; floats round to nearest and subnormals are kept, as in every program that has not changed this; the thread has
  * 256 kB of stack (over the examples a call used up to 107 kB).
  *
- * A refusal is its number of 1 to 21 or 28, with a place and the forward runs begun (README.md, "Refusals"); 0 is no refusal. */
+ * A refusal is its number of 1 to 21, 25 or 28, with a place and the forward runs begun (README.md, "Refusals"); 0 is no refusal. */
 #ifndef SLEW_H
 #define SLEW_H
 
@@ -116,6 +116,19 @@ size_t slew_encode_planes(const uint64_t *column, size_t column_count, uint8_t *
 /* And back. Returns 0, and the first bytes_count / 8 words of `out` are the column whose planes the bytes are: there is exactly one for any 8 * n bytes. Or 28
  * where bytes_count is not 8 times a count up to SLEW_COLUMN_MOST or `out` is shorter than that count, and `out` is as it was. What stood behind the column stays. */
 size_t slew_decode_planes(const uint8_t *bytes, size_t bytes_count, uint64_t *out, size_t out_count);
+
+/* An order for the tiles of a mosaic, tile 0 first.
+ *
+ * times: whole milliseconds from each tile to each other, row after row, tiles x tiles of them; each is 1 to 10,000,000, but what stands from a tile to itself is
+ *   not read.
+ * budget: how many tiles may be placed in the search, those then dropped too. Ten tiles never want more than 986,409.
+ * order: the tiles in the order found, zeros behind them.
+ * told: the order's cost; the tiles placed; 1 where the budget was used up (one more was wanted), else 0; the floor, which no order costs less than.
+ *
+ * Returns 0, or 25 for no tile, more than 10, another count of times than tiles x tiles, or a time outside; then order and told are zeros. Where the budget was
+ * not used up no order is cheaper; else the order is at most cost - floor above the cheapest. A larger budget never gives a dearer order. */
+size_t slew_order(size_t tiles, const uint32_t *times, size_t times_count, uint64_t budget,
+                  size_t order[10], uint64_t told[4]);
 
 #ifdef __cplusplus
 }

@@ -11,6 +11,7 @@ import subprocess
 import sys
 import tempfile
 import unittest
+import unittest.mock
 import xml.etree.ElementTree
 
 TOOL = os.path.join(os.path.dirname(os.path.abspath(__file__)), "slewtext")
@@ -119,7 +120,7 @@ class Answers(unittest.TestCase):
         self.assertRaises(slewtext.Fault, slewtext.read_path, "")
 
     def test_every_refusal_has_a_sentence(self):
-        for number in (*range(1, 22), 28):
+        for number in (*range(1, 22), 25, 28):
             for place in (0, 1, 2, 9, 16, 20):
                 said = slewtext.explain(f"(refused\n (number {number})\n (place {place})\n (runs 5))\n")
                 self.assertTrue(said.startswith(f"Refusal {number}, place {place}, after 5 forward runs. ") and said.endswith(".\n"))
@@ -192,6 +193,69 @@ class Planes(unittest.TestCase):
             self.assertEqual((fault.returncode, fault.stdout), (1, b""))
             self.assertEqual(len(fault.stderr.splitlines()), 1)
             self.assertNotIn(b"Traceback", fault.stderr)
+ORDERED = "(ordered\n (order 0 2 1)\n (cost 9500)\n (placed 4)\n (used-up {})\n (floor {}))\n"
+TILES = {"tile": [{"quaternion": [1, 0, 0, 0], "name": "first"}, {"axis": [0, 0, 1], "degrees": 30}, {"axis": [0, 0, 1], "degrees": 10}]}
+
+
+def slew(seconds):
+    """A program slew that answers one path of so many seconds, and a slew_order that answers one order."""
+    path = path_text().replace("(duration 3FF)", f"(duration {slewtext.to_hex(seconds)})")
+    return unittest.mock.patch.object(slewtext, "printed", lambda program, text: path if program == "slew" else ORDERED.format("no", 8000))
+
+
+class Orders(unittest.TestCase):
+    def test_a_table_as_text(self):
+        times = slewtext.read_table("7,12,3\n4, 0 ,6\n\n8,9,x\n")
+        self.assertEqual(slewtext.tiles_text(times, 5), "(tiles\n (budget 5)\n (from 0 12 3)\n (from 4 0 6)\n (from 8 9 0))\n")
+
+    def test_bad_tables(self):
+        for text in ("", "1,2\n", "0,1\n2\n", "0,-1\n2,0\n", "0,1.5\n2,0\n", "0,x\n2,0\n", "0,\n2,0\n", "\n".join([",".join("1" * 11)] * 11)):
+            with self.assertRaises(slewtext.Fault) as caught:
+                slewtext.read_table(text)
+            self.assertTrue(str(caught.exception).endswith("."), text)
+
+    def test_a_time_too_long_stays_outside(self):
+        self.assertEqual(slewtext.read_table("0,99999999999999999999\n1,0\n")[0][1], 10_000_001)
+
+    def test_what_is_told(self):
+        for used_up, floor, said in (("no", 9000, "No order is faster."), ("yes", 9000, "at most 0.500 s."), ("yes", 9500, "still no order is faster")):
+            with unittest.mock.patch.object(slewtext, "printed", lambda program, text: ORDERED.format(used_up, floor)):
+                told = slewtext.tell_order(["a", "b", "c"], slewtext.find_order([[0] * 3] * 3, 1))
+            self.assertIn("Order: a, c, b.\nIt takes 9.500 s.", told)
+            self.assertIn(said, told)
+
+    def test_durations_go_upward(self):
+        for seconds, milliseconds in ((1.0, 1000), (1.0000001, 1001), (0.0001, 1)):
+            with slew(seconds):
+                tiles, names = slewtext.tile_list(TILES)
+                self.assertEqual(slewtext.planned_table(tiles, names, QUARTER), [[0 if i == j else milliseconds for j in range(3)] for i in range(3)])
+
+    def test_every_refused_pair_is_told(self):
+        tiles, names = slewtext.tile_list(TILES)
+        with unittest.mock.patch.object(slewtext, "printed", lambda program, text: "(refused\n (number 7)\n (place 0)\n (runs 0))\n"):
+            with self.assertRaises(slewtext.Fault) as caught:
+                slewtext.planned_table(tiles, names, QUARTER)
+        lines = str(caught.exception).splitlines()
+        self.assertEqual(len(lines), 7)
+        self.assertIn("The slew from first to tile 1 is refused: ", lines[1])
+
+    def test_tiles_in_their_order_are_read_again(self):
+        with slew(1.5):
+            tiles, names = slewtext.tile_list(TILES)
+            found = slewtext.find_order(slewtext.planned_table(tiles, names, QUARTER), 10)
+        import tomllib
+        again, named = slewtext.tile_list(tomllib.loads(slewtext.tiles_toml(tiles, names, found[0])))
+        self.assertEqual(named, ["first", "tile 2", "tile 1"])
+        self.assertEqual([slewtext.attitude(tile, "a tile") for tile in again], [slewtext.attitude(tiles[i], "a tile") for i in (0, 2, 1)])
+
+    def test_bad_tiles_and_words(self):
+        for table in ({}, {"tile": []}, {"tile": 3}, {"tile": [{"degrees": 3}]}, {"tile": [TILES["tile"][0]] * 11}, TILES | {"colour": 1}, {"tile": [{"quaternion": [1, 0, 0, 0], "axis": [1, 0, 0]}]}):
+            self.assertRaises(slewtext.Fault, slewtext.tile_list, table)
+        for words in (["order"], ["order", "--tiles", "a"], ["order", "a", "b"], ["order", "a", "--budget"]):
+            self.assertEqual(run(*words).returncode, 2)
+        for words in (["order", "-", "--budget", "-3"], ["order", "no-such-file"], ["order", "--tiles", "no-such-file", "none"]):
+            fault = run(*words, text="0,1\n1,0\n")
+            self.assertEqual((fault.returncode, fault.stdout, len(fault.stderr.splitlines())), (1, "", 1))
 
 
 class Drawings(unittest.TestCase):

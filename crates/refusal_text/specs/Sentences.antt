@@ -60,7 +60,7 @@ samples place =
 unfoldable pub line : ℕ → List ℕ
 line place =
     cond (eqb place 0) (bytes "The text is longer than 4,096 bytes: shorten it.\n")
-    (tell (bytes "Line ") place (bytes " of the text is wrong or missing: compare it with the form of a problem.\n"))
+    (tell (bytes "Line ") place (bytes " of the text is wrong or missing: compare it with its form.\n"))
 
 -- what is wrong with the problem as it was given, refusals 1 to 10
 unfoldable pub argument : ℕ → ℕ → List ℕ
@@ -96,8 +96,9 @@ endCheck number place =
 -- refusals above 21, one line each, and the numbers that no refusal has
 unfoldable pub later : ℕ → ℕ → List ℕ
 later number place =
-    cond (eqb number 28) (bytes "The column has more than 4,096 numbers, the bytes are not 8 for each, or the output is too short.\n")
-    (bytes "No refusal has this number.\n")
+    cond (eqb number 25) (bytes "There is no tile, or there are more than 10, or a time is outside 1 to 10,000,000 milliseconds.\n")
+    (cond (eqb number 28) (bytes "The column has more than 4,096 numbers, the bytes are not 8 for each, or the output is too short.\n")
+    (bytes "No refusal has this number.\n"))
 
 -- what a refusal means: what was wrong, with which item, and what to change
 unfoldable pub explain : ℕ → ℕ → List ℕ

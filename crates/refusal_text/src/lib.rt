@@ -173,7 +173,7 @@ fn line(place: usize, out: &mut [u8]) -> usize
             out,
             b"Line ",
             place,
-            b" of the text is wrong or missing: compare it with the form of a problem.\n",
+            b" of the text is wrong or missing: compare it with its form.\n",
         ),
     }
 }
@@ -284,6 +284,11 @@ fn later(number: usize, place: usize, out: &mut [u8]) -> usize
     ensures { λ r. ⌜ Puts (now (out .entry)) 0 (Sentences.later number place) 212 (now (out .exit)) r ⌝ }
 {
     match number {
+        25 => put_all(
+            out,
+            0,
+            b"There is no tile, or there are more than 10, or a time is outside 1 to 10,000,000 milliseconds.\n",
+        ),
         28 => put_all(
             out,
             0,

@@ -305,3 +305,15 @@ pub fn slew_encode_planes(column: &[u64], out: &mut [u8]) -> usize {
 pub fn slew_decode_planes(bytes: &[u8], out: &mut [u64]) -> usize {
     unsafe { columns::slew_decode_planes(bytes.as_ptr(), bytes.len(), out.as_mut_ptr(), out.len()) }
 }
+
+/// The entry for an order of tiles: the table is a pointer and a length.
+mod orders {
+    unsafe extern "C" {
+        pub fn slew_order(tiles: usize, times: *const u32, times_len: usize, budget: u64, order: &mut [usize; 10], told: &mut [u64; 4]) -> usize;
+    }
+}
+
+/// An order of tiles; its refusal's number. Told: cost, placed, used up, floor.
+pub fn slew_order(tiles: usize, times: &[u32], budget: u64, order: &mut [usize; 10], told: &mut [u64; 4]) -> usize {
+    unsafe { orders::slew_order(tiles, times.as_ptr(), times.len(), budget, order, told) }
+}

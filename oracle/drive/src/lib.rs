@@ -12,6 +12,7 @@ pub mod leaves;
 pub mod libraries;
 pub mod maps;
 pub mod planes;
+pub mod order;
 pub mod plans;
 pub mod problems;
 pub mod pulses;

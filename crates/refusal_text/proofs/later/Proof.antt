@@ -20,19 +20,32 @@ slice-aggregate-put-all-2 c = search needs
 put-all-requires-2 : tie.Need-put-all-requires-2
 put-all-requires-2 c κs = search needs
 
+slice-aggregate-put-all-3 : tie.Need-slice-aggregate-put-all-3
+slice-aggregate-put-all-3 c = search needs
+
+put-all-requires-3 : tie.Need-put-all-requires-3
+put-all-requires-3 c κs = search needs
+
 same-length : tie.Need-same-length
 same-length c = search needs
 
 returns : tie.Need-returns
 unfolding later
-returns c = let e : c .before .before .before .before .before .before .before .args .number ≡ 28 = c .before .before .before .before .before .match .keys1 in rw e (puts-most (omega arith) (c .before .before .put-all .ensures))
+returns c = let e : c .before .before .before .before .before .before .before .args .number ≡ 25 = c .before .before .before .before .before .match .keys1 in rw e (puts-most (omega arith) (c .before .before .put-all .ensures))
 
 same-length-2 : tie.Need-same-length-2
 same-length-2 c = search needs
 
 returns-2 : tie.Need-returns-2
 unfolding later
-returns-2 c = simp (ne-eqb (c .before .before .before .before .before .before .before .args .number) 28 (c .before .before .before .before .before .match .rest .1)) (puts-most (omega arith) (c .before .before .put-all2 .ensures))
+returns-2 c = let e : c .before .before .before .before .before .before .before .args .number ≡ 28 = c .before .before .before .before .before .match .keys2 in rw e (puts-most (omega arith) (c .before .before .put-all2 .ensures))
+
+same-length-3 : tie.Need-same-length-3
+same-length-3 c = search needs
+
+returns-3 : tie.Need-returns-3
+unfolding later
+returns-3 c = simp (ne-eqb (c .before .before .before .before .before .before .before .args .number) 25 (c .before .before .before .before .before .match .rest .0 .1), ne-eqb (c .before .before .before .before .before .before .before .args .number) 28 (c .before .before .before .before .before .match .rest .1)) (puts-most (omega arith) (c .before .before .put-all3 .ensures))
 
 pub later-spec : {M : Type 1} → statement M
 later-spec =
@@ -42,7 +55,11 @@ later-spec =
     put-all-requires
     slice-aggregate-put-all-2
     put-all-requires-2
+    slice-aggregate-put-all-3
+    put-all-requires-3
     same-length
     returns
     same-length-2
-    returns-2)
+    returns-2
+    same-length-3
+    returns-3)

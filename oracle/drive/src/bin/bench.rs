@@ -1,6 +1,6 @@
 //! bench [PART] [TURNS]: the port's time over the Rust's, measured by turns in one run, as tables in Markdown. PART is leaves, runs, residuals, systems,
-//! samples, planes or plans; without one all of them. Each figure is the least of TURNS turns (11), in time of the processor, so that what others do beside it
-//! counts little.
+//! samples, planes, orders or plans; without one all of them. Each figure is the least of TURNS turns (11), in time of the processor, so that what others do beside
+//! it counts little.
 
 use drive::ffi::*;
 use drive::plans::{FAMILIES, Family, Plan, begun, by_rust, tame};
@@ -365,24 +365,40 @@ fn planes(turns: u32) {
     print!("\n| byte planes, GB/s | ours | Rust |\n|---|---|---|\n{told}");
 }
 
+/// The worst case of an order for ten tiles: nearly equal times, every placement made. The Rust is the search of order.rs.
+fn orders(turns: u32) {
+    println!("\n| an order for ten tiles, milliseconds | ours | Rust | ratio | spread |\n|---|---|---|---|---|");
+    let tiles = drive::order::worst();
+    let (mut order, mut told) = ([0; 10], [0; 4]);
+    let mut ours = || {
+        assert_eq!(slew_order(black_box(10), black_box(&tiles.times), tiles.budget, &mut order, &mut told), 0);
+        black_box(&told);
+    };
+    let mut rust = || drop(black_box(drive::order::by_search(black_box(&tiles))));
+    let [rust, ours] = measured(turns, [&mut rust, &mut ours]);
+    let (a, b) = (ours.least / MILLISECONDS, rust.least / MILLISECONDS);
+    println!("| {} placements | {a:.2} | {b:.2} | {:.2} | {:.2} |", drive::order::most(10), a / b, rust.most / rust.least);
+}
+
 fn main() {
     let mut args = std::env::args().skip(1).peekable();
     let part = args.next_if(|word| word.parse::<u32>().is_err());
     let turns = args.next().map_or(11, |n| n.parse().expect("TURNS is a number"));
     type Part = (&'static str, fn(u32), u32);
     // a plan takes long: a third of the turns
-    let parts: [Part; 7] = [
+    let parts: [Part; 8] = [
         ("leaves", leaves, turns),
         ("runs", runs, turns),
         ("residuals", residuals, turns),
         ("systems", systems, turns),
         ("samples", samples, turns),
         ("planes", planes, turns),
+        ("orders", orders, turns),
         ("plans", plans, turns.div_ceil(3)),
     ];
     let chosen: Vec<&Part> = parts.iter().filter(|(name, _, _)| part.as_ref().is_none_or(|word| word == name)).collect();
     if chosen.is_empty() {
-        eprintln!("usage: bench [leaves | runs | residuals | systems | samples | planes | plans] [TURNS]");
+        eprintln!("usage: bench [leaves | runs | residuals | systems | samples | planes | orders | plans] [TURNS]");
         std::process::exit(2);
     }
     println!("The least of {turns} turns in the processor's time. Ratios: ours over the Rust's, below 1 ours is faster.");

@@ -1,0 +1,2 @@
+-- What the C interface of the tools hands on.
+pub mod OrderEntries

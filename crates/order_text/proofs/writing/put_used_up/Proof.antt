@@ -1,0 +1,25 @@
+-- `order_text::writing::put_used_up` meets its contract. Assumes nothing.
+use borrow.Author.Needs.{needs}
+use native.Mathlib.Omega.{arith}
+use Rattle.text_writer.specs.PutLaws.{puts-most}
+use Rattle.order_text.proofs.writing.put_used_up.Statement.{statement}
+use Rattle.order_text.proofs.writing.put_used_up.Tie as tie
+
+returns : tie.Need-returns
+returns c = rw (c .before .before .before .before .before .if1 .taken) (puts-most (omega arith) (c .before .before .put-all .ensures))
+
+returns-2 : tie.Need-returns-2
+returns-2 c = rw (c .before .before .before .before .before .if1 .left) (puts-most (omega arith) (c .before .before .put-all2 .ensures))
+
+pub put-used-up-spec : {M : Type 1} → statement M
+put-used-up-spec =
+    tie.close
+    (tie.spec
+    (λ c. search needs)
+    (λ c κs. search needs)
+    (λ c. search needs)
+    returns
+    (λ c. search needs)
+    (λ c κs. search needs)
+    (λ c. search needs)
+    returns-2)

@@ -1,0 +1,22 @@
+-- An order for the tiles: the table's test, the search and the floor, and what is promised of the answer.
+pub mod Below
+pub mod Tables
+pub mod Orders
+pub mod Search
+pub mod Answers
+pub mod Promises
+pub mod Examples
+pub mod Inner
+pub mod LoopLaws
+pub mod AnyLaws
+pub mod SumLaws
+pub mod TableLaws
+pub mod TurnLaws
+pub mod OrderLaws
+pub mod ProgressLaws
+pub mod LeastLaws
+pub mod MoreLaws
+pub mod FloorLaws
+pub mod WaysLaws
+pub mod LinkLaws
+pub mod WalkLaws
