@@ -1,4 +1,5 @@
-/* The slew planner, as a controller calls it from C or C++ on x86-64. Link target/staticlib/libexport.a, which `rt staticlib export` writes.
+/* The slew planner, as a controller calls it from C or C++ on x86-64. Link target/staticlib/libexport.a, which `rt staticlib export` writes;
+ * the functions below "Rooms with moving air" are in libexport_tools.a, which `rt staticlib export_tools` writes.
  *
  * Every function here is proved to answer what the definitions say, for every value of its arguments, NaN and infinities included, and to end. Nothing is
  * allocated, nothing is kept between calls, nothing is read or written but what is lent: calls from several threads need only different buffers.
@@ -7,7 +8,7 @@
  * overlaps nothing else that is lent; floats round to nearest and subnormals are kept, as in every program that has not changed this; the thread has
  * 256 kB of stack (over the examples a call used up to 107 kB).
  *
- * A refusal is its number of 1 to 21, 25 or 28, with a place and the forward runs begun (README.md, "Refusals"); 0 is no refusal. */
+ * A refusal is its number of 1 to 21, 25, 27 or 28, with a place and the forward runs begun (README.md, "Refusals"); 0 is no refusal. */
 #ifndef SLEW_H
 #define SLEW_H
 
@@ -129,6 +130,30 @@ size_t slew_decode_planes(const uint8_t *bytes, size_t bytes_count, uint64_t *ou
  * not used up no order is cheaper; else the order is at most cost - floor above the cheapest. A larger budget never gives a dearer order. */
 size_t slew_order(size_t tiles, const uint32_t *times, size_t times_count, uint64_t budget,
                   size_t order[10], uint64_t told[4]);
+/* Rooms with moving air: drive against draught, in libexport_tools.a.
+ *
+ * One axis, in whole steps: an angle from -64 to 64, a rate from -8 to 8. In each turn the drive adds -2 to 2 to the rate, the draught sees it and adds -1, 0
+ * or 1, then the angle moves by the new rate. Where a turn ends outside either range the drive has lost. Home is an angle within 4 and a rate within 2.
+ *
+ * Every call works out the turns of all starts, in 2,193 bytes of the stack: about a third of a millisecond. Who asks often keeps what slew_region gives. */
+
+/* What stands for none: the turns of a start that is held off, a choice, a reply. */
+#define SLEW_NONE 255
+
+/* How many starts there are. */
+#define SLEW_STARTS 2193
+
+/* What becomes of a start. Returns 0, and `turns` gets the fewest turns, up to 64, in which the drive can force home whatever the draught does, `choice` the
+ * drive's first choice for that, the lowest that does it. A start that is home already has 0 turns and SLEW_NONE as its choice; one that the draught can hold
+ * off for 64 turns has SLEW_NONE for both. A start outside the ranges is 27, and both are as they were. */
+size_t slew_outcome(int64_t angle, int64_t rate, size_t *turns, int64_t *choice);
+
+/* The draught's lowest reply to a choice of the drive that keeps it from home for `left` turns, 1 to 64, this one counted; SLEW_NONE where no reply does it, and
+ * at home. Returns 0; or 27, and leaves `reply` as it was, for a start outside the ranges, for a choice that is not -2 to 2, and for other turns left. */
+size_t slew_reply(int64_t angle, int64_t rate, size_t left, int64_t choice, int64_t *reply);
+
+/* The fewest turns of every start, as slew_outcome has them: that of an angle and a rate is number (angle + 64) * 17 + (rate + 8). */
+void slew_region(uint8_t turns[SLEW_STARTS]);
 
 #ifdef __cplusplus
 }

@@ -3,6 +3,7 @@
 
 import importlib.machinery
 import importlib.util
+import io
 import math
 import os
 import random
@@ -120,7 +121,7 @@ class Answers(unittest.TestCase):
         self.assertRaises(slewtext.Fault, slewtext.read_path, "")
 
     def test_every_refusal_has_a_sentence(self):
-        for number in (*range(1, 22), 25, 28):
+        for number in (*range(1, 22), 25, 27, 28):
             for place in (0, 1, 2, 9, 16, 20):
                 said = slewtext.explain(f"(refused\n (number {number})\n (place {place})\n (runs 5))\n")
                 self.assertTrue(said.startswith(f"Refusal {number}, place {place}, after 5 forward runs. ") and said.endswith(".\n"))
@@ -270,6 +271,102 @@ class Drawings(unittest.TestCase):
         half = math.sqrt(0.5)
         self.assertAlmostEqual(slewtext.turn_left([1, 0, 0, 0], [half, 0, 0, half]), 90.0)
         self.assertAlmostEqual(slewtext.turn_left([-1, 0, 0, 0], [1, 0, 0, 0]), 0.0)
+
+
+def minimax():
+    """The fewest turns of every start by the rules alone, the choices that reach them, and whether the drive is home from a state in so many turns."""
+    states = [(a, r) for a in slewtext.ANGLES for r in slewtext.RATES]
+    won = [{s for s in states if slewtext.at_home(*s)}]
+    sure = lambda s, u, n: all(slewtext.after(*s, u, d) in won[n] for d in (-1, 0, 1))
+    while len(won) <= 64 and (len(won) == 1 or won[-1] != won[-2]):
+        won.append({s for s in states if s in won[-1] or any(sure(s, u, len(won) - 1) for u in (-2, -1, 0, 1, 2))})
+    turns = {s: next((n for n, w in enumerate(won) if s in w), slewtext.HELD) for s in states}
+    return turns, won
+
+
+TURNS, WON = minimax()
+
+
+def fake_run(*words):
+    """What the program prints, by the minimax."""
+    if not words:
+        rows = [f"\n (angle {a} " + " ".join(str(TURNS[a, r]) for r in slewtext.RATES) + ")" for a in slewtext.ANGLES]
+        return "(region" + "".join(rows) + ")\n"
+    if words[0] == "reply":
+        a, r, left, u = words[1:]
+        found = [d for d in (-1, 0, 1) if not slewtext.at_home(a, r) and slewtext.after(a, r, u, d) not in WON[min(left - 1, len(WON) - 1)]]
+        return f"(reply\n (adds {found[0]}))\n" if found else "(reply\n (none))\n"
+    n = TURNS[words]
+    if n in (0, slewtext.HELD):
+        return "(start\n (home))\n" if n == 0 else "(start\n (held-off))\n"
+    u = next(u for u in (-2, -1, 0, 1, 2) if all(slewtext.after(*words, u, d) in WON[n - 1] for d in (-1, 0, 1)))
+    return f"(start\n (turns {n})\n (choice {u}))\n"
+
+
+class Region(unittest.TestCase):
+    def setUp(self):
+        self.runs = slewtext.run_region
+        slewtext.run_region = fake_run
+
+    def tearDown(self):
+        slewtext.run_region = self.runs
+
+    def play(self, side, angle, rate, lines):
+        """What a game prints whose person types these lines."""
+        stdin, stdout = sys.stdin, sys.stdout
+        sys.stdin, sys.stdout = io.StringIO(lines), io.StringIO()
+        try:
+            slewtext.duel(side, angle, rate)
+            return sys.stdout.getvalue()
+        finally:
+            sys.stdin, sys.stdout = stdin, stdout
+
+    def test_every_start_is_drawn(self):
+        turns = slewtext.read_region(fake_run())
+        self.assertEqual((len(turns), sum(n != slewtext.HELD for n in turns.values()), max(n for n in turns.values() if n != slewtext.HELD)), (2193, 2025, 25))
+        root = xml.etree.ElementTree.fromstring(slewtext.region_drawing(turns))
+        cells = [e for e in root.iter() if e.get("class") == "start"]
+        colours = [e.get("fill") for e in cells]
+        self.assertEqual((len(cells), colours.count(slewtext.HOME), colours.count(slewtext.HELD_OFF)), (2193, 45, 168))
+        self.assertEqual(len(set(colours)), 2 + len(slewtext.SHADES))
+
+    def test_turns_that_share_a_colour(self):
+        shared = slewtext.steps(25)
+        self.assertEqual([n for low, high, _ in shared for n in range(low, high + 1)], list(range(1, 26)))
+
+    def test_a_damaged_region(self):
+        good = fake_run()
+        for bad in (good.replace(" (angle 3 ", " (angle 99 ", 1), good.replace(" 255", "", 1), good.replace(" 255", " 65", 1), good.replace(" 255", " x", 1), "(start\n (home))\n", ""):
+            self.assertRaises(slewtext.Fault, slewtext.read_region, bad)
+
+    def test_the_stored_region_is_the_minimax(self):
+        with open(os.path.join(os.path.dirname(TOOL), "..", "crates", "slew_region", "stdout"), encoding="utf-8") as file:
+            self.assertEqual(slewtext.read_region(file.read()), TURNS)
+
+    def test_no_draught_wins_where_home_is_forced(self):
+        draw = random.Random(3)
+        for start in draw.sample(sorted(s for s, n in TURNS.items() if 0 < n < slewtext.HELD), 60):
+            told = self.play("draught", *start, "".join(f"{draw.choice((-1, 0, 1))}\n" for _ in range(64)))
+            self.assertTrue(told.endswith("home. The drive wins.\n"))
+            self.assertLessEqual(told.count("turn ") - told.count("1 turn at"), TURNS[start] * 2)
+
+    def test_no_drive_wins_where_it_is_held_off(self):
+        draw = random.Random(4)
+        for start in draw.sample(sorted(s for s, n in TURNS.items() if n == slewtext.HELD), 30):
+            told = self.play("drive", *start, "".join(f"{draw.choice((-2, -1, 0, 1, 2))}\n" for _ in range(64)))
+            self.assertIn("the draught wins" if "64 turns, and" in told else "The draught wins", told)
+
+    def test_bad_lines_and_the_end_of_input(self):
+        told = self.play("draught", 20, 0, "two\n3\n\n")
+        self.assertIn("It must be a whole number, not 'two'.", told)
+        self.assertIn("It must be from -1 to 1, not 3.", told)
+        self.assertNotIn("wins", told)
+        self.assertIn("home. The drive wins.", self.play("drive", 0, 0, ""))
+
+    def test_bad_words_are_one_sentence(self):
+        for words in (("x", "0"), ("65", "0"), ("0", "-9"), ("--as", "wind", "0", "0"), ("--as", "drive")):
+            fault = run("duel", *words)
+            self.assertEqual((fault.returncode, fault.stdout, len(fault.stderr.splitlines())), (1, "", 1), words)
 
 
 if __name__ == "__main__":

@@ -1,2 +1,3 @@
--- What the C interface of the tools hands on.
+-- What the C interface leaves in what is lent for an answer.
 pub mod OrderEntries
+pub mod Region

@@ -4,3 +4,4 @@
 // for the answer is untouched, but for the functions that say they leave zeros.
 pub mod order;
 pub mod planes;
+pub mod region;

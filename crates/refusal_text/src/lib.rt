@@ -289,6 +289,11 @@ fn later(number: usize, place: usize, out: &mut [u8]) -> usize
             0,
             b"There is no tile, or there are more than 10, or a time is outside 1 to 10,000,000 milliseconds.\n",
         ),
+        27 => put_all(
+            out,
+            0,
+            b"Outside the room: the angle goes from -64 to 64, the rate from -8 to 8; of a reply the choice from -2 to 2, the turns left from 1 to 64.\n",
+        ),
         28 => put_all(
             out,
             0,

@@ -110,6 +110,9 @@ unsafe extern "C" {
         place: &mut usize,
     ) -> usize;
     pub safe fn slew_problem_profile(c: &Counts, v: &Numbers, b: &[f64; 29], limited: bool, out: &mut [f64; 22], place: &mut usize) -> usize;
+    pub safe fn slew_outcome(angle: i64, rate: i64, turns: &mut usize, choice: &mut i64) -> usize;
+    pub safe fn slew_reply(angle: i64, rate: i64, left: usize, choice: i64, out: &mut i64) -> usize;
+    pub safe fn slew_region(out: &mut [u8; 2193]);
     pub safe fn slew_control_dim(c: &Counts, v: &Numbers) -> usize;
     pub safe fn slew_pyramid_a(skew: f64, delta: &A4, out: &mut [f64; 12]) -> usize;
 }

@@ -16,6 +16,7 @@ pub mod order;
 pub mod plans;
 pub mod problems;
 pub mod pulses;
+pub mod region;
 pub mod runs;
 pub mod samples;
 pub mod shapes;

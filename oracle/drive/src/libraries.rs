@@ -1,7 +1,7 @@
 //! What is compared: the libraries, each with its functions and its share of the time of `--minutes`.
 
 use crate::words::Entry;
-use crate::{courses, edges, leaves, order, planes, plans, runs, samples, shapes, systems, texts};
+use crate::{courses, edges, leaves, order, planes, plans, region, runs, samples, shapes, systems, texts};
 
 pub struct Library {
     pub name: &'static str,
@@ -16,7 +16,7 @@ const fn library(name: &'static str, entries: &'static [Entry]) -> Library {
 }
 
 /// Each has the same share; whole plans have as much as all the others.
-pub const LIBRARIES: [Library; 14] = [
+pub const LIBRARIES: [Library; 15] = [
     library("floats", &leaves::LEAVES),
     library("angles", &leaves::ANGLES),
     library("geometry", &shapes::SHAPES),
@@ -31,4 +31,5 @@ pub const LIBRARIES: [Library; 14] = [
     library("texts", &texts::TEXTS),
     library("byte planes", &planes::PLANES),
     library("orders", &order::ORDERS),
+    library("drive against draught", &region::REGION),
 ];

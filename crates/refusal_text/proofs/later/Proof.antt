@@ -26,6 +26,12 @@ slice-aggregate-put-all-3 c = search needs
 put-all-requires-3 : tie.Need-put-all-requires-3
 put-all-requires-3 c κs = search needs
 
+slice-aggregate-put-all-4 : tie.Need-slice-aggregate-put-all-4
+slice-aggregate-put-all-4 c = search needs
+
+put-all-requires-4 : tie.Need-put-all-requires-4
+put-all-requires-4 c κs = search needs
+
 same-length : tie.Need-same-length
 same-length c = search needs
 
@@ -38,14 +44,21 @@ same-length-2 c = search needs
 
 returns-2 : tie.Need-returns-2
 unfolding later
-returns-2 c = let e : c .before .before .before .before .before .before .before .args .number ≡ 28 = c .before .before .before .before .before .match .keys2 in rw e (puts-most (omega arith) (c .before .before .put-all2 .ensures))
+returns-2 c = let e : c .before .before .before .before .before .before .before .args .number ≡ 27 = c .before .before .before .before .before .match .keys2 in rw e (puts-most (omega arith) (c .before .before .put-all2 .ensures))
 
 same-length-3 : tie.Need-same-length-3
 same-length-3 c = search needs
 
 returns-3 : tie.Need-returns-3
 unfolding later
-returns-3 c = simp (ne-eqb (c .before .before .before .before .before .before .before .args .number) 25 (c .before .before .before .before .before .match .rest .0 .1), ne-eqb (c .before .before .before .before .before .before .before .args .number) 28 (c .before .before .before .before .before .match .rest .1)) (puts-most (omega arith) (c .before .before .put-all3 .ensures))
+returns-3 c = let e : c .before .before .before .before .before .before .before .args .number ≡ 28 = c .before .before .before .before .before .match .keys3 in rw e (puts-most (omega arith) (c .before .before .put-all3 .ensures))
+
+same-length-4 : tie.Need-same-length-4
+same-length-4 c = search needs
+
+returns-4 : tie.Need-returns-4
+unfolding later
+returns-4 c = simp (ne-eqb (c .before .before .before .before .before .before .before .args .number) 25 (c .before .before .before .before .before .match .rest .0 .0 .1), ne-eqb (c .before .before .before .before .before .before .before .args .number) 27 (c .before .before .before .before .before .match .rest .0 .1), ne-eqb (c .before .before .before .before .before .before .before .args .number) 28 (c .before .before .before .before .before .match .rest .1)) (puts-most (omega arith) (c .before .before .put-all4 .ensures))
 
 pub later-spec : {M : Type 1} → statement M
 later-spec =
@@ -57,9 +70,13 @@ later-spec =
     put-all-requires-2
     slice-aggregate-put-all-3
     put-all-requires-3
+    slice-aggregate-put-all-4
+    put-all-requires-4
     same-length
     returns
     same-length-2
     returns-2
     same-length-3
-    returns-3)
+    returns-3
+    same-length-4
+    returns-4)

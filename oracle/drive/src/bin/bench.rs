@@ -1,6 +1,6 @@
 //! bench [PART] [TURNS]: the port's time over the Rust's, measured by turns in one run, as tables in Markdown. PART is leaves, runs, residuals, systems,
-//! samples, planes, orders or plans; without one all of them. Each figure is the least of TURNS turns (11), in time of the processor, so that what others do beside
-//! it counts little.
+//! samples, planes, orders, region or plans; without one all of them. Each figure is the least of TURNS turns (11), in time of the processor, so that what others do
+//! beside it counts little.
 
 use drive::ffi::*;
 use drive::plans::{FAMILIES, Family, Plan, begun, by_rust, tame};
@@ -73,6 +73,7 @@ fn head(what: &str) {
 }
 
 const NANOSECONDS: f64 = 1.0e-9;
+const MICROSECONDS: f64 = 1.0e-6;
 const MILLISECONDS: f64 = 1.0e-3;
 
 fn list(random: &mut Random, of: impl Fn(&mut Random) -> f64) -> Vec<f64> {
@@ -380,13 +381,28 @@ fn orders(turns: u32) {
     println!("| {} placements | {a:.2} | {b:.2} | {:.2} | {:.2} |", drive::order::most(10), a / b, rust.most / rust.least);
 }
 
+/// The turns of every start.
+fn region(turns: u32) {
+    head("drive against draught, every start, microseconds; no angles in it");
+    let mut out = [0; 2193];
+    let mut ours = || {
+        slew_region(&mut out);
+        black_box(&out);
+    };
+    let mut rust = || {
+        black_box(drive::region::filled());
+    };
+    let [rust, ours] = measured(turns, [&mut rust, &mut ours]);
+    line("the region of 2,193 starts", MICROSECONDS, ours.least, Some(rust), None);
+}
+
 fn main() {
     let mut args = std::env::args().skip(1).peekable();
     let part = args.next_if(|word| word.parse::<u32>().is_err());
     let turns = args.next().map_or(11, |n| n.parse().expect("TURNS is a number"));
     type Part = (&'static str, fn(u32), u32);
     // a plan takes long: a third of the turns
-    let parts: [Part; 8] = [
+    let parts: [Part; 9] = [
         ("leaves", leaves, turns),
         ("runs", runs, turns),
         ("residuals", residuals, turns),
@@ -394,11 +410,12 @@ fn main() {
         ("samples", samples, turns),
         ("planes", planes, turns),
         ("orders", orders, turns),
+        ("region", region, turns),
         ("plans", plans, turns.div_ceil(3)),
     ];
     let chosen: Vec<&Part> = parts.iter().filter(|(name, _, _)| part.as_ref().is_none_or(|word| word == name)).collect();
     if chosen.is_empty() {
-        eprintln!("usage: bench [leaves | runs | residuals | systems | samples | planes | orders | plans] [TURNS]");
+        eprintln!("usage: bench [leaves | runs | residuals | systems | samples | planes | orders | region | plans] [TURNS]");
         std::process::exit(2);
     }
     println!("The least of {turns} turns in the processor's time. Ratios: ours over the Rust's, below 1 ours is faster.");

@@ -1,0 +1,44 @@
+-- `reach_avoid::sweep` meets its contract. Assumes nothing.
+use Rattle.reach_avoid.specs.TableInner.{stepped}
+use Rattle.reach_avoid.specs.TableLaws.{Stored, stored-more, stepped-is, turnsAt}
+use mathlib.Core.Path.{ap, _∙_}
+use Prim.Native.Nat.{suc, _-_, _≤_}
+use native.Mathlib.Numerals.{add-one}
+use native.Mathlib.Omega.{arith}
+use Rattle.reach_avoid.proofs.sweep.Statement.{statement}
+use Rattle.reach_avoid.proofs.sweep.Tie as tie
+
+abbrev Inv-loop : tie.InvT-loop
+Inv-loop t₀ m n k₀ t k = (k ≤ 2193) × Stored (turnsAt (suc m)) (turnsAt m) k t
+
+abbrev μ-loop : tie.MeasureT-loop
+μ-loop t₀ m n k₀ t k = 2193 - k
+
+loop-holds : tie.Need-loop-holds Inv-loop μ-loop
+loop-holds c = let h = c .pre .1 in (omega arith, record { size = h .size; done = λ x l. absurd (omega arith); ahead = λ x l b. h .entry x b })
+
+loop-again : tie.Need-loop-again Inv-loop μ-loop
+loop-again c = let m = c .before .before .before .before .args .m in
+    let l = c .before .before .before .loop in (
+      omega arith,
+      stored-more (turnsAt (suc m)) (turnsAt m) (l .k) (l .t) (c .next-entry .result) (omega arith) (l .inv .1)
+          (c .next-entry .ensures ∙ ap (stepped (l .t) (l .k)) (add-one m) ∙ stepped-is m (omega arith) (l .k) (l .t) (l .inv .1) (omega arith)),
+    )
+
+returns : tie.Need-returns Inv-loop μ-loop
+returns c = let l = c .before .loop in record { size = l .inv .1 .size; entry = λ x h. l .inv .1 .done x (omega arith) }
+
+pub sweep-spec : {M : Type 1} → statement M
+sweep-spec =
+    tie.close
+    (tie.spec
+    Inv-loop
+    μ-loop
+    (λ c. omega arith)
+    loop-holds
+    (λ c κs. omega arith)
+    (λ c. omega arith)
+    (λ c. omega arith)
+    (λ c. omega arith)
+    loop-again
+    returns)
