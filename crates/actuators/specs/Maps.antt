@@ -77,30 +77,6 @@ blankMap = unfilled 0 0 Without
 abbrev pub axisAt : List Float → ℕ → List Float
 axisAt t k = at t (3 * k) ∷ at t (3 * k + 1) ∷ at t (3 * k + 2) ∷ []
 
--- wheel k's unit axis
-abbrev pub wheelAxis : ActuatorMap → ℕ → List Float
-wheelAxis m k = axisAt (m .«wheel_axes») k
-
--- thruster k's unit axis
-abbrev pub thrusterAxis : ActuatorMap → ℕ → List Float
-thrusterAxis m k = axisAt (m .«thruster_axes») k
-
--- wheel k's torque limit
-abbrev pub wheelTorque : ActuatorMap → ℕ → Float
-wheelTorque m k = at (m .«wheel_torques») k
-
--- wheel k's momentum limit
-abbrev pub wheelMomentum : ActuatorMap → ℕ → Float
-wheelMomentum m k = at (m .«wheel_momenta») k
-
--- wheel k's power limit, if it has one
-abbrev pub wheelPower : ActuatorMap → ℕ → Limit
-wheelPower m k = getD (m .«wheel_powers») k noPower .limit
-
--- thruster k's torque limit
-abbrev pub thrusterTorque : ActuatorMap → ℕ → Float
-thrusterTorque m k = at (m .«thruster_torques») k
-
 -- ---- the width of a control row
 
 -- gimbal rates in a row
