@@ -1,26 +1,15 @@
 -- Laws of the arc's series. Assumes nothing.
-use mathlib.Core.Path.{_≡_, refl, sym, ap, _∙_, subst}
+use mathlib.Core.Path.{_≡_, sym, ap, _∙_, subst}
 use Prim.Native.Nat.{ℕ, zero, suc, _+_, _-_, _*_, _/_, _%_, _^_, _≤_, _<_}
-use native.Mathlib.Nat.{mul-one, zero-mul, add-mul, mul-left-comm, mod-lt, lt-of-le-of-lt, div-add-mod', mul-assoc, mul-comm, le-trans, le-of-eq, mul-le-mul-left, mul-le-mul-right, div-le-of-le-mul, div-mul-le-self, div-le-self}
+use native.Mathlib.Nat.{mul-one, zero-mul, add-mul, mul-left-comm, mod-lt, lt-of-le-of-lt, div-add-mod', mul-assoc, mul-comm, le-trans, le-of-eq, mul-le-mul-left, mul-le-mul-right, div-mul-le-self, div-le-self}
 use native.Mathlib.Numerals.{add-one}
 use native.Mathlib.Omega.{arith}
 use lib.Dec.{lit<}
 use Rattle.angles.specs.declared.arc.Arc.{Arc}
 use Rattle.angles.specs.Arcs.{arcTerm, arcSum}
 use Rattle.angles.specs.Sizes.{ArcAt, ArcFits}
+use Rattle.angles.specs.EndedLaws.{half, less}
 use Rattle.angles.proofs.Division.{reciprocal}
-
-pub half : (p h : ℕ) → h ≤ 2 ^ 59 → p * h / 2 ^ 60 * 2 ≤ p
-half p h l = go (p * h / 2 ^ 60) (p * h) (div-mul-le-self (p * h) (2 ^ 60)) (mul-le-mul-left p l)
-  where
-    go : (q x : ℕ) → q * 2 ^ 60 ≤ x → x ≤ p * 2 ^ 59 → q * 2 ≤ p
-    go q x a b = omega arith
-
-pub less : (q k : ℕ) → q * k / (k + 1) ≤ q
-less q k = div-le-of-le-mul (k + 1) (le-trans (mul-le-mul-left q (go k)) (le-of-eq (mul-comm q (k + 1))))
-  where
-    go : (k : ℕ) → k ≤ k + 1
-    go k = omega arith
 
 -- with k = 2n + 1: k times a term stays within s
 pub room : (s p q k : ℕ) → q * 2 ≤ p → k * p ≤ s → q * k ≤ s

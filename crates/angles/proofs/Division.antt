@@ -6,9 +6,8 @@ use native.Mathlib.Omega.{arith}
 use lib.Dec.{lit<}
 use lib.Pow.{pow-mono, pow-add}
 use lib.Ieee.Nearest.{div-same}
-use Rattle.angles.specs.declared.series.Partial.{Partial}
 use Rattle.angles.specs.Angles.{Q}
-use Rattle.angles.specs.Sizes.{nextOf, pairOf}
+use Rattle.angles.specs.Sizes.{nextOf}
 use Rattle.angles.specs.Series.{shifts-le}
 
 pub shift-16 : (t u : ℕ) → t * (u * 16) / 2 ^ 64 ≡ t * u / 2 ^ 60
@@ -16,11 +15,6 @@ shift-16 t u = div-same (t * (u * 16)) (2 ^ 64) (t * u) (2 ^ 60) (lit< tt) (lit<
   where
     go : (a b : ℕ) → a ≡ b * 16 → a * 2 ^ 60 ≡ b * 2 ^ 64
     go a b e = omega arith
-
-pub pair-law : (u d e t v : ℕ) (p : Partial) → t ≡ nextOf u d (p .term) → v ≡ nextOf u e t → _≡_ {A = Partial} (record { sum = p .sum - t + v; term = v }) (pairOf u d e p)
-pair-law u d e t v p a b =
-    let b' : v ≡ nextOf u e (nextOf u d (p .term)) = b ∙ ap (nextOf u e) a in
-    λ i. record { sum = p .sum - a i + b' i; term = b' i }
 
 -- ---- long division by Q, a binary digit at a time
 
@@ -81,15 +75,6 @@ module _ (d : ℕ) (D : 2 ≤ d) where
       go x y r e f l = omega arith
 
 -- ---- bounds of the terms
-
-pub at-most : (t d p : ℕ) → 2 ≤ d → t * d ≤ p → t ≤ p
-at-most t d p D h = omega (arith, mul-le-mul-left t D)
-
-pub second-fits : (t p d e : ℕ) → 2 ≤ d → t * d ≤ p → p * e < 2 ^ 65 → t * e < 2 ^ 64
-second-fits t p d e D h k = go (t * e) (t * 2 * e) (mul-right-comm t 2 e) (mul-le-mul-right e (le-trans (mul-le-mul-left t D) h)) k
-  where
-    go : (x y : ℕ) → y ≡ x * 2 → y ≤ p * e → p * e < 2 ^ 65 → x < 2 ^ 64
-    go x y a b c = omega arith
 
 pub next-fits : (t u d : ℕ) → u < 2 ^ 60 → t * d < 2 ^ 64 → t * u / 2 ^ 60 * u / 2 ^ 60 * d < 2 ^ 64
 next-fits t u d h k = lt-of-le-of-lt (mul-le-mul-right d (shifts-le t u h)) k

@@ -1,10 +1,13 @@
 mod Tests
 mod Division
 mod Quick
+mod Leasts
+mod Stages
 mod Bits
 mod Rounding
 mod Regions
 mod Places
 mod Answered
 mod ArcTerms
+mod ArcEnds
 mod Whole

@@ -1,7 +1,7 @@
 -- A term of the series as one product: what it leaves out, and what it is too large by. Assumes nothing.
 use mathlib.Core.Path.{_≡_, sym, ap, _∙_}
 use Prim.Native.Nat.{ℕ, _+_, _-_, _*_, _/_, _%_, _^_, _≤_, _<_}
-use native.Mathlib.Nat.{mul-comm, mul-assoc, mul-right-comm, mul-add, add-mul, mul-le-mul-left, mul-le-mul-right, le-of-mul-le-mul-right, lt-of-mul-lt-mul-right, div-eq-of-lt-le, div-mul-le-self, lt-div-mul-add, div-add-mod', mod-lt, le-trans, mul-le-mul}
+use native.Mathlib.Nat.{mul-comm, mul-assoc, mul-right-comm, mul-add, add-mul, mul-le-mul-left, mul-le-mul-right, le-of-mul-le-mul-right, lt-of-mul-lt-mul-right, div-eq-of-lt-le, div-mul-le-self, lt-div-mul-add, div-add-mod', mod-lt, le-trans, le-refl, mul-le-mul}
 use native.Mathlib.Omega.{arith}
 use lib.Dec.{lit<}
 use Rattle.angles.specs.Sizes.{nextOf, squareOf, Roomy}
@@ -126,10 +126,6 @@ module _ (t u d k g f : ℕ) (D : 2 ≤ d) (parts : g * 2 ^ 64 + f ≡ t * k) wh
       go : (e : ℕ) {a b c fd : ℕ} → a ≤ b → R ≤ a → c ≡ b + e → fd ≡ c → e + R ≤ fd
       go e h1 h2 h3 h4 = omega arith
 
-  -- no term is left where the upper word is 0
-  pub none-law : f < 2 ^ 64 → S + 1 ≤ k * d → g ≡ 0 → 0 ≡ nextOf u d t
-  none-law l a z = sym (div-eq-of-lt-le d (omega arith) (omega (arith, below l a, add-mul g 1 d, ap (λ (y : ℕ). y * d) z))) ∙ same
-
 -- ---- the same, by the products as the code forms them
 module _ (t u d h g f : ℕ) (D : 2 ≤ d) (small : squareOf u < 2 ^ 64) (factor : h ≡ squareOf u * ((2 ^ 64 - 1) / d) / 2 ^ 64) (upper : g ≡ t * (h + 2) / 2 ^ 64) (lower : f ≡ t * (h + 2) % 2 ^ 64) where
   parts : g * 2 ^ 64 + f ≡ t * (h + 2)
@@ -144,39 +140,22 @@ module _ (t u d h g f : ℕ) (D : 2 ≤ d) (small : squareOf u < 2 ^ 64) (factor
   pub term-quick : {least : ℕ} → Roomy t u d least → least ≤ f → g ≡ nextOf u d t
   term-quick r l = quick-law t u d (h + 2) g f D parts low enough (rw factor (factor-near (squareOf u) d D small)) r l
 
-  pub term-none : g ≡ 0 → 0 ≡ nextOf u d t
-  term-none = none-law t u d (h + 2) g f D parts low enough
-
--- a term is no larger than the one before, and the divisors grow: room for the one is room for the other
-pub room-on : (t v u d e least : ℕ) → Roomy t u d least → v ≤ t → d ≤ e → Roomy v u e least
-room-on t v u d e least r l m = record { over = omega (arith, r .over); left = le-trans (r .left) (mul-le-mul (omega arith) m) }
-
--- the room that the code asks for: a part of u for what is left out, and a number for what is too large
+-- the room that the code asks for: a part of u for what is left out, and for what is too large
 module _ (t u d : ℕ) where
-  pub room-whole : 30 ≤ d → t ≤ 2 ^ 56 → Roomy t u d (u + 2 ^ 57)
-  room-whole m l = record { over = omega arith; left = le-trans (go (omega arith)) (mul-le-mul {n₁ = u} (omega arith) m) }
+  pub room-third : t * 24 ≤ u → 30 ≤ d → Roomy t u d (u / 2 ^ 1 + u / 2 ^ 3 + 2)
+  room-third h m = record { over = omega arith; left = le-trans (go (omega arith)) (mul-le-mul {n₁ = u / 2 ^ 1 + u / 2 ^ 3 + 2 - 2 * t} (le-refl _) m) }
     where
-      go : 0 ≤ u → u * 16 ≤ u * 30
-      go h = omega arith
+      go : 0 ≤ u → u * 16 ≤ (u / 2 ^ 1 + u / 2 ^ 3 + 2 - 2 * t) * 30
+      go k = omega arith
 
-  pub room-half : 42 ≤ d → t ≤ 2 ^ 54 - 1 → Roomy t u d (u / 2 + 2 ^ 55)
-  room-half m l = record { over = omega arith; left = le-trans (go (omega arith)) (mul-le-mul {n₁ = u / 2 + 1} (omega arith) m) }
+  pub room-fourth : t * 720 ≤ u → 56 ≤ d → Roomy t u d (u / 2 ^ 2 + u / 2 ^ 4 + 2)
+  room-fourth h m = record { over = omega arith; left = le-trans (go (omega arith)) (mul-le-mul {n₁ = u / 2 ^ 2 + u / 2 ^ 4 + 2 - 2 * t} (le-refl _) m) }
     where
-      go : 0 ≤ u → u * 16 ≤ (u / 2 + 1) * 42
-      go h = omega arith
+      go : 0 ≤ u → u * 16 ≤ (u / 2 ^ 2 + u / 2 ^ 4 + 2 - 2 * t) * 56
+      go k = omega arith
 
-  pub room-quarter : 90 ≤ d → t ≤ 2 ^ 46 - 1 → Roomy t u d (u / 4 + 2 ^ 47)
-  room-quarter m l = record { over = omega arith; left = le-trans (go (omega arith)) (mul-le-mul {n₁ = u / 4 + 1} (omega arith) m) }
+  pub room-later : t * 40320 ≤ u → 90 ≤ d → Roomy t u d (u / 2 ^ 3 + u / 2 ^ 4 + 2)
+  room-later h m = record { over = omega arith; left = le-trans (go (omega arith)) (mul-le-mul {n₁ = u / 2 ^ 3 + u / 2 ^ 4 + 2 - 2 * t} (le-refl _) m) }
     where
-      go : 0 ≤ u → u * 16 ≤ (u / 4 + 1) * 90
-      go h = omega arith
-
--- small terms fit with their divisors
-pub fits-small : (t d e : ℕ) → t ≤ 2 ^ 54 → d ≤ 272 → e ≤ 272 → (t * d < 2 ^ 64) × (t * e < 2 ^ 65)
-fits-small t d e h l m = (go (mul-le-mul h l), more (mul-le-mul h m))
-  where
-    go : {x : ℕ} → x ≤ 2 ^ 54 * 272 → x < 2 ^ 64
-    go k = omega arith
-
-    more : {x : ℕ} → x ≤ 2 ^ 54 * 272 → x < 2 ^ 65
-    more k = omega arith
+      go : 0 ≤ u → u * 16 ≤ (u / 2 ^ 3 + u / 2 ^ 4 + 2 - 2 * t) * 90
+      go k = omega arith

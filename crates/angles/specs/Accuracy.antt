@@ -21,7 +21,7 @@ use Rattle.angles.specs.Exact.{exactly, exactRing, exactSin, exactCos, i
 use Rattle.angles.specs.Near.{Parts, parts, Within, near}
 use Rattle.angles.specs.Reduction.{sub-under, unlike-false, mod4-small, Small, rest-small}
 use Rattle.angles.specs.Rounded.{Rounds, rounds, neg-round}
-use Rattle.angles.specs.Series.{mul-signed, add-signed, sub-signed, twice-unlike, even, negated, pairs-le, ring-is}
+use Rattle.angles.specs.Series.{mul-signed, add-signed, sub-signed, twice-unlike, eight, negated, held, ring-is}
 use Rattle.angles.specs.Sizes.{negativeAt, sizeAt}
 
 -- ---- whole numbers: a product with a natural number goes over a sum
@@ -157,8 +157,8 @@ record Ring (q : ℕ) (b : Bool) (u : ℕ) : Type 0 where
 module _ (b : Bool) (u : ℕ) (h : u < 2 ^ 60) where
   ringed : (q : ℕ) → q < 4 → Ring q b u
   unfolding exactRing
-  ringed zero l = let e = same 1 b b u u 8 in record { tops = e .sums ∙ even 4 (diff b (parts 1 u u 8 .like) (parts 1 u u 8 .other)); bottoms = e .bottoms; close = near 1 u u h; small = le-trans (pairs-le 1 u u h 4) (le-of-lt h) }
-  ringed (suc zero) l = let e = same 0 b false u (2 ^ 60) 8 in record { tops = e .sums ∙ even 4 (diff false (parts 0 u (2 ^ 60) 8 .like) (parts 0 u (2 ^ 60) 8 .other)); bottoms = e .bottoms; close = near 0 u (2 ^ 60) h; small = pairs-le 0 u (2 ^ 60) h 4 }
+  ringed zero l = let e = same 1 b b u u 8 in record { tops = e .sums ∙ eight (diff b (parts 1 u u 8 .like) (parts 1 u u 8 .other)); bottoms = e .bottoms; close = near 1 u u h; small = le-trans (held 1 u u h 8 .1) (le-of-lt h) }
+  ringed (suc zero) l = let e = same 0 b false u (2 ^ 60) 8 in record { tops = e .sums ∙ eight (diff false (parts 0 u (2 ^ 60) 8 .like) (parts 0 u (2 ^ 60) 8 .other)); bottoms = e .bottoms; close = near 0 u (2 ^ 60) h; small = held 0 u (2 ^ 60) h 8 .1 }
   ringed (suc (suc zero)) l = let e = ringed zero (omega arith) in record { tops = ap negℤ (e .tops) ∙ diff-not b (parts 1 u u 8 .like) (parts 1 u u 8 .other); bottoms = e .bottoms; close = e .close; small = e .small }
   ringed (suc (suc (suc zero))) l = let e = ringed (suc zero) (omega arith) in record { tops = ap negℤ (e .tops) ∙ diff-not false (parts 0 u (2 ^ 60) 8 .like) (parts 0 u (2 ^ 60) 8 .other); bottoms = e .bottoms; close = e .close; small = e .small }
   ringed (suc (suc (suc (suc q)))) l = absurd (no-more q l)

@@ -5,8 +5,8 @@ use native.Mathlib.Nat.{mul-assoc, mul-right-comm, add-mul, le-refl, le-trans, l
 use native.Mathlib.Omega.{arith}
 use lib.Dec.{lit<}
 use Rattle.angles.specs.Angles.{divisor}
-use Rattle.angles.specs.Sizes.{nextOf, pairs, twice}
-use Rattle.angles.specs.Series.{next-le}
+use Rattle.angles.specs.Sizes.{nextOf, termOf, alter, sumOf}
+use Rattle.angles.specs.Series.{next-le, Held, held}
 
 -- ---- the exact sums over sizes, the terms that are added apart from those that are taken off
 
@@ -203,30 +203,31 @@ close c u t h (suc j) =
 
 -- ---- the sum that the code works out is the difference
 
-pub differs : (c u t : ℕ) → u < W → (i : ℕ) → (pairs c u t i .term ≡ roughly c u t (twice i) .term) × (pairs c u t i .sum + roughly c u t (twice i) .other ≡ roughly c u t (twice i) .like) × (pairs c u t i .term ≤ pairs c u t i .sum)
-unfolding pairs roughly
-differs c u t h zero = (refl, zero-right t, le-refl t)
+-- after term n the sum s is `like` less `other`, or the other way round
+abbrev Apart : ℕ → ℕ → ℕ → ℕ → Type 0
+Apart zero s o k = s + o ≡ k
+Apart (suc zero) s o k = s + k ≡ o
+Apart (suc (suc n)) s o k = Apart n s o k
+
+further : (a n s p v o k : ℕ) → v ≤ p → Held a n s p → Apart n s o k → Apart (suc n) (alter n s v) k (o + v)
+further a zero s p v o k l h e = omega arith
+further a (suc zero) s p v o k l h e = omega arith
+further a (suc (suc n)) s p v o k l h e = further a n s p v o k l h e
+
+same-term : (c u t n : ℕ) → roughly c u t n .term ≡ termOf c u t n
+unfolding roughly termOf
+same-term c u t zero = refl
+same-term c u t (suc n) = ap (nextOf u (divisor c n)) (same-term c u t n)
+
+differs : (c u t : ℕ) → u < W → (n : ℕ) → Apart n (sumOf c u t n) (roughly c u t n .other) (roughly c u t n .like)
+unfolding sumOf termOf roughly
+differs c u t h zero = zero-right t
   where
     zero-right : (t : ℕ) → t + 0 ≡ t
     zero-right t = omega arith
-differs c u t h (suc i) =
-    let q = differs c u t h i in
-    let p = pairs c u t i in
-    let g = roughly c u t (twice i) in
-    let d = divisor c (twice i) in
-    let e = divisor c (suc (twice i)) in
-    let t1 = nextOf u d (p .term) in
-    let s1 = nextOf u d (g .term) in
-    let e1 : t1 ≡ s1 = ap (nextOf u d) (q .0) in
-    let e2 : nextOf u e t1 ≡ nextOf u e s1 = ap (nextOf u e) e1 in
-    let l : t1 ≤ p .term = next-le (p .term) u d h in
-    (e2, go (p .sum) t1 (nextOf u e t1) s1 (nextOf u e s1) (g .other) (g .like) (p .term) e1 e2 (q .1) l (q .2), last (nextOf u e t1) (p .sum - t1))
-  where
-    go : (s a b a' b' o k m : ℕ) → a ≡ a' → b ≡ b' → s + o ≡ k → a ≤ m → m ≤ s → s - a + b + (o + a') ≡ k + b'
-    go s a b a' b' o k m e f g h l = omega arith
-
-    last : (x y : ℕ) → x ≤ y + x
-    last x y = omega arith
+differs c u t h (suc n) =
+    subst (λ (v : ℕ). Apart (suc n) (sumOf c u t (suc n)) (roughly c u t n .like) (roughly c u t n .other + v)) (sym (same-term c u t (suc n)))
+    (further t n (sumOf c u t n) (termOf c u t n) (termOf c u t (suc n)) (roughly c u t n .other) (roughly c u t n .like) (next-le (termOf c u t n) u (divisor c n) h) (held c u t h n) (differs c u t h n))
 
 -- V × bottom is within 72 × bottom of like - other: the sum lies within 72 / 2 ^ 60 of the exact partial sum
 pub record Within (v : ℕ) (f : Parts) : Type 0 where
@@ -244,13 +245,13 @@ bounds x y w A B P e l1 h1 l2 h2 = (omega arith, omega arith)
 with-slack : (a s P A : ℕ) → s ≡ 72 → A ≤ (a + s) * P → A ≤ a * P + 72 * P
 with-slack a s P A z h = le-trans h (le-of-eq (ap (λ (x : ℕ). (a + x) * P) z ∙ add-mul a 72 P))
 
-pub near : (c u t : ℕ) → u < W → Within (pairs c u t 4 .sum) (parts c u t 8)
+pub near : (c u t : ℕ) → u < W → Within (sumOf c u t 8) (parts c u t 8)
 near c u t h =
     let q : Close c u t 8 = close c u t h 8 in
-    let v = pairs c u t 4 .sum in
+    let v = sumOf c u t 8 in
     let f = parts c u t 8 in
     let g = roughly c u t 8 in
     let P = f .bottom in
-    let e : v * P + g .other * P ≡ g .like * P = sym (add-mul v (g .other) P) ∙ ap (λ (x : ℕ). x * P) (differs c u t h 4 .1) in
+    let e : v * P + g .other * P ≡ g .like * P = sym (add-mul v (g .other) P) ∙ ap (λ (x : ℕ). x * P) (differs c u t h 8) in
     let b = bounds (v * P) (g .other * P) (g .like * P) (f .like) (f .other) P e (q .like-lo) (with-slack (g .like) (slack 8) P (f .like) slack-is (q .like-hi)) (q .other-lo) (with-slack (g .other) (slack 8) P (f .other) slack-is (q .other-hi)) in
     record { over = b .0; under = b .1 }

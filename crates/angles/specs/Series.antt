@@ -1,6 +1,6 @@
 -- The series of `Angles` at a signed number are those of `Sizes` with a sign, and so is the ring of four. One law serves the sine (c = 1) and the cosine (c = 0).
 -- Assumes nothing.
-use mathlib.Core.Path.{_≡_, refl, sym, ap, _∙_}
+use mathlib.Core.Path.{_≡_, refl, sym, ap, ap₂, _∙_}
 use mathlib.Core.Bool.{Bool, true, false, not, cond}
 use Prim.Native.Nat.{ℕ, zero, suc, _+_, _-_, _*_, _/_, _^_, _≤_, _<_}
 use native.Mathlib.Nat.{mul-zero, zero-mul, zero-div, add-zero, sub-zero, le-refl, le-trans, le-of-lt, le-of-eq, mul-comm, mul-le-mul-left, div-le-of-le-mul, div-le-self}
@@ -10,11 +10,11 @@ use lib.Signed.{quotZ}
 use lib.Ieee.{unlike}
 use borrow.Author.Tests.{le-ltb}
 use Rattle.angles.specs.Angles.{signed, mulShift, divisor, term, alternate, series, sine, cosine, ring}
-use Rattle.angles.specs.Sizes.{nextOf, pairs, twice, negativeAt, sizeAt}
+use Rattle.angles.specs.Sizes.{nextOf, termOf, alter, sumOf, negativeAt, sizeAt}
 
 -- ---- terms do not grow
 
-shift-le : (t u : ℕ) → u < 2 ^ 60 → t * u / 2 ^ 60 ≤ t
+pub shift-le : (t u : ℕ) → u < 2 ^ 60 → t * u / 2 ^ 60 ≤ t
 shift-le t u h = div-le-of-le-mul (2 ^ 60) (le-trans (mul-le-mul-left t (le-of-lt h)) (le-of-eq (mul-comm t (2 ^ 60))))
 
 pub shifts-le : (t u : ℕ) → u < 2 ^ 60 → t * u / 2 ^ 60 * u / 2 ^ 60 ≤ t
@@ -51,7 +51,7 @@ twice-unlike false true = refl
 twice-unlike true false = refl
 twice-unlike true true = refl
 
-next-signed : (s t : Bool) (a u d : ℕ) → quotZ (mulShift (mulShift (signed t a) (signed s u)) (signed s u)) (pos d) ≡ signed t (nextOf u d a)
+pub next-signed : (s t : Bool) (a u d : ℕ) → quotZ (mulShift (mulShift (signed t a) (signed s u)) (signed s u)) (pos d) ≡ signed t (nextOf u d a)
 next-signed s t a u d =
     ap (λ (z : ℤ). quotZ (mulShift z (signed s u)) (pos d)) (shift-signed t s a u)
     ∙ ap (λ (z : ℤ). quotZ z (pos d)) (shift-signed (unlike t s) s (a * u / 2 ^ 60) u ∙ ap (λ (b : Bool). signed b (a * u / 2 ^ 60 * u / 2 ^ 60)) (twice-unlike s t))
@@ -69,65 +69,53 @@ pub sub-signed : (s : Bool) (a b : ℕ) → b ≤ a → signed s a +ℤ negℤ (
 sub-signed false a b h = sub-pos a b h
 sub-signed true a b h = sym (negℤ-+ℤ (pos a) (negℤ (pos b))) ∙ ap negℤ (sub-pos a b h)
 
--- ---- the series, two terms at a time
+-- ---- the series, term by term
 
-pub even : (i : ℕ) (z : ℤ) → alternate (twice i) z ≡ z
+pub eight : (z : ℤ) → alternate 8 z ≡ z
 unfolding alternate
-even zero z = refl
-even (suc i) z = negℤ-negℤ (alternate (twice i) z) ∙ even i z
+eight z = negℤ-negℤ _ ∙ negℤ-negℤ _ ∙ negℤ-negℤ _ ∙ negℤ-negℤ z
 
-pub record Sized (c : ℕ) (s t : Bool) (u a i : ℕ) : Type 0 where
-  pub sums : series c (signed s u) (signed t a) (twice i) ≡ signed t (pairs c u a i .sum)
-  pub terms : term c (signed s u) (signed t a) (twice i) ≡ signed t (pairs c u a i .term)
-  pub kept : pairs c u a i .term ≤ pairs c u a i .sum
+-- after term n, which is t, the sum s holds the next, or has room for it below the first term a
+abbrev pub Held : ℕ → ℕ → ℕ → ℕ → Type 0
+Held a zero s t = (t ≤ s) × (s ≤ a)
+Held a (suc zero) s t = s + t ≤ a
+Held a (suc (suc n)) s t = Held a n s t
 
-pub sized : (c : ℕ) (s t : Bool) (u a : ℕ) → u < 2 ^ 60 → (i : ℕ) → Sized c s t u a i
-unfolding series pairs term alternate
-sized c s t u a h zero = record { sums = refl; terms = refl; kept = le-refl a }
-sized c s t u a h (suc i) =
-    let r = signed s u in
-    let w = signed t a in
-    let j = twice i in
-    let q : Sized c s t u a i = sized c s t u a h i in
-    let p = pairs c u a i in
-    let t1 = nextOf u (divisor c j) (p .term) in
-    let t2 = nextOf u (divisor c (suc j)) t1 in
-    let l1 : t1 ≤ p .sum = le-trans (next-le (p .term) u (divisor c j) h) (q .kept) in
-    let e1 : term c r w (suc j) ≡ signed t t1 = ap (λ (z : ℤ). quotZ (mulShift (mulShift z r) r) (pos (divisor c j))) (q .terms) ∙ next-signed s t (p .term) u (divisor c j) in
-    let e2 : term c r w (suc (suc j)) ≡ signed t t2 = ap (λ (z : ℤ). quotZ (mulShift (mulShift z r) r) (pos (divisor c (suc j)))) e1 ∙ next-signed s t t1 u (divisor c (suc j)) in
-    let f1 : series c r w (suc j) ≡ signed t (p .sum - t1) =
-    ap (λ (z : ℤ). z +ℤ negℤ (alternate j (term c r w (suc j)))) (q .sums)
-    ∙ ap (λ (z : ℤ). signed t (p .sum) +ℤ negℤ z) (even i (term c r w (suc j)) ∙ e1)
-    ∙ sub-signed t (p .sum) t1 l1 in
-    let f2 : series c r w (suc (suc j)) ≡ signed t (p .sum - t1 + t2) =
-    ap (λ (z : ℤ). z +ℤ negℤ (negℤ (alternate j (term c r w (suc (suc j)))))) f1
-    ∙ ap (λ (z : ℤ). signed t (p .sum - t1) +ℤ z) (negℤ-negℤ (alternate j (term c r w (suc (suc j)))) ∙ even i (term c r w (suc (suc j))) ∙ e2)
-    ∙ add-signed t (p .sum - t1) t2 in
-    record { sums = f2; terms = e2; kept = last t2 (p .sum - t1) }
-  where
-    last : (x y : ℕ) → x ≤ y + x
-    last x y = omega arith
+advance : (a n s t v : ℕ) → v ≤ t → Held a n s t → Held a (suc n) (alter n s v) v
+advance a zero s t v l h = omega arith
+advance a (suc zero) s t v l h = (omega arith, omega arith)
+advance a (suc (suc n)) s t v l h = advance a n s t v l h
 
--- no partial sum is above the first term
-pub pairs-le : (c u a : ℕ) → u < 2 ^ 60 → (i : ℕ) → pairs c u a i .sum ≤ a
-unfolding pairs
-pairs-le c u a h zero = le-refl a
-pairs-le c u a h (suc i) =
-    let p = pairs c u a i in
-    let d = divisor c (twice i) in
-    let e = divisor c (suc (twice i)) in
-    go (p .sum) (nextOf u d (p .term)) (nextOf u e (nextOf u d (p .term))) (next-le (p .term) u d h) (sized c false false u a h i .kept) (next-le (nextOf u d (p .term)) u e h) (pairs-le c u a h i)
-  where
-    go : (s t v : ℕ) → t ≤ pairs c u a i .term → pairs c u a i .term ≤ s → v ≤ t → s ≤ a → s - t + v ≤ a
-    go s t v j k l m = omega arith
+pub held : (c u a : ℕ) → u < 2 ^ 60 → (n : ℕ) → Held a n (sumOf c u a n) (termOf c u a n)
+unfolding sumOf termOf
+held c u a h zero = (le-refl a, le-refl a)
+held c u a h (suc n) = advance a n (sumOf c u a n) (termOf c u a n) (termOf c u a (suc n)) (next-le (termOf c u a n) u (divisor c n) h) (held c u a h n)
 
-pub sine-is : (s : Bool) (u : ℕ) → u < 2 ^ 60 → sine (signed s u) ≡ signed s (pairs 1 u u 4 .sum)
+altered : (t : Bool) (a n s p v : ℕ) → v ≤ p → Held a n s p → signed t s +ℤ alternate (suc n) (signed t v) ≡ signed t (alter n s v)
+unfolding alternate
+altered t a zero s p v l h = sub-signed t s v (le-trans l (h .0))
+altered t a (suc zero) s p v l h = ap (λ (z : ℤ). signed t s +ℤ z) (negℤ-negℤ (signed t v)) ∙ add-signed t s v
+altered t a (suc (suc n)) s p v l h = ap (λ (z : ℤ). signed t s +ℤ z) (negℤ-negℤ (alternate (suc n) (signed t v))) ∙ altered t a n s p v l h
+
+pub term-is : (c : ℕ) (s t : Bool) (u a n : ℕ) → term c (signed s u) (signed t a) n ≡ signed t (termOf c u a n)
+unfolding term termOf
+term-is c s t u a zero = refl
+term-is c s t u a (suc n) = ap (λ (z : ℤ). quotZ (mulShift (mulShift z (signed s u)) (signed s u)) (pos (divisor c n))) (term-is c s t u a n) ∙ next-signed s t (termOf c u a n) u (divisor c n)
+
+pub series-is : (c : ℕ) (s t : Bool) (u a : ℕ) → u < 2 ^ 60 → (n : ℕ) → series c (signed s u) (signed t a) n ≡ signed t (sumOf c u a n)
+unfolding series sumOf termOf
+series-is c s t u a h zero = refl
+series-is c s t u a h (suc n) =
+    ap₂ (λ (x y : ℤ). x +ℤ alternate (suc n) y) (series-is c s t u a h n) (term-is c s t u a (suc n))
+    ∙ altered t a n (sumOf c u a n) (termOf c u a n) (termOf c u a (suc n)) (next-le (termOf c u a n) u (divisor c n) h) (held c u a h n)
+
+pub sine-is : (s : Bool) (u : ℕ) → u < 2 ^ 60 → sine (signed s u) ≡ signed s (sumOf 1 u u 8)
 unfolding sine
-sine-is s u h = sized 1 s s u u h 4 .sums
+sine-is s u h = series-is 1 s s u u h 8
 
-pub cosine-is : (s : Bool) (u : ℕ) → u < 2 ^ 60 → cosine (signed s u) ≡ pos (pairs 0 u (2 ^ 60) 4 .sum)
+pub cosine-is : (s : Bool) (u : ℕ) → u < 2 ^ 60 → cosine (signed s u) ≡ pos (sumOf 0 u (2 ^ 60) 8)
 unfolding cosine
-cosine-is s u h = sized 0 s false u (2 ^ 60) h 4 .sums
+cosine-is s u h = series-is 0 s false u (2 ^ 60) h 8
 
 -- ---- the ring
 
@@ -139,7 +127,7 @@ pub ring-is : (q : ℕ) (b : Bool) (u : ℕ) → q < 4 → u < 2 ^ 60 → ring q
 unfolding ring
 ring-is zero b u l h = sine-is b u h
 ring-is (suc zero) b u l h = cosine-is b u h
-ring-is (suc (suc zero)) b u l h = ap negℤ (sine-is b u h) ∙ sym (negated b (pairs 1 u u 4 .sum))
+ring-is (suc (suc zero)) b u l h = ap negℤ (sine-is b u h) ∙ sym (negated b (sumOf 1 u u 8))
 ring-is (suc (suc (suc zero))) b u l h = ap negℤ (cosine-is b u h)
 ring-is (suc (suc (suc (suc q)))) b u l h = absurd (no-more q l)
   where

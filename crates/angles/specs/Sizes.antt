@@ -3,7 +3,6 @@ use mathlib.Core.Path.{_≡_}
 use mathlib.Core.Bool.{Bool, true, false, not}
 use Prim.Native.Nat.{ℕ, zero, suc, _+_, _-_, _*_, _/_, _^_, _≤_, _<_}
 use lib.Ieee.{Float}
-use Rattle.angles.specs.declared.series.Partial.{Partial}
 use Rattle.angles.specs.declared.arc.Arc.{Arc}
 use Rattle.angles.specs.Angles.{signed, divisor, Q, scaled, quarters, rest, mod4}
 use Rattle.angles.specs.Arcs.{arcTerm, arcSum}
@@ -23,23 +22,27 @@ pub record Roomy (t u d least : ℕ) : Type 0 where
   pub over : 2 * t ≤ least
   pub left : u * 16 ≤ (least - 2 * t) * d
 
--- two terms further: one taken off, one added
-abbrev pub pairOf : ℕ → ℕ → ℕ → Partial → Partial
-pairOf u d e p =
-    record {
-      sum = p .sum - nextOf u d (p .term) + nextOf u e (nextOf u d (p .term));
-      term = nextOf u e (nextOf u d (p .term));
-    }
+-- term j, which is t, is small beside u, and the divisor d of the next large enough
+pub record Small (j t u d : ℕ) : Type 0 where
+  pub third : 2 ≤ j → (t * 24 ≤ u) × (30 ≤ d)
+  pub fourth : 3 ≤ j → (t * 720 ≤ u) × (56 ≤ d)
+  pub later : 4 ≤ j → (t * 40320 ≤ u) × (90 ≤ d)
 
--- 2i
-abbrev pub twice : ℕ → ℕ
-twice zero = zero
-twice (suc i) = suc (suc (twice i))
+-- the size of term n of the series that starts at t: the sine's where c is 1, the cosine's where it is 0
+unfoldable pub termOf : ℕ → ℕ → ℕ → ℕ → ℕ
+termOf c u t zero = t
+termOf c u t (suc n) = nextOf u (divisor c n) (termOf c u t n)
 
--- after 2i terms
-unfoldable pub pairs : ℕ → ℕ → ℕ → ℕ → Partial
-pairs c u t zero = record { sum = t; term = t }
-pairs c u t (suc i) = pairOf u (divisor c (twice i)) (divisor c (suc (twice i))) (pairs c u t i)
+-- term n + 1, which is t, taken off the sum s or added
+abbrev pub alter : ℕ → ℕ → ℕ → ℕ
+alter zero s t = s - t
+alter (suc zero) s t = s + t
+alter (suc (suc n)) s t = alter n s t
+
+-- the sum of the terms 0 to n
+unfoldable pub sumOf : ℕ → ℕ → ℕ → ℕ → ℕ
+sumOf c u t zero = t
+sumOf c u t (suc n) = alter n (sumOf c u t n) (termOf c u t (suc n))
 
 -- ---- the ring
 
@@ -52,8 +55,8 @@ negativeAt (suc (suc (suc q))) b = true
 
 -- its size, at a rest of the size u
 abbrev pub sizeAt : ℕ → ℕ → ℕ
-sizeAt zero u = pairs 1 u u 4 .sum
-sizeAt (suc zero) u = pairs 0 u (2 ^ 60) 4 .sum
+sizeAt zero u = sumOf 1 u u 8
+sizeAt (suc zero) u = sumOf 0 u (2 ^ 60) 8
 sizeAt (suc (suc q)) u = sizeAt q u
 
 -- ---- the reduction

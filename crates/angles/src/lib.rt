@@ -1,7 +1,7 @@
 // sin, cos and acos by whole numbers scaled by 2^60, as document 01 has them: the same bits on every machine.
 // An argument outside the range, or a NaN, is answered `Outside`.
 ghost use mathlib.Core.Path.{_≡_};
-ghost use Rattle.angles.specs.Angles.{inRange, tiny, sinOf, cosOf};
+ghost use Rattle.angles.specs.Angles.{inRange, tiny, regionOf, sinOf, cosOf};
 ghost use Rattle.angles.specs.Arcs.{acosOf};
 ghost use Rattle.angles.specs.Both.{bothOf};
 use arc::arc_cosine;
@@ -10,6 +10,7 @@ use ring::ring_at;
 use turn::reduced;
 
 pub mod arc;
+pub mod counted;
 pub mod fixed;
 pub mod ring;
 pub mod series;
@@ -49,6 +50,17 @@ fn is_tiny(x: f64) -> bool
         x < 1.490116119384765625e-8
     } else {
         false
+    }
+}
+
+// Where an argument lies.
+pub fn region(x: f64) -> Zone
+    ensures { λ r. ⌜ r ≡ regionOf x ⌝ }
+{
+    if in_range(x) {
+        if is_tiny(x) { Zone::Tiny } else { Zone::Inside }
+    } else {
+        Zone::Outside
     }
 }
 

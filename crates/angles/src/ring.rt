@@ -23,9 +23,11 @@ fn size_at(q: u64, u: u64) -> u64
     ensures { λ r. ⌜ r ≡ sizeAt q u ⌝ }
 {
     if q % 2 == 0 {
-        sine_size(u)
+        let e = sine_size(u);
+        e.sum
     } else {
-        cosine_size(u)
+        let e = cosine_size(u);
+        e.sum
     }
 }
 
@@ -57,8 +59,8 @@ pub fn both_at(q: u64, below: bool, u: u64) -> Places
     ensures { λ r. ⌜ (r .sine ≡ toFloat (ring q (signed below u))) × (r .cosine ≡ toFloat (ring ((q + 1) % 4) (signed below u))) ⌝ }
 {
     let sums = both_sizes(u);
-    let s = sums.sine;
-    let c = sums.cosine;
+    let s = sums.sine.sum;
+    let c = sums.cosine.sum;
     let next = (q + 1) % 4;
     Places {
         sine: to_float(size_of(q, s, c), negative_at(q, below)),

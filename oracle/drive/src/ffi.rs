@@ -17,6 +17,10 @@ unsafe extern "C" {
     pub safe fn slew_cos(x: f64, answer: &mut f64) -> bool;
     pub safe fn slew_sin_cos(x: f64, answer: &mut [f64; 2]) -> bool;
     pub safe fn slew_acos(x: f64, answer: &mut f64) -> bool;
+    pub safe fn slew_sine_series(x: f64, answer: &mut [u64; 2]) -> bool;
+    pub safe fn slew_cosine_series(x: f64, answer: &mut [u64; 2]) -> bool;
+    pub safe fn slew_both_series(x: f64, answer: &mut [u64; 4]) -> bool;
+    pub safe fn slew_arc_series(w: f64, answer: &mut [u64; 2]) -> bool;
 
     pub safe fn slew_quat_is_finite(q: &A4) -> bool;
     pub safe fn slew_quat_norm(q: &A4) -> f64;

@@ -84,7 +84,7 @@ fn for_isqrt(r: &mut Random, w: &mut Words) {
 }
 
 /// Over all exponents up to the bound, multiples of a quarter turn and neighbours, the ends, anything.
-fn for_turn(r: &mut Random, w: &mut Words) {
+pub fn for_turn(r: &mut Random, w: &mut Words) {
     let x = match r.below(8) {
         0 => r.any(),
         1 => r.special(),
@@ -107,7 +107,7 @@ fn for_turn(r: &mut Random, w: &mut Words) {
     w.f(x);
 }
 
-fn for_arc(r: &mut Random, w: &mut Words) {
+pub fn for_arc(r: &mut Random, w: &mut Words) {
     let x = match r.below(8) {
         0 => r.any(),
         1 => r.special(),

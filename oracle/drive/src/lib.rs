@@ -19,6 +19,7 @@ pub mod pulses;
 pub mod region;
 pub mod runs;
 pub mod samples;
+pub mod series;
 pub mod shapes;
 pub mod shrink;
 pub mod store;

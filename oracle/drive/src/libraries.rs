@@ -1,7 +1,7 @@
 //! What is compared: the libraries, each with its functions and its share of the time of `--minutes`.
 
 use crate::words::Entry;
-use crate::{courses, edges, leaves, order, planes, plans, region, runs, samples, shapes, systems, texts};
+use crate::{courses, edges, leaves, order, planes, plans, region, runs, samples, series, shapes, systems, texts};
 
 pub struct Library {
     pub name: &'static str,
@@ -16,9 +16,10 @@ const fn library(name: &'static str, entries: &'static [Entry]) -> Library {
 }
 
 /// Each has the same share; whole plans have as much as all the others.
-pub const LIBRARIES: [Library; 15] = [
+pub const LIBRARIES: [Library; 16] = [
     library("floats", &leaves::LEAVES),
     library("angles", &leaves::ANGLES),
+    library("series", &series::SERIES),
     library("geometry", &shapes::SHAPES),
     library("profile", &courses::COURSES),
     library("runs", &runs::RUNS),

@@ -118,6 +118,10 @@ fn leaves(turns: u32) {
     let far = list(&mut random, |r| r.tame() * 500.0);
     let small = list(&mut random, |r| r.tame());
     let arcs = list(&mut random, Random::unit);
+    let arc_of = |r: &mut Random, most: f64| (most * r.unit()).cos();
+    let slight = list(&mut random, |r| arc_of(r, 0.1));
+    let middle = list(&mut random, |r| arc_of(r, 1.0));
+    let quarter = list(&mut random, |r| arc_of(r, std::f64::consts::FRAC_PI_2));
     over(turns, "sqrt, an array, every exponent", &any, |x| slew_sqrt(x), f64::sqrt);
     over(turns, "sqrt, an array, near 1", &ones, |x| slew_sqrt(x), f64::sqrt);
     waiting(turns, "sqrt, each waiting for the one before", |x| slew_sqrt(x), f64::sqrt, |x| x + 1.5);
@@ -133,8 +137,11 @@ fn leaves(turns: u32) {
         slew_sin_cos(x, &mut answer);
         answer[0] + answer[1]
     };
+    over(turns, "sin and cos of one argument up to 1,000", &far, both, |x| x.sin() + x.cos());
     over(turns, "sin and cos of one argument up to 2", &small, both, |x| x.sin() + x.cos());
-    over(turns, "acos", &arcs, |x| given(x, |x, a| slew_acos(x, a)), f64::acos);
+    for (name, inputs) in [("acos", &arcs), ("acos, angles up to 0.1", &slight), ("acos, angles up to 1", &middle), ("acos, angles up to pi/2", &quarter)] {
+        over(turns, name, inputs, |x| given(x, |x, a| slew_acos(x, a)), f64::acos);
+    }
 }
 
 /// Forming the normal equations and eliminating, as one iteration does it.

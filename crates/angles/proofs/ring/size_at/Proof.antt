@@ -1,6 +1,9 @@
 -- `angles::ring::size_at` meets its contract.
-use mathlib.Core.Path.{_∙_}
+use mathlib.Core.Path.{ap, _∙_}
+use mathlib.Core.Bool.{false}
 use borrow.Author.Needs.{needs}
+use Rattle.angles.specs.declared.series.Ended.{Ended}
+use Rattle.angles.specs.EndedLaws.{sine-size, cosine-size}
 use Rattle.angles.proofs.Places.{even-size, odd-size}
 use Rattle.angles.proofs.ring.size_at.Statement.{statement}
 use Rattle.angles.proofs.ring.size_at.Tie as tie
@@ -14,12 +17,12 @@ cosine-size-requires c κs = search needs
 returns : tie.Need-returns
 returns c =
     let s = c .before .before in
-    c .sine-size .ensures .0 ∙ even-size (s .args .q) (s .args .u) (s .pre .0) (c .before .if1 .taken)
+    ap (λ (e : Ended). e .sum) (c .sine-size .ensures false) ∙ sine-size (s .args .u) (s .pre .1) ∙ even-size (s .args .q) (s .args .u) (s .pre .0) (c .before .if1 .taken)
 
 returns-2 : tie.Need-returns-2
 returns-2 c =
     let s = c .before .before in
-    c .cosine-size .ensures .0 ∙ odd-size (s .args .q) (s .args .u) (s .pre .0) (c .before .if1 .left)
+    ap (λ (e : Ended). e .sum) (c .cosine-size .ensures false) ∙ cosine-size (s .args .u) (s .pre .1) ∙ odd-size (s .args .q) (s .args .u) (s .pre .0) (c .before .if1 .left)
 
 pub size-at-spec : {M : Type 1} → statement M
 size-at-spec = tie.close (tie.spec sine-size-requires cosine-size-requires returns returns-2)

@@ -1,99 +1,107 @@
--- `angles::series::both_sizes` meets its contract: four pairs of terms of each series.
-use mathlib.Core.Path.{_∙_, ap}
-use Prim.Native.Nat.{_-_, _^_, _≤_}
-use native.Mathlib.Omega.{arith}
+-- `angles::series::both_sizes` meets its contract: eight steps of each series.
+use mathlib.Core.Path.{sym, subst}
+use Prim.Native.Nat.{_≤_}
+use lib.Dec.{lit≤}
 use borrow.Author.Needs.{needs}
-use Rattle.angles.specs.declared.series.Partial.{Partial}
-use Rattle.angles.specs.Sizes.{pairs, pairOf}
-use Rattle.angles.proofs.Quick.{room-whole, room-half, room-quarter, fits-small}
+use Rattle.angles.specs.declared.series.Stage.{Stage}
+use Rattle.angles.specs.EndedLaws.{sine-end, cosine-end}
+use Rattle.angles.proofs.Stages.{count-is}
 use Rattle.angles.proofs.series.both_sizes.Statement.{statement}
 use Rattle.angles.proofs.series.both_sizes.Tie as tie
-
-pair-requires : tie.Need-pair-requires
-pair-requires c κs = search needs
-
-pair-requires-2 : tie.Need-pair-requires-2
-pair-requires-2 c κs = search needs
 
 square-of-requires : tie.Need-square-of-requires
 square-of-requires c κs = search needs
 
-add-least : tie.Need-add-least
-add-least c = search needs
+cosine-start-requires : tie.Need-cosine-start-requires
+cosine-start-requires c κs = search needs
 
-add-quick-pair : tie.Need-add-quick-pair
-add-quick-pair c = search needs
+sine-start-requires : tie.Need-sine-start-requires
+sine-start-requires c κs = search needs
 
-quick-pair-requires : tie.Need-quick-pair-requires
-quick-pair-requires c κs =
-    let p = c .before .before .pair in
-    let h : p .result .term ≤ 2 ^ 54 - 1 = omega arith in
-    let f = fits-small (p .result .term) 42 72 (omega arith) (omega arith) (omega arith) in
-    ((search needs, omega arith, omega arith, p .ensures .1, f .0, f .1), c .square-of .ensures, room-half _ _ _ (omega arith) h, omega arith)
+cosine-step-requires : tie.Need-cosine-step-requires
+cosine-step-requires c κs = (lit≤ tt, c .before .before .before .pre, c .before .before .square-of .ensures, c .before .cosine-start .ensures _)
 
-add-quick-pair-2 : tie.Need-add-quick-pair-2
-add-quick-pair-2 c = search needs
+sine-step-requires : tie.Need-sine-step-requires
+sine-step-requires c κs = (lit≤ tt, c .before .before .before .before .pre, c .before .before .before .square-of .ensures, c .before .sine-start .ensures)
 
-quick-pair-requires-2 : tie.Need-quick-pair-requires-2
-quick-pair-requires-2 c κs = (search needs, c .before .square-of .ensures, room-whole _ _ _ (omega arith) (omega arith), omega arith)
+cosine-step-requires-2 : tie.Need-cosine-step-requires-2
+cosine-step-requires-2 c κs = (lit≤ tt, c .before .before .before .before .before .pre, c .before .before .before .before .square-of .ensures, c .before .cosine-step .ensures)
 
-quick-pair-requires-3 : tie.Need-quick-pair-requires-3
-quick-pair-requires-3 c κs =
-    let p = c .before .quick-pair in
-    let h : p .result .term ≤ 2 ^ 46 - 1 = omega arith in
-    let f = fits-small (p .result .term) 110 156 (omega arith) (omega arith) (omega arith) in
-    ((search needs, omega arith, omega arith, p .ensures .1, f .0, f .1), c .before .before .square-of .ensures, room-quarter _ _ _ (omega arith) h, omega arith)
+sine-step-requires-2 : tie.Need-sine-step-requires-2
+sine-step-requires-2 c κs = (lit≤ tt, c .before .before .before .before .before .before .pre, c .before .before .before .before .before .square-of .ensures, c .before .sine-step .ensures)
 
-quick-pair-requires-4 : tie.Need-quick-pair-requires-4
-quick-pair-requires-4 c κs =
-    let p = c .before .quick-pair2 in
-    let h : p .result .term ≤ 2 ^ 46 - 1 = omega arith in
-    let f = fits-small (p .result .term) 90 132 (omega arith) (omega arith) (omega arith) in
-    ((search needs, omega arith, omega arith, p .ensures .1, f .0, f .1), c .before .before .before .square-of .ensures, room-quarter _ _ _ (omega arith) h, omega arith)
+cosine-step-requires-3 : tie.Need-cosine-step-requires-3
+cosine-step-requires-3 c κs = (lit≤ tt, c .before .before .before .before .before .before .before .pre, c .before .before .before .before .before .before .square-of .ensures, c .before .cosine-step2 .ensures)
 
-quick-pair-requires-5 : tie.Need-quick-pair-requires-5
-quick-pair-requires-5 c κs =
-    let p = c .before .quick-pair3 in
-    let h : p .result .term ≤ 2 ^ 46 - 1 = omega arith in
-    let f = fits-small (p .result .term) 210 272 (omega arith) (omega arith) (omega arith) in
-    ((search needs, omega arith, omega arith, p .ensures .1, f .0, f .1), c .before .before .before .before .square-of .ensures, room-quarter _ _ _ (omega arith) h, omega arith)
+sine-step-requires-3 : tie.Need-sine-step-requires-3
+sine-step-requires-3 c κs = (lit≤ tt, c .before .before .before .before .before .before .before .before .pre, c .before .before .before .before .before .before .before .square-of .ensures, c .before .sine-step2 .ensures)
 
-quick-pair-requires-6 : tie.Need-quick-pair-requires-6
-quick-pair-requires-6 c κs =
-    let p = c .before .quick-pair4 in
-    let h : p .result .term ≤ 2 ^ 46 - 1 = omega arith in
-    let f = fits-small (p .result .term) 182 240 (omega arith) (omega arith) (omega arith) in
-    ((search needs, omega arith, omega arith, p .ensures .1, f .0, f .1), c .before .before .before .before .before .square-of .ensures, room-quarter _ _ _ (omega arith) h, omega arith)
+cosine-step-requires-4 : tie.Need-cosine-step-requires-4
+cosine-step-requires-4 c κs = (lit≤ tt, c .before .before .before .before .before .before .before .before .before .pre, c .before .before .before .before .before .before .before .before .square-of .ensures, c .before .cosine-step3 .ensures)
+
+sine-step-requires-4 : tie.Need-sine-step-requires-4
+sine-step-requires-4 c κs = (lit≤ tt, c .before .before .before .before .before .before .before .before .before .before .pre, c .before .before .before .before .before .before .before .before .before .square-of .ensures, c .before .sine-step3 .ensures)
+
+cosine-step-requires-5 : tie.Need-cosine-step-requires-5
+cosine-step-requires-5 c κs = (lit≤ tt, c .before .before .before .before .before .before .before .before .before .before .before .pre, c .before .before .before .before .before .before .before .before .before .before .square-of .ensures, c .before .cosine-step4 .ensures)
+
+sine-step-requires-5 : tie.Need-sine-step-requires-5
+sine-step-requires-5 c κs = (lit≤ tt, c .before .before .before .before .before .before .before .before .before .before .before .before .pre, c .before .before .before .before .before .before .before .before .before .before .before .square-of .ensures, c .before .sine-step4 .ensures)
+
+cosine-step-requires-6 : tie.Need-cosine-step-requires-6
+cosine-step-requires-6 c κs = (lit≤ tt, c .before .before .before .before .before .before .before .before .before .before .before .before .before .pre, c .before .before .before .before .before .before .before .before .before .before .before .before .square-of .ensures, c .before .cosine-step5 .ensures)
+
+sine-step-requires-6 : tie.Need-sine-step-requires-6
+sine-step-requires-6 c κs = (lit≤ tt, c .before .before .before .before .before .before .before .before .before .before .before .before .before .before .pre, c .before .before .before .before .before .before .before .before .before .before .before .before .before .square-of .ensures, c .before .sine-step5 .ensures)
+
+cosine-step-requires-7 : tie.Need-cosine-step-requires-7
+cosine-step-requires-7 c κs = (lit≤ tt, c .before .before .before .before .before .before .before .before .before .before .before .before .before .before .before .pre, c .before .before .before .before .before .before .before .before .before .before .before .before .before .before .square-of .ensures, c .before .cosine-step6 .ensures)
+
+sine-step-requires-7 : tie.Need-sine-step-requires-7
+sine-step-requires-7 c κs = (lit≤ tt, c .before .before .before .before .before .before .before .before .before .before .before .before .before .before .before .before .pre, c .before .before .before .before .before .before .before .before .before .before .before .before .before .before .before .square-of .ensures, c .before .sine-step6 .ensures)
+
+cosine-step-requires-8 : tie.Need-cosine-step-requires-8
+cosine-step-requires-8 c κs = (lit≤ tt, c .before .before .before .before .before .before .before .before .before .before .before .before .before .before .before .before .before .pre, c .before .before .before .before .before .before .before .before .before .before .before .before .before .before .before .before .square-of .ensures, c .before .cosine-step7 .ensures)
+
+sine-step-requires-8 : tie.Need-sine-step-requires-8
+sine-step-requires-8 c κs = (lit≤ tt, c .before .before .before .before .before .before .before .before .before .before .before .before .before .before .before .before .before .before .pre, c .before .before .before .before .before .before .before .before .before .before .before .before .before .before .before .before .before .square-of .ensures, c .before .sine-step7 .ensures)
+
+closed-requires : tie.Need-closed-requires
+closed-requires c κs = subst (λ (q : Stage). q .terms ≤ 9) (sym (c .sine-step8 .ensures)) (count-is 1 _ 8 .within)
+
+closed-requires-2 : tie.Need-closed-requires-2
+closed-requires-2 c κs = subst (λ (q : Stage). q .terms ≤ 9) (sym (c .before .before .cosine-step8 .ensures)) (count-is 0 _ 8 .within)
 
 returns : tie.Need-returns
-unfolding pairs
 returns c =
-    let s4 = c .before in
-    let c3 = s4 .before in
-    let s3 = c3 .before in
-    let c2 = s3 .before in
-    let s2 = c2 .before in
-    let c1 = s2 .before .before in
-    let s1 = c1 .before in
-    let u = s1 .before .args .u in (
-      ap (λ (p : Partial). p .sum) (s4 .quick-pair5 .ensures .0 ∙ ap (pairOf u 210 272) (s3 .quick-pair3 .ensures .0 ∙ ap (pairOf u 110 156) (s2 .quick-pair .ensures .0 ∙ ap (pairOf u 42 72) (s1 .pair .ensures .0)))),
-      ap (λ (p : Partial). p .sum) (c .quick-pair6 .ensures .0 ∙ ap (pairOf u 182 240) (c3 .quick-pair4 .ensures .0 ∙ ap (pairOf u 90 132) (c2 .quick-pair2 .ensures .0 ∙ ap (pairOf u 30 56) (c1 .pair2 .ensures .0)))),
-    )
+    let h = c .before .before .before .before .before .before .before .before .before .before .before .before .before .before .before .before .before .before .before .before .before .pre in
+    let s = c .before .closed .ensures 1 _ h (c .before .before .sine-step8 .ensures) in
+    let k = c .closed2 .ensures 0 _ h (c .before .before .before .cosine-step8 .ensures) in
+    λ b. (sine-end b _ _ _ h (s .sum) (s .terms), cosine-end b _ _ _ h (k .sum) (k .terms))
 
 pub both-sizes-spec : {M : Type 1} → statement M
 both-sizes-spec =
     tie.close
     (tie.spec
-    pair-requires
-    pair-requires-2
     square-of-requires
-    add-least
-    add-quick-pair
-    quick-pair-requires
-    add-quick-pair-2
-    quick-pair-requires-2
-    quick-pair-requires-3
-    quick-pair-requires-4
-    quick-pair-requires-5
-    quick-pair-requires-6
+    cosine-start-requires
+    sine-start-requires
+    cosine-step-requires
+    sine-step-requires
+    cosine-step-requires-2
+    sine-step-requires-2
+    cosine-step-requires-3
+    sine-step-requires-3
+    cosine-step-requires-4
+    sine-step-requires-4
+    cosine-step-requires-5
+    sine-step-requires-5
+    cosine-step-requires-6
+    sine-step-requires-6
+    cosine-step-requires-7
+    sine-step-requires-7
+    cosine-step-requires-8
+    sine-step-requires-8
+    closed-requires
+    closed-requires-2
     returns)

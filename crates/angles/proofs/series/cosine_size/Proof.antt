@@ -1,42 +1,66 @@
--- `angles::series::cosine_size` meets its contract: four pairs of terms.
-use mathlib.Core.Path.{_∙_, ap}
-use Prim.Native.Nat.{_-_, _^_, _≤_}
-use native.Mathlib.Omega.{arith}
+-- `angles::series::cosine_size` meets its contract: eight steps.
+use mathlib.Core.Path.{sym, subst}
+use Prim.Native.Nat.{_≤_}
+use lib.Dec.{lit≤}
 use borrow.Author.Needs.{needs}
-use Rattle.angles.specs.declared.series.Partial.{Partial}
-use Rattle.angles.specs.Sizes.{pairs, pairOf}
-use Rattle.angles.proofs.Quick.{room-quarter, fits-small}
+use Rattle.angles.specs.declared.series.Stage.{Stage}
+use Rattle.angles.specs.EndedLaws.{cosine-end}
+use Rattle.angles.proofs.Stages.{count-is}
 use Rattle.angles.proofs.series.cosine_size.Statement.{statement}
 use Rattle.angles.proofs.series.cosine_size.Tie as tie
-
-pair-requires : tie.Need-pair-requires
-pair-requires c κs = search needs
-
-pair-requires-2 : tie.Need-pair-requires-2
-pair-requires-2 c κs = search needs
-
-pair-requires-3 : tie.Need-pair-requires-3
-pair-requires-3 c κs = search needs
 
 square-of-requires : tie.Need-square-of-requires
 square-of-requires c κs = search needs
 
-add-quick-pair : tie.Need-add-quick-pair
-add-quick-pair c = search needs
+cosine-start-requires : tie.Need-cosine-start-requires
+cosine-start-requires c κs = search needs
 
-quick-pair-requires : tie.Need-quick-pair-requires
-quick-pair-requires c κs =
-    let p = c .before .pair3 in
-    let h : p .result .term ≤ 2 ^ 46 - 1 = omega arith in
-    let f = fits-small (p .result .term) 182 240 (omega arith) (omega arith) (omega arith) in
-    ((search needs, omega arith, omega arith, p .ensures .1, f .0, f .1), c .square-of .ensures, room-quarter _ _ _ (omega arith) h, omega arith)
+cosine-step-requires : tie.Need-cosine-step-requires
+cosine-step-requires c κs = (lit≤ tt, c .before .before .pre, c .before .square-of .ensures, c .cosine-start .ensures _)
+
+cosine-step-requires-2 : tie.Need-cosine-step-requires-2
+cosine-step-requires-2 c κs = (lit≤ tt, c .before .before .before .pre, c .before .before .square-of .ensures, c .cosine-step .ensures)
+
+cosine-step-requires-3 : tie.Need-cosine-step-requires-3
+cosine-step-requires-3 c κs = (lit≤ tt, c .before .before .before .before .pre, c .before .before .before .square-of .ensures, c .cosine-step2 .ensures)
+
+cosine-step-requires-4 : tie.Need-cosine-step-requires-4
+cosine-step-requires-4 c κs = (lit≤ tt, c .before .before .before .before .before .pre, c .before .before .before .before .square-of .ensures, c .cosine-step3 .ensures)
+
+cosine-step-requires-5 : tie.Need-cosine-step-requires-5
+cosine-step-requires-5 c κs = (lit≤ tt, c .before .before .before .before .before .before .pre, c .before .before .before .before .before .square-of .ensures, c .cosine-step4 .ensures)
+
+cosine-step-requires-6 : tie.Need-cosine-step-requires-6
+cosine-step-requires-6 c κs = (lit≤ tt, c .before .before .before .before .before .before .before .pre, c .before .before .before .before .before .before .square-of .ensures, c .cosine-step5 .ensures)
+
+cosine-step-requires-7 : tie.Need-cosine-step-requires-7
+cosine-step-requires-7 c κs = (lit≤ tt, c .before .before .before .before .before .before .before .before .pre, c .before .before .before .before .before .before .before .square-of .ensures, c .cosine-step6 .ensures)
+
+cosine-step-requires-8 : tie.Need-cosine-step-requires-8
+cosine-step-requires-8 c κs = (lit≤ tt, c .before .before .before .before .before .before .before .before .before .pre, c .before .before .before .before .before .before .before .before .square-of .ensures, c .cosine-step7 .ensures)
+
+closed-requires : tie.Need-closed-requires
+closed-requires c κs = subst (λ (q : Stage). q .terms ≤ 9) (sym (c .cosine-step8 .ensures)) (count-is 0 _ 8 .within)
 
 returns : tie.Need-returns
-unfolding pairs
 returns c =
-    let p = c .before .before in
-    let u = p .before .before .before .args .u in
-    (ap (λ (p : Partial). p .sum) (c .quick-pair .ensures .0 ∙ ap (pairOf u 182 240) (p .pair3 .ensures .0 ∙ ap (pairOf u 90 132) (p .before .pair2 .ensures .0 ∙ ap (pairOf u 30 56) (p .before .before .pair .ensures .0)))), omega arith)
+    let h = c .before .before .before .before .before .before .before .before .before .before .before .pre in
+    let e = c .closed .ensures 0 _ h (c .before .cosine-step8 .ensures) in
+    λ b. cosine-end b _ _ _ h (e .sum) (e .terms)
 
 pub cosine-size-spec : {M : Type 1} → statement M
-cosine-size-spec = tie.close (tie.spec pair-requires pair-requires-2 pair-requires-3 square-of-requires add-quick-pair quick-pair-requires returns)
+cosine-size-spec =
+    tie.close
+    (tie.spec
+    square-of-requires
+    cosine-start-requires
+    cosine-step-requires
+    cosine-step-requires-2
+    cosine-step-requires-3
+    cosine-step-requires-4
+    cosine-step-requires-5
+    cosine-step-requires-6
+    cosine-step-requires-7
+    cosine-step-requires-8
+    closed-requires
+    returns)

@@ -1,9 +1,8 @@
 -- `angles::series::next_term` meets its contract.
-use mathlib.Core.Path.{_≡_, _∙_, ap, subst, sym}
-use Prim.Native.Nat.{ℕ, _*_, _/_, _^_, _≤_, _<_}
+use mathlib.Core.Path.{_∙_, ap, subst, sym}
+use Prim.Native.Nat.{ℕ, _*_, _/_, _^_, _<_}
 use borrow.Author.Needs.{needs}
-use Rattle.angles.specs.Sizes.{nextOf}
-use Rattle.angles.proofs.Division.{next-fits, next-within}
+use Rattle.angles.proofs.Division.{next-fits}
 use Rattle.angles.proofs.series.next_term.Statement.{statement}
 use Rattle.angles.proofs.series.next_term.Tie as tie
 
@@ -26,9 +25,7 @@ returns c =
     let m = c .before in
     let s = m .before .before in
     let a = s .args in
-    let e : c .over .result ≡ nextOf (a .u) (a .d) (a .t) =
-    c .over .ensures ∙ ap (λ (x : ℕ). x / a .d) (m .mul-shift2 .ensures ∙ ap (λ (x : ℕ). x * a .u / 2 ^ 60) (m .before .mul-shift .ensures)) in
-    (e, subst (λ (x : ℕ). x * a .d ≤ a .t) (sym e) (next-within (a .t) (a .u) (a .d) (s .pre .0)))
+    c .over .ensures ∙ ap (λ (x : ℕ). x / a .d) (m .mul-shift2 .ensures ∙ ap (λ (x : ℕ). x * a .u / 2 ^ 60) (m .before .mul-shift .ensures))
 
 pub next-term-spec : {M : Type 1} → statement M
 next-term-spec = tie.close (tie.spec mul-shift-requires mul-shift-requires-2 over-requires returns)

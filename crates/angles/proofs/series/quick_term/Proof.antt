@@ -1,11 +1,10 @@
 -- `angles::series::quick_term` meets its contract.
-use mathlib.Core.Path.{_≡_, sym, ap, _∙_, subst}
-use Prim.Native.Nat.{ℕ, _+_, _-_, _*_, _/_, _^_, _≤_, _<_}
+use mathlib.Core.Path.{ap, _∙_, subst}
+use Prim.Native.Nat.{ℕ, _+_, _-_, _*_, _/_, _^_, _<_}
 use native.Mathlib.Omega.{arith}
 use borrow.Author.Needs.{needs}
-use Rattle.angles.specs.Sizes.{nextOf, squareOf}
-use Rattle.angles.proofs.Division.{next-within}
-use Rattle.angles.proofs.Quick.{factor-fits, term-quick, term-none}
+use Rattle.angles.specs.Sizes.{squareOf}
+use Rattle.angles.proofs.Quick.{factor-fits, term-quick}
 use Rattle.angles.proofs.series.quick_term.Statement.{statement}
 use Rattle.angles.proofs.series.quick_term.Tie as tie
 
@@ -27,10 +26,6 @@ high-product-requires-2 c κs = search needs
 low-product-requires : tie.Need-low-product-requires
 low-product-requires c κs = search needs
 
--- with the bound that every term has
-within : (t u d r : ℕ) → u < 2 ^ 60 → r ≡ nextOf u d t → (r ≡ nextOf u d t) × (r * d ≤ t)
-within t u d r h e = (e, subst (λ (x : ℕ). x * d ≤ t) (sym e) (next-within t u d h))
-
 returns : tie.Need-returns
 returns c =
     let l = c .before in
@@ -38,26 +33,14 @@ returns c =
     let h = g .before in
     let s = h .before in
     let a = s .args in
-    within (a .t) (a .u) (a .d) (g .high-product2 .result) (s .pre .0)
-    (term-quick (a .t) (a .u) (a .d) (h .high-product .result) (g .high-product2 .result) (l .low-product .result) (s .pre .1) (subst (λ (z : ℕ). z < 2 ^ 64) (s .pre .3) (omega arith))
-    (h .high-product .ensures ∙ ap (λ (z : ℕ). z * ((2 ^ 64 - 1) / a .d) / 2 ^ 64) (s .pre .3)) (g .high-product2 .ensures) (l .low-product .ensures) (s .pre .4) (c .if1 .taken))
-
-returns-2 : tie.Need-returns-2
-returns-2 c =
-    let l = c .before .before in
-    let g = l .before in
-    let h = g .before in
-    let s = h .before in
-    let a = s .args in
-    within (a .t) (a .u) (a .d) 0 (s .pre .0)
-    (term-none (a .t) (a .u) (a .d) (h .high-product .result) (g .high-product2 .result) (l .low-product .result) (s .pre .1) (subst (λ (z : ℕ). z < 2 ^ 64) (s .pre .3) (omega arith))
-    (h .high-product .ensures ∙ ap (λ (z : ℕ). z * ((2 ^ 64 - 1) / a .d) / 2 ^ 64) (s .pre .3)) (g .high-product2 .ensures) (l .low-product .ensures) (c .if2 .taken))
+    term-quick (a .t) (a .u) (a .d) (h .high-product .result) (g .high-product2 .result) (l .low-product .result) (s .pre .1) (subst (λ (z : ℕ). z < 2 ^ 64) (s .pre .3) (omega arith))
+    (h .high-product .ensures ∙ ap (λ (z : ℕ). z * ((2 ^ 64 - 1) / a .d) / 2 ^ 64) (s .pre .3)) (g .high-product2 .ensures) (l .low-product .ensures) (s .pre .4) (c .if1 .taken)
 
 next-term-requires : tie.Need-next-term-requires
 next-term-requires c κs = search needs
 
-returns-3 : tie.Need-returns-3
-returns-3 c = search needs
+returns-2 : tie.Need-returns-2
+returns-2 c = search needs
 
 pub quick-term-spec : {M : Type 1} → statement M
 quick-term-spec =
@@ -69,6 +52,5 @@ quick-term-spec =
     high-product-requires-2
     low-product-requires
     returns
-    returns-2
     next-term-requires
-    returns-3)
+    returns-2)

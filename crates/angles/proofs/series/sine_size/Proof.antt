@@ -1,42 +1,66 @@
--- `angles::series::sine_size` meets its contract: four pairs of terms.
-use mathlib.Core.Path.{_∙_, ap}
-use Prim.Native.Nat.{_-_, _^_, _≤_}
-use native.Mathlib.Omega.{arith}
+-- `angles::series::sine_size` meets its contract: eight steps.
+use mathlib.Core.Path.{sym, subst}
+use Prim.Native.Nat.{_≤_}
+use lib.Dec.{lit≤}
 use borrow.Author.Needs.{needs}
-use Rattle.angles.specs.declared.series.Partial.{Partial}
-use Rattle.angles.specs.Sizes.{pairs, pairOf}
-use Rattle.angles.proofs.Quick.{room-quarter, fits-small}
+use Rattle.angles.specs.declared.series.Stage.{Stage}
+use Rattle.angles.specs.EndedLaws.{sine-end}
+use Rattle.angles.proofs.Stages.{count-is}
 use Rattle.angles.proofs.series.sine_size.Statement.{statement}
 use Rattle.angles.proofs.series.sine_size.Tie as tie
-
-pair-requires : tie.Need-pair-requires
-pair-requires c κs = search needs
-
-pair-requires-2 : tie.Need-pair-requires-2
-pair-requires-2 c κs = search needs
-
-pair-requires-3 : tie.Need-pair-requires-3
-pair-requires-3 c κs = search needs
 
 square-of-requires : tie.Need-square-of-requires
 square-of-requires c κs = search needs
 
-add-quick-pair : tie.Need-add-quick-pair
-add-quick-pair c = search needs
+sine-start-requires : tie.Need-sine-start-requires
+sine-start-requires c κs = search needs
 
-quick-pair-requires : tie.Need-quick-pair-requires
-quick-pair-requires c κs =
-    let p = c .before .pair3 in
-    let h : p .result .term ≤ 2 ^ 46 - 1 = omega arith in
-    let f = fits-small (p .result .term) 210 272 (omega arith) (omega arith) (omega arith) in
-    ((search needs, omega arith, omega arith, p .ensures .1, f .0, f .1), c .square-of .ensures, room-quarter _ _ _ (omega arith) h, omega arith)
+sine-step-requires : tie.Need-sine-step-requires
+sine-step-requires c κs = (lit≤ tt, c .before .before .pre, c .before .square-of .ensures, c .sine-start .ensures)
+
+sine-step-requires-2 : tie.Need-sine-step-requires-2
+sine-step-requires-2 c κs = (lit≤ tt, c .before .before .before .pre, c .before .before .square-of .ensures, c .sine-step .ensures)
+
+sine-step-requires-3 : tie.Need-sine-step-requires-3
+sine-step-requires-3 c κs = (lit≤ tt, c .before .before .before .before .pre, c .before .before .before .square-of .ensures, c .sine-step2 .ensures)
+
+sine-step-requires-4 : tie.Need-sine-step-requires-4
+sine-step-requires-4 c κs = (lit≤ tt, c .before .before .before .before .before .pre, c .before .before .before .before .square-of .ensures, c .sine-step3 .ensures)
+
+sine-step-requires-5 : tie.Need-sine-step-requires-5
+sine-step-requires-5 c κs = (lit≤ tt, c .before .before .before .before .before .before .pre, c .before .before .before .before .before .square-of .ensures, c .sine-step4 .ensures)
+
+sine-step-requires-6 : tie.Need-sine-step-requires-6
+sine-step-requires-6 c κs = (lit≤ tt, c .before .before .before .before .before .before .before .pre, c .before .before .before .before .before .before .square-of .ensures, c .sine-step5 .ensures)
+
+sine-step-requires-7 : tie.Need-sine-step-requires-7
+sine-step-requires-7 c κs = (lit≤ tt, c .before .before .before .before .before .before .before .before .pre, c .before .before .before .before .before .before .before .square-of .ensures, c .sine-step6 .ensures)
+
+sine-step-requires-8 : tie.Need-sine-step-requires-8
+sine-step-requires-8 c κs = (lit≤ tt, c .before .before .before .before .before .before .before .before .before .pre, c .before .before .before .before .before .before .before .before .square-of .ensures, c .sine-step7 .ensures)
+
+closed-requires : tie.Need-closed-requires
+closed-requires c κs = subst (λ (q : Stage). q .terms ≤ 9) (sym (c .sine-step8 .ensures)) (count-is 1 _ 8 .within)
 
 returns : tie.Need-returns
-unfolding pairs
 returns c =
-    let p = c .before .before in
-    let u = p .before .before .before .args .u in
-    (ap (λ (p : Partial). p .sum) (c .quick-pair .ensures .0 ∙ ap (pairOf u 210 272) (p .pair3 .ensures .0 ∙ ap (pairOf u 110 156) (p .before .pair2 .ensures .0 ∙ ap (pairOf u 42 72) (p .before .before .pair .ensures .0)))), omega arith)
+    let h = c .before .before .before .before .before .before .before .before .before .before .before .pre in
+    let e = c .closed .ensures 1 _ h (c .before .sine-step8 .ensures) in
+    λ b. sine-end b _ _ _ h (e .sum) (e .terms)
 
 pub sine-size-spec : {M : Type 1} → statement M
-sine-size-spec = tie.close (tie.spec pair-requires pair-requires-2 pair-requires-3 square-of-requires add-quick-pair quick-pair-requires returns)
+sine-size-spec =
+    tie.close
+    (tie.spec
+    square-of-requires
+    sine-start-requires
+    sine-step-requires
+    sine-step-requires-2
+    sine-step-requires-3
+    sine-step-requires-4
+    sine-step-requires-5
+    sine-step-requires-6
+    sine-step-requires-7
+    sine-step-requires-8
+    closed-requires
+    returns)

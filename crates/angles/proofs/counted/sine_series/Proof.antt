@@ -1,0 +1,54 @@
+-- `angles::counted::sine_series` meets its contract, region by region.
+use mathlib.Core.Path.{sym, ap, _∙_}
+use borrow.Author.Needs.{needs}
+use Rattle.angles.specs.declared.Zone.the-variants as Zone
+use Rattle.angles.specs.Ended.{seriesBy}
+use Rattle.angles.proofs.Answered.{sine-series-by, sine-ends}
+use Rattle.angles.proofs.counted.sine_series.Statement.{statement}
+use Rattle.angles.proofs.counted.sine_series.Tie as tie
+
+region-requires : tie.Need-region-requires
+region-requires c κs = search needs
+
+enum-told : tie.Need-enum-told
+enum-told c = search needs
+
+enum-told-2 : tie.Need-enum-told-2
+enum-told-2 c = search needs
+
+enum-told-3 : tie.Need-enum-told-3
+enum-told-3 c = search needs
+
+reduced-requires : tie.Need-reduced-requires
+reduced-requires c κs = sym (c .before .before .region .ensures) ∙ c .enum-told3 .given .1
+
+sine-size-requires : tie.Need-sine-size-requires
+sine-size-requires c κs = search needs
+
+returns : tie.Need-returns
+returns c = sine-series-by _ (c .before .before .region .ensures) (c .enum-told .given .1)
+
+returns-2 : tie.Need-returns-2
+returns-2 c = sine-series-by _ (c .before .before .region .ensures) (c .enum-told2 .given .1)
+
+returns-3 : tie.Need-returns-3
+returns-3 c =
+    let d = c .before in
+    let a = d .before in
+    let z = a .before .before in
+    let t = d .reduced .ensures in
+    ap (seriesBy Zone.Inside) (sine-ends t (c .sine-size .ensures)) ∙ sine-series-by _ (z .region .ensures) (a .enum-told3 .given .1)
+
+pub sine-series-spec : {M : Type 1} → statement M
+sine-series-spec =
+    tie.close
+    (tie.spec
+    region-requires
+    enum-told
+    enum-told-2
+    enum-told-3
+    reduced-requires
+    sine-size-requires
+    returns
+    returns-2
+    returns-3)
