@@ -1,7 +1,7 @@
-//! Makes the crate's root from the published files, which stay as they are: geom.rs and actuators.rs are named by their path, scvx.rs is copied
-//! with one line added that lets a module of ours see its private functions, and lib.rs gives the lines that `PARTS` lists. A second copy of scvx.rs, the
-//! module `counted`, has the lines of `COUNTED` added, which count and compute nothing. With the feature `faults` every file is a copy in which each fault of
-//! mutations.rs has a switch; the ordinary comparison is built without it.
+//! Makes the crate's root from the published files, which stay as they are: geom.rs is named by its path, actuators.rs is copied with its one gyroscopic line
+//! (`GYROSCOPIC`) under a test of law.rs, scvx.rs is copied with one line added that lets a module of ours see its private functions, and lib.rs gives the
+//! lines that `PARTS` lists. A second copy of scvx.rs, the module `counted`, has the lines of `COUNTED` added, which count and compute nothing. With the feature
+//! `faults` every file is a copy in which each fault of mutations.rs has a switch; the ordinary comparison is built without it.
 use mutations::FAULTS;
 use std::cmp::Reverse;
 use std::path::{Path, PathBuf};
@@ -42,6 +42,9 @@ const COUNTED: [(&str, &str); 17] = [
     ("    Ok(r)\n", "crate::tally::phase(crate::tally::OTHER);"),
 ];
 
+/// The line of actuators.rs that subtracts the cross product of body rate and stored momentum: run under the published law alone.
+const GYROSCOPIC: &str = "            tau = add3(tau, scale3(cross(omega, h), -1.0));\n";
+
 /// A part of a published text and what is written there: a line before it, or a fault's switch about it.
 struct Edit {
     start: usize,
@@ -62,6 +65,13 @@ fn counting(published: &str) -> Vec<Edit> {
         Edit { start, end: start, fault: None, text }
     };
     COUNTED.iter().map(edit).collect()
+}
+
+/// The test about the gyroscopic line.
+fn by_law(published: &str) -> Vec<Edit> {
+    let start = place("actuators.rs", published, GYROSCOPIC);
+    let line = |at, text| Edit { start: at, end: at, fault: None, text };
+    vec![line(start, "if crate::law::published() {"), line(start + GYROSCOPIC.len(), "}")]
 }
 
 /// The switches of a file's faults; none without the feature.
@@ -129,13 +139,14 @@ fn main() {
         if faulty { copy(file, edited(&published, switches(file, &published))) } else { vendor.join(file) }
     };
 
+    let torques = read("actuators.rs");
     let published = read("scvx.rs");
     let door = format!("\n#[path = \"{}\"]\npub mod probe;\n", named(&here.join("src/probe_scvx.rs")));
     let search = |counts: Vec<Edit>| edited(&published, switches("scvx.rs", &published).into_iter().chain(counts).collect()) + &door;
     let mut root = String::new();
     let modules = [
         ("geom", plain("geom.rs")),
-        ("actuators", plain("actuators.rs")),
+        ("actuators", copy("actuators.rs", edited(&torques, switches("actuators.rs", &torques).into_iter().chain(by_law(&torques)).collect()))),
         ("scvx", copy("scvx.rs", search(Vec::new()))),
         ("counted", copy("counted.rs", search(counting(&published)))),
     ];

@@ -20,6 +20,8 @@ use Rattle.controls.specs.Stored.{stored}
 use Rattle.controls.specs.Parts as Parts
 use Rattle.controls.specs.Limits as Limits
 use Rattle.controls.specs.declared.Rig.{Rig}
+use Rattle.controls.specs.declared.WheelLaw.{WheelLaw}
+use Rattle.controls.specs.declared.WheelLaw.the-variants.{Once}
 use Rattle.controls.specs.declared.Torque.{Torque}
 
 -- The wheels that a list of n numbers reaches: a list may be shorter than the wheels, and what it lacks is not looked at. Of a count beyond the tables none is
@@ -48,9 +50,13 @@ momentumExcess m hw = Limits.momentumExcess (m .«wheel_momenta») (paired (m .�
 unfoldable pub powerExcess : ActuatorMap → List Float → List Float → Float
 powerExcess m u w = Limits.powerExcess (m .«wheel_axes») (m .«wheel_powers») (paired (m .«wheel_count») (length u)) u w
 
--- which actuators a map has
+-- which actuators a map has, under a law of the wheels' torque
+abbrev pub rigUnder : WheelLaw → ActuatorMap → Rig
+rigUnder law m = record { «wheel_count» = m .«wheel_count»; «thruster_count» = m .«thruster_count»; cmgs = m .cmgs; law = law }
+
+-- the same under the law that every operation but the comparison has
 abbrev pub rigOf : ActuatorMap → Rig
-rigOf m = record { «wheel_count» = m .«wheel_count»; «thruster_count» = m .«thruster_count»; cmgs = m .cmgs }
+rigOf m = rigUnder Once m
 
 -- the counts are within the tables, and n numbers are as wide as a row with g gimbal rates
 unfoldable pub rowFits : Rig → ℕ → ℕ → Bool

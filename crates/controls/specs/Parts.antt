@@ -14,6 +14,8 @@ use Rattle.actuators.specs.declared.Cmgs.{Cmgs}
 use Rattle.actuators.specs.declared.Cmgs.the-variants.{Without, With}
 use Rattle.controls.specs.Stored.{stored}
 use Rattle.controls.specs.declared.Rig.{Rig}
+use Rattle.controls.specs.declared.WheelLaw.{WheelLaw}
+use Rattle.controls.specs.declared.WheelLaw.the-variants.{Once, Published}
 
 -- axis k of a flat table, scaled by number k of u, is added to e
 abbrev pub axisTurn : List Float → List Float → ℕ → List Float → List Float
@@ -23,11 +25,15 @@ axisTurn t u k e = add3 e (scale3 (axisAt t k) (at u k))
 abbrev pub axes : List Float → List Float → List Float → ℕ → List Float
 axes t u e n = iter (axisTurn t u) e n
 
--- The wheel part u: tau less the sum of the axes, less ω × h; no wheels leave tau as it is. `eulerLhs` has ω × h too, so a step subtracts it twice:
--- the Rust does so, and it decides.
-unfoldable pub wheelPart : List Float → ℕ → List Float → List Float → List Float → List Float → List Float
-wheelPart t n u w h tau =
-    cond (eqb n 0) tau (add3 (add3 tau (scale3 (axes t u zero3 n) minusOne)) (scale3 (cross w h) minusOne))
+-- What a law makes of the torque e, from which the wheels' sum is taken. ω × h stands once, in Euler's equations (`eulerLhs`); the published law, which
+-- only the comparison with the unaltered Rust reads, takes it from the torque too, so that a step subtracts it twice.
+abbrev pub wheelBy : WheelLaw → List Float → List Float → List Float → List Float
+wheelBy Once e w h = e
+wheelBy Published e w h = add3 e (scale3 (cross w h) minusOne)
+
+-- the wheel part u: tau less the sum of the axes, by the law; no wheels leave tau as it is
+unfoldable pub wheelPart : WheelLaw → List Float → ℕ → List Float → List Float → List Float → List Float → List Float
+wheelPart law t n u w h tau = cond (eqb n 0) tau (wheelBy law (add3 tau (scale3 (axes t u zero3 n) minusOne)) w h)
 
 -- the gimbal rates u: tau less the momentum of a pyramid's wheels times its matrix a (by rows of four) times the rates
 abbrev pub pyramidPart : Float → List Float → List Float → List Float → List Float
@@ -64,7 +70,7 @@ unfoldable pub partsTorque : Rig → List Float → List Float → List Float �
 partsTorque r wheels thrusters u w h a =
     gimbalPart (r .cmgs) a (slice (r .«wheel_count» + r .«thruster_count») (length u) u)
     (axes thrusters (slice (r .«wheel_count») (r .«wheel_count» + r .«thruster_count») u)
-    (wheelPart wheels (r .«wheel_count») (slice 0 (r .«wheel_count») u) w h zero3)
+    (wheelPart (r .law) wheels (r .«wheel_count») (slice 0 (r .«wheel_count») u) w h zero3)
     (r .«thruster_count»))
 
 -- the torque of the row u; with no actuators it is the first three numbers

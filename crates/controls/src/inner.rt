@@ -9,6 +9,7 @@ ghost use Rattle.controls.specs.Parts as Parts;
 ghost use Rattle.controls.specs.Limits as Limits;
 ghost use Rattle.controls.specs.Stored as Stored;
 use crate::Rig;
+use crate::WheelLaw;
 use actuators::Cmgs;
 use actuators::Power;
 use common::Limit;
@@ -34,8 +35,19 @@ pub fn axis_sum(axes: &[f64], n: usize, u: &[f64], start: [f64; 3]) -> [f64; 3]
     e
 }
 
-// The wheel part of a row, taken from `tau`: the negated sum, less the cross product of the rate and the stored momentum.
+// The torque `less`, from which the wheels' sum is taken, under a law: the published one takes the cross product of the rate and the stored momentum too.
+fn wheel_by(law: WheelLaw, less: [f64; 3], omega: [f64; 3], h: [f64; 3]) -> [f64; 3]
+    ensures { λ r. ⌜ r ≡ Parts.wheelBy law less omega h ⌝ }
+{
+    match law {
+        WheelLaw::Once => less,
+        WheelLaw::Published => geom::add3(less, geom::scale3(geom::cross(omega, h), -1.0)),
+    }
+}
+
+// The wheel part of a row, taken from `tau`: the negated sum of the axes, each scaled by its control, and what the law has besides.
 pub fn wheel_part(
+    law: WheelLaw,
     axes: &[f64; 24],
     n: usize,
     u: &[f64],
@@ -44,14 +56,13 @@ pub fn wheel_part(
     tau: [f64; 3],
 ) -> [f64; 3]
     requires { ⌜ (n ≤ 8) × (n ≤ length (now u)) ⌝ }
-    ensures { λ r. ⌜ r ≡ Parts.wheelPart (now (axes .entry)) n (now (u .entry)) omega h tau ⌝ }
+    ensures { λ r. ⌜ r ≡ Parts.wheelPart law (now (axes .entry)) n (now (u .entry)) omega h tau ⌝ }
 {
     if n == 0 {
         return tau;
     }
     let eta = axis_sum(axes, n, u, [0.0; 3]);
-    let less = geom::add3(tau, geom::scale3(eta, -1.0));
-    geom::add3(less, geom::scale3(geom::cross(omega, h), -1.0))
+    wheel_by(law, geom::add3(tau, geom::scale3(eta, -1.0)), omega, h)
 }
 
 // The torque of a pyramid's gimbal rates, taken from `tau`: its wheels' momentum times its matrix, three rows of four, times the rates.
@@ -116,7 +127,8 @@ fn parts_torque(
     let nt = r.thruster_count;
     let b = nw + nt;
     let e = u.len();
-    let wheel = wheel_part(wheels, nw, &u[0..nw], omega, h, [0.0; 3]);
+    let law = r.law;
+    let wheel = wheel_part(law, wheels, nw, &u[0..nw], omega, h, [0.0; 3]);
     let thrust = axis_sum(thrusters, nt, &u[nw..b], wheel);
     let cmgs = r.cmgs;
     gimbal_part(cmgs, a, &u[b..e], thrust)

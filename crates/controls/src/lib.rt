@@ -11,11 +11,19 @@ use actuators::Cmgs;
 use actuators::Jacobian;
 use common::Fate;
 
-// Which actuators there are: counts of wheels and thrusters, and the pyramid.
+// How the wheels' stored momentum enters a step: its cross product with the rate stands once, in Euler's equations; or, as in the published Rust, in the
+// wheels' torque too.
+pub enum WheelLaw {
+    Once,
+    Published,
+}
+
+// Which actuators there are, counts of wheels and thrusters and the pyramid, and the law of the wheels' torque.
 pub struct Rig {
     pub wheel_count: usize,
     pub thruster_count: usize,
     pub cmgs: Cmgs,
+    pub law: WheelLaw,
 }
 
 // The torque of a row, or the refusal of the pyramid's matrix and zeros.
@@ -76,16 +84,24 @@ pub fn power_excess(map: ActuatorMap, u: &[f64], omega: [f64; 3]) -> f64
     inner::power_excess(&axes, powers, n, u, omega)
 }
 
-// Which actuators a map has.
-pub fn rig_of(map: ActuatorMap) -> Rig
-    ensures { λ r. ⌜ r ≡ Operations.rigOf map ⌝ }
+// Which actuators a map has, under a law of their torque.
+pub fn rig_under(law: WheelLaw, map: ActuatorMap) -> Rig
+    ensures { λ r. ⌜ r ≡ Operations.rigUnder law map ⌝ }
 {
     let cmgs = map.cmgs;
     Rig {
         wheel_count: map.wheel_count,
         thruster_count: map.thruster_count,
         cmgs: cmgs,
+        law: law,
     }
+}
+
+// Which actuators a map has.
+pub fn rig_of(map: ActuatorMap) -> Rig
+    ensures { λ r. ⌜ r ≡ Operations.rigOf map ⌝ }
+{
+    rig_under(WheelLaw::Once, map)
 }
 
 // The counts are within the tables, and n numbers are as wide as a row with so many gimbal rates.

@@ -13,12 +13,14 @@ use Rattle.common.specs.Answer.{Answer, Given, Refused}
 use Rattle.common.specs.declared.Fate.{Fate}
 use Rattle.common.specs.declared.Fate.the-variants as Fate
 use Rattle.actuators.specs.Maps.{isSized, controlDim}
+use Rattle.controls.specs.declared.WheelLaw.{WheelLaw}
+use Rattle.controls.specs.declared.WheelLaw.the-variants.{Once}
 use Rattle.problem.specs.Problems as Problems
 use Rattle.problem.specs.Passed.{passed-sized}
 use Rattle.problem.specs.declared.Problem.{Problem}
 use Rattle.problem.specs.declared.Checked.{Checked}
 use Rattle.problem.specs.declared.CheckedProblem.{CheckedProblem}
-use Rattle.forward.specs.Runs.{runOf, refusedRun}
+use Rattle.forward.specs.Runs.{runUnder, refusedRun}
 use Rattle.forward.specs.StepLaws.{refused-going}
 use Rattle.forward.specs.declared.Run.{Run}
 use Rattle.forward.specs.declared.Reconstructed.{Reconstructed}
@@ -39,12 +41,15 @@ module _ (p : Problem) {c : Checked} {n : ℕ} (e : c ≡ Problems.check p) (q :
   admit-narrow t = rw (← e, ← q, is-false (ltb 12 n) (le→nltb 12 n t)) refl
 
 -- a check that refuses begins no run; else one has begun
-abbrev pub reconstructBy : Fate → CheckedProblem → List Float → Reconstructed
-reconstructBy (Fate.Refused n place) p z = record { runs = 0; run = refusedRun n place }
-reconstructBy Fate.Going p z = record { runs = 1; run = runOf p z }
+abbrev pub reconstructBy : Fate → WheelLaw → CheckedProblem → List Float → Reconstructed
+reconstructBy (Fate.Refused n place) law p z = record { runs = 0; run = refusedRun n place }
+reconstructBy Fate.Going law p z = record { runs = 1; run = runUnder law p z }
 
-unfoldable pub reconstruct : Problem → List Float → Reconstructed
-reconstruct p z = reconstructBy (admit p .fate) (admit p .problem) z
+unfoldable pub reconstructUnder : WheelLaw → Problem → List Float → Reconstructed
+reconstructUnder law p z = reconstructBy (admit p .fate) law (admit p .problem) z
+
+abbrev pub reconstruct : Problem → List Float → Reconstructed
+reconstruct p z = reconstructUnder Once p z
 
 -- document 01's answer: number, place and runs
 abbrev answerBy : Fate → ℕ → Run → Answer Run

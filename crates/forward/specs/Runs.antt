@@ -12,7 +12,9 @@ use Rattle.geom.specs.Vec as Vec
 use Rattle.geom.specs.declared.Quat.{Quat}
 use Rattle.actuators.specs.Maps.{controlDim}
 use Rattle.controls.specs.Parts.{bodyMomentum}
-use Rattle.controls.specs.Operations.{rigOf}
+use Rattle.controls.specs.Operations.{rigUnder}
+use Rattle.controls.specs.declared.WheelLaw.{WheelLaw}
+use Rattle.controls.specs.declared.WheelLaw.the-variants.{Once}
 use Rattle.problem.specs.declared.CheckedProblem.{CheckedProblem}
 use Rattle.forward.specs.Decisions.{rowOf, stepTime}
 use Rattle.forward.specs.Steps.{Body, bodyWith, step}
@@ -85,13 +87,20 @@ runFrom b n z s = endOf b (course b n z s)
 abbrev pub frameOf : CheckedProblem → Float → Frame
 frameOf p dt = record { j = p .inertia; jinv = p .inverse; tolerance = p .«norm_tolerance»; dt = dt }
 
-abbrev pub bodyOf : CheckedProblem → Float → Body
-bodyOf p dt = bodyWith (rigOf (p .map)) (p .map .«wheel_axes») (p .map .«wheel_powers») (p .map .«thruster_axes») (frameOf p dt)
+abbrev pub bodyUnder : WheelLaw → CheckedProblem → Float → Body
+bodyUnder law p dt = bodyWith (rigUnder law (p .map)) (p .map .«wheel_axes») (p .map .«wheel_powers») (p .map .«thruster_axes») (frameOf p dt)
 
 -- the start of every run of a problem: its wheels at +0
 abbrev pub startOf : CheckedProblem → State
 startOf p = start (p .map .«wheel_axes») (p .map .«wheel_count») (p .q0) (replicate 8 Vec.plusZero)
 
--- one forward run: the problem and a decision, its duration as it stands, and nothing else
-unfoldable pub runOf : CheckedProblem → List Float → Run
-runOf p z = runFrom (bodyOf p (stepTime z)) (controlDim (p .map)) z (startOf p)
+-- one forward run under a law of the wheels' torque: the problem and a decision, its duration as it stands, and nothing else
+unfoldable pub runUnder : WheelLaw → CheckedProblem → List Float → Run
+runUnder law p z = runFrom (bodyUnder law p (stepTime z)) (controlDim (p .map)) z (startOf p)
+
+-- one forward run, as the planner makes it
+abbrev pub bodyOf : CheckedProblem → Float → Body
+bodyOf p dt = bodyUnder Once p dt
+
+abbrev pub runOf : CheckedProblem → List Float → Run
+runOf p z = runUnder Once p z

@@ -29,7 +29,7 @@ use Rattle.forward.specs.declared.State.{State}
 use Rattle.forward.specs.declared.Swung.{Swung}
 use Rattle.forward.specs.declared.Stepped.{Stepped}
 
--- What no step of a run changes: the actuators' counts, pyramid and tables, the inertia and its inverse, the norm tolerance, the time of a step.
+-- What no step of a run changes: the actuators' counts, pyramid, tables and the law of the wheels' torque, the inertia and its inverse, the norm tolerance, the time of a step.
 pub record Body : Type 0 where
   pub rig : Rig
   pub wheels : List Float

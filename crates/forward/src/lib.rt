@@ -4,6 +4,7 @@
 ghost use mathlib.Core.Path.{_≡_};
 ghost use Rattle.forward.specs.Operations as Operations;
 use common::Fate;
+use controls::WheelLaw;
 use geom::Quat;
 use problem::Checked;
 use problem::Problem;
@@ -117,6 +118,13 @@ pub fn admit(p: Problem) -> Checked
 pub fn reconstruct(p: Problem, z: [f64; 193]) -> Reconstructed
     ensures { λ r. ⌜ r ≡ Operations.reconstruct p z ⌝ }
 {
+    reconstruct_under(WheelLaw::Once, p, z)
+}
+
+// The same under a law of the wheels' torque: the comparison with the unaltered Rust asks for the published one.
+pub fn reconstruct_under(law: WheelLaw, p: Problem, z: [f64; 193]) -> Reconstructed
+    ensures { λ r. ⌜ r ≡ Operations.reconstructUnder law p z ⌝ }
+{
     let checked = admit(p);
     let fate = checked.fate;
     match fate {
@@ -128,7 +136,7 @@ pub fn reconstruct(p: Problem, z: [f64; 193]) -> Reconstructed
             let problem = checked.problem;
             Reconstructed {
                 runs: 1,
-                run: runs::run_of(problem, z),
+                run: runs::run_under(law, problem, z),
             }
         }
     }

@@ -38,8 +38,9 @@ use angles::Both;
 use angles::sin_cos;
 use common::Fate;
 use controls::Rig;
+use controls::WheelLaw;
 use controls::inner::body_momentum;
-use controls::rig_of;
+use controls::rig_under;
 use geom::Quat;
 use problem::CheckedProblem;
 
@@ -279,9 +280,17 @@ pub fn run_of(p: CheckedProblem, z: [f64; 193]) -> Run
     requires { ⌜ (isSized (p .map) ≡ true) × (controlDim (p .map) ≤ 12) ⌝ }
     ensures { λ r. ⌜ r ≡ Runs.runOf p z ⌝ }
 {
+    run_under(WheelLaw::Once, p, z)
+}
+
+// The same under a law of the wheels' torque.
+pub fn run_under(law: WheelLaw, p: CheckedProblem, z: [f64; 193]) -> Run
+    requires { ⌜ (isSized (p .map) ≡ true) × (controlDim (p .map) ≤ 12) ⌝ }
+    ensures { λ r. ⌜ r ≡ Runs.runUnder law p z ⌝ }
+{
     let map = p.map;
     let n = control_dim(map);
-    let rig = rig_of(map);
+    let rig = rig_under(law, map);
     let wheels = map.wheel_axes;
     let powers = map.wheel_powers;
     let thrusters = map.thruster_axes;

@@ -19,10 +19,11 @@ use Rattle.problem.specs.Problems.{check, refused}
 use Rattle.problem.specs.declared.Problem.{Problem}
 use Rattle.problem.specs.declared.CheckedProblem.{CheckedProblem}
 use Rattle.forward.specs.Decisions.{rowOf, sixteen, stepTime}
-use Rattle.forward.specs.Runs.{startOf, nodeOf, noNode, runFrom, bodyOf, runOf}
+use Rattle.forward.specs.Runs.{startOf, nodeOf, noNode, runFrom, bodyOf, runUnder, runOf}
 use Rattle.controls.specs.Operations.{rigOf}
+use Rattle.controls.specs.declared.WheelLaw.the-variants.{Once}
 use Rattle.forward.specs.Steps.{Body}
-use Rattle.forward.specs.Operations.{admit, reconstructBy, reconstruct}
+use Rattle.forward.specs.Operations.{admit, reconstructBy, reconstructUnder, reconstruct}
 use Rattle.forward.specs.declared.Node.{Node}
 use Rattle.forward.specs.declared.Run.{Run}
 use Rattle.run_laws.specs.Values.{goes, Fine3}
@@ -71,7 +72,7 @@ at-row c z k i h = at-slice (1 + k * c) (1 + k * c + c) z i (under (1 + k * c) c
 
 -- A RUN of a problem that passed the checks
 pub run-path : (p : CheckedProblem) (z : List Float) → Ready p → ((i : ℕ) → T (fits binary64 (at z i))) → T (goes (runOf p z .fate)) → Path p z (runOf p z)
-unfolding runOf
+unfolding runUnder
 run-path p z R F t = record {
   duration = div-finite binary64 (at z 0) sixteen (W .time);
   controls = λ k h i l. rw (← at-row (controlDim (p .map)) z k i l) (W .rows k h i (dim-width (p .map) i l));
@@ -103,14 +104,14 @@ admit-is p t = by (ltb 12 (controlDim (check p .problem .map))) t
 
 -- RERUN: `reconstruct` on a problem that is admitted is one forward run of it, and nothing else, so that a decision run again gives the same nodes
 pub rerun : (p : Problem) (z : List Float) → admit p .fate ≡ Going → reconstruct p z ≡ record { runs = 1; run = runOf (admit p .problem) z }
-unfolding reconstruct
-rerun p z h = ap (λ (e : Fate). reconstructBy e (admit p .problem) z) h
+unfolding reconstructUnder
+rerun p z h = ap (λ (e : Fate). reconstructBy e Once (admit p .problem) z) h
 
 -- RECONSTRUCT, as a user calls it: where it gives nodes, they are a path's
 pub reconstruct-path : (p : Problem) (z : List Float) → FitsP p → ((i : ℕ) → T (fits binary64 (at z i))) → T (goes (reconstruct p z .run .fate)) → Path (check p .problem) z (reconstruct p z .run)
-unfolding reconstruct
+unfolding reconstructUnder
 reconstruct-path p z F G t = go (admit p .fate) refl t
   where
-    go : (e : Fate) → admit p .fate ≡ e → T (goes (reconstructBy e (admit p .problem) z .run .fate)) → Path (check p .problem) z (reconstructBy e (admit p .problem) z .run)
+    go : (e : Fate) → admit p .fate ≡ e → T (goes (reconstructBy e Once (admit p .problem) z .run .fate)) → Path (check p .problem) z (reconstructBy e Once (admit p .problem) z .run)
     go Going h t = let s : admit p ≡ check p = admit-is p (rw h tt) in rw s (run-path (check p .problem) z (check-ready p F (rw (← s, h) tt)) G (rw s at t))
     go (Refused i j) h t = absurd t

@@ -14,14 +14,16 @@ use Rattle.common.specs.Iter.{iter}
 use Rattle.common.specs.Lists.{at, slice}
 use Rattle.laws.specs.Below.{below-none, below-next, below-three, below-four}
 use Rattle.laws.specs.Finite.{finites, add-finite, mul-finite}
-use Rattle.geom.specs.Vec.{add3, scale3, cross, zero3, minusOne}
+use Rattle.geom.specs.Vec.{add3, scale3, zero3, minusOne}
 use Rattle.actuators.specs.Maps.{axisAt, gimbals, noCmgs}
 use Rattle.actuators.specs.declared.Cmgs.{Cmgs}
 use Rattle.actuators.specs.declared.Cmgs.the-variants.{Without, With}
 use Rattle.controls.specs.Stored.{stored}
 use Rattle.controls.specs.StoredLaws.{stored-length}
-use Rattle.controls.specs.Parts.{axes, wheelPart, pyramidPart, gimbalPart, bare, width, partsTorque, rowTorque, charged, momentaNext}
+use Rattle.controls.specs.Parts.{axes, wheelBy, wheelPart, pyramidPart, gimbalPart, bare, width, partsTorque, rowTorque, charged, momentaNext}
 use Rattle.controls.specs.declared.Rig.{Rig}
+use Rattle.controls.specs.declared.WheelLaw.{WheelLaw}
+use Rattle.controls.specs.declared.WheelLaw.the-variants.{Once, Published}
 use Rattle.run_laws.specs.Values.{Fine3, Fit3, FineN, FitN}
 
 -- ---- numbers of a part of a row
@@ -54,22 +56,34 @@ module _ (t u e : List Float) where
   axes-fits (suc n) f = (add-fits binary64 _ _, add-fits binary64 _ _, add-fits binary64 _ _)
 
 -- ---- the parts
-module _ (t : List Float) (n : ℕ) (u w h tau : List Float) where
-  wheel-back : Fine3 (wheelPart t n u w h tau) → FineN n u
+-- whatever law the wheels have
+by-back : (law : WheelLaw) (e w h : List Float) → Fine3 (wheelBy law e w h) → Fine3 e
+by-back Once e w h f = f
+by-back Published e w h f = (add-finite binary64 _ _ (f .0) .0, add-finite binary64 _ _ (f .1) .0, add-finite binary64 _ _ (f .2) .0)
+
+by-fits : (law : WheelLaw) (e w h : List Float) → Fit3 e → Fit3 (wheelBy law e w h)
+by-fits Once e w h f = f
+by-fits Published e w h f = (add-fits binary64 _ _, add-fits binary64 _ _, add-fits binary64 _ _)
+
+module _ (law : WheelLaw) (t : List Float) (n : ℕ) (u w h tau : List Float) where
+  abbrev less : List Float
+  less = add3 tau (scale3 (axes t u zero3 n) minusOne)
+
+  wheel-back : Fine3 (wheelPart law t n u w h tau) → FineN n u
   unfolding wheelPart
   wheel-back f = go (eqb n 0) (eqb→eq n 0) f
     where
-      go : (c : Bool) → (T c → n ≡ 0) → Fine3 (cond c tau (add3 (add3 tau (scale3 (axes t u zero3 n) minusOne)) (scale3 (cross w h) minusOne))) → FineN n u
+      go : (c : Bool) → (T c → n ≡ 0) → Fine3 (cond c tau (wheelBy law less w h)) → FineN n u
       go true z f = rw (z tt) (below-none (λ i. T (finite (at u i))))
-      go false z f = axes-back t u zero3 n (mul-finite binary64 _ _ (add-finite binary64 _ _ (add-finite binary64 _ _ (f .0) .0) .1) .0)
+      go false z f = axes-back t u zero3 n (mul-finite binary64 _ _ (add-finite binary64 _ _ (by-back law less w h f .0) .1) .0)
 
-  wheel-fits : Fit3 tau → Fit3 (wheelPart t n u w h tau)
+  wheel-fits : Fit3 tau → Fit3 (wheelPart law t n u w h tau)
   unfolding wheelPart
   wheel-fits f = go (eqb n 0)
     where
-      go : (c : Bool) → Fit3 (cond c tau (add3 (add3 tau (scale3 (axes t u zero3 n) minusOne)) (scale3 (cross w h) minusOne)))
+      go : (c : Bool) → Fit3 (cond c tau (wheelBy law less w h))
       go true = f
-      go false = (add-fits binary64 _ _, add-fits binary64 _ _, add-fits binary64 _ _)
+      go false = by-fits law less w h (add-fits binary64 _ _, add-fits binary64 _ _, add-fits binary64 _ _)
 
 pyramid-back : (momentum : Float) (a u tau : List Float) → Fine3 (pyramidPart momentum a u tau) → Fine3 tau × (T (finite (at u 0)) × T (finite (at u 1)) × T (finite (at u 2)) × T (finite (at u 3)))
 pyramid-back momentum a u tau f = search finites depth 8
@@ -99,7 +113,7 @@ module _ (r : Rig) (wheels thrusters u w h a : List Float) where
   part3 = slice (nw + nt) (length u) u
 
   abbrev afterWheels : List Float
-  afterWheels = wheelPart wheels nw (slice 0 nw u) w h zero3
+  afterWheels = wheelPart (r .law) wheels nw (slice 0 nw u) w h zero3
 
   abbrev afterThrusters : List Float
   afterThrusters = axes thrusters part2 afterWheels nt
@@ -117,7 +131,7 @@ module _ (r : Rig) (wheels thrusters u w h a : List Float) where
       go : (b c : Bool) → (T b → i < nw) → (T (not b) → nw ≤ i) → (T c → i < nw + nt) → (T (not c) → nw + nt ≤ i) → T (finite (at u i))
       go true c p q r' s =
           let o : i < nw = p tt in
-          from (slice 0 nw u) 0 i (at-slice 0 nw u i (omega arith)) (omega arith) (wheel-back wheels nw (slice 0 nw u) w h zero3 (axes-start thrusters part2 afterWheels nt (g .0)) i o)
+          from (slice 0 nw u) 0 i (at-slice 0 nw u i (omega arith)) (omega arith) (wheel-back (r .law) wheels nw (slice 0 nw u) w h zero3 (axes-start thrusters part2 afterWheels nt (g .0)) i o)
       go false true p q r' s =
           let o : nw ≤ i = q tt in
           let k : i < nw + nt = r' tt in
@@ -128,7 +142,7 @@ module _ (r : Rig) (wheels thrusters u w h a : List Float) where
 
   parts-fits : Fit3 (partsTorque r wheels thrusters u w h a)
   unfolding partsTorque
-  parts-fits = gimbal-fits (r .cmgs) a part3 afterThrusters (axes-fits thrusters part2 afterWheels nt (wheel-fits wheels nw (slice 0 nw u) w h zero3 zero3-fits))
+  parts-fits = gimbal-fits (r .cmgs) a part3 afterThrusters (axes-fits thrusters part2 afterWheels nt (wheel-fits (r .law) wheels nw (slice 0 nw u) w h zero3 zero3-fits))
     where
       zero3-fits : Fit3 zero3
       zero3-fits = unfold fits ofBits in (tt, tt, tt)

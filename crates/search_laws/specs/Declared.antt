@@ -21,6 +21,7 @@ use Rattle.actuators.specs.declared.Actuators.{Actuators}
 use Rattle.actuators.specs.declared.ActuatorMap.{ActuatorMap}
 use Rattle.controls.specs.Limits.{gimbalRate, partLimit, limitOf}
 use Rattle.controls.specs.declared.Rig.{Rig}
+use Rattle.controls.specs.declared.WheelLaw.the-variants.{Once}
 use Rattle.problem.specs.Problems as Problems
 use Rattle.problem.specs.declared.Problem.{Problem}
 use Rattle.problem.specs.declared.CheckedProblem.{CheckedProblem}
@@ -122,7 +123,7 @@ module _ (p : Problem) (m : ActuatorMap) (M : Declared (p .actuators) m) (sized 
   limit-same i = rw (M .wheels, M .thrusters, M .cmgs) (either (none (p .actuators)) (at (p .«torque_limit»)) (partLimit rig (m .«wheel_torques») (m .«thruster_torques»)) _ (part (ltb i nw) (ltb i (nw + nt)) (ltb→lt i nw) (nltb→le i nw) (ltb→lt i (nw + nt))))
     where
       rig : Rig
-      rig = record { «wheel_count» = nw; «thruster_count» = nt; cmgs = p .actuators .cmgs }
+      rig = record { «wheel_count» = nw; «thruster_count» = nt; cmgs = p .actuators .cmgs; law = Once }
 
       either : (b : Bool) (f g : ℕ → Float) (y : Float) → g i ≡ y → cond b f g i ≡ cond b (f i) y
       either true f g y e = refl

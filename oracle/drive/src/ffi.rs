@@ -90,6 +90,17 @@ unsafe extern "C" {
         place: &mut usize,
         runs: &mut usize,
     ) -> usize;
+    pub safe fn slew_published_reconstruct(
+        c: &Counts,
+        v: &Numbers,
+        b: &[f64; 29],
+        limited: bool,
+        z: &[f64; 193],
+        nodes: &mut [[f64; 22]; 17],
+        defect: &mut f64,
+        place: &mut usize,
+        runs: &mut usize,
+    ) -> usize;
     pub safe fn slew_residuals(
         c: &Counts,
         v: &Numbers,

@@ -5,6 +5,7 @@ use crate::maps::{self, Flat};
 use crate::random::Random;
 use crate::words::{Entry, Reader, Words, refusal};
 use quatopsy_plan::PlanError;
+use quatopsy_plan::law;
 use quatopsy_plan::probe::{self as rust, Given, Map, Nodes, Task};
 use quatopsy_plan::counted::probe as counted;
 use quatopsy_plan::scvx::probe as scvx;
@@ -235,18 +236,33 @@ fn residuals_by_rust(i: &[u64], o: &mut Words) -> bool {
     })
 }
 
+/// The words of a port's run: `slew_reconstruct`, or the same under the published law.
+macro_rules! run_words {
+    ($run:ident, $i:ident, $o:ident) => {{
+        let mut r = Reader($i);
+        let (flat, b, limited, z) = (Flat::take(&mut r), r.a::<29>(), r.n() != 0, r.a::<193>());
+        let (mut nodes, mut defect, mut place, mut runs) = ([[1.0; 22]; 17], 1.0, 77, 77);
+        let number = $run(&flat.counts, &flat.numbers, &b, limited, &z, &mut nodes, &mut defect, &mut place, &mut runs);
+        [number, place, runs].iter().for_each(|n| $o.n(*n as u64));
+        if number == 0 {
+            $o.f(defect);
+            nodes.iter().for_each(|node| $o.all(node));
+        } else {
+            assert!(defect == 0.0 && nodes.iter().flatten().all(|x| x.to_bits() == 0), "a refused run leaves zeros");
+        }
+    }};
+}
+
 fn run_by_port(i: &[u64], o: &mut Words) {
-    let mut r = Reader(i);
-    let (flat, b, limited, z) = (Flat::take(&mut r), r.a::<29>(), r.n() != 0, r.a::<193>());
-    let (mut nodes, mut defect, mut place, mut runs) = ([[1.0; 22]; 17], 1.0, 77, 77);
-    let number = slew_reconstruct(&flat.counts, &flat.numbers, &b, limited, &z, &mut nodes, &mut defect, &mut place, &mut runs);
-    [number, place, runs].iter().for_each(|n| o.n(*n as u64));
-    if number == 0 {
-        o.f(defect);
-        nodes.iter().for_each(|node| o.all(node));
-    } else {
-        assert!(defect == 0.0 && nodes.iter().flatten().all(|x| x.to_bits() == 0), "a refused run leaves zeros");
-    }
+    run_words!(slew_reconstruct, i, o);
+}
+
+fn published_run_by_port(i: &[u64], o: &mut Words) {
+    run_words!(slew_published_reconstruct, i, o);
+}
+
+fn published_run_by_rust(i: &[u64], o: &mut Words) -> bool {
+    law::as_published(|| run_by_rust(i, o))
 }
 
 fn residuals_by_port(i: &[u64], o: &mut Words) {
@@ -279,7 +295,7 @@ fn task(r: &mut Random, w: &mut Words) {
 /// Inputs of a quick run, of a full run, and kept.
 const SIZES: [u64; 3] = [100_000, 2_000_000, 20];
 
-pub const RUNS: [Entry; 12] = [
+pub const RUNS: [Entry; 13] = [
     Entry::new(
         100,
         "prepare",
@@ -507,5 +523,13 @@ pub const RUNS: [Entry; 12] = [
             o.given(if libm::was_outside() { 11 } else { 0 }, &a.concat());
             true
         },
+    ),
+    Entry::new(
+        202,
+        "reconstruct, unaltered Rust",
+        [100_000, 2_000_000, 0],
+        task,
+        published_run_by_port,
+        published_run_by_rust,
     ),
 ];

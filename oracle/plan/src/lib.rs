@@ -8,5 +8,6 @@ include!(concat!(env!("OUT_DIR"), "/root.rs"));
 pub mod faults;
 #[cfg(feature = "faults")]
 pub mod mutations;
+pub mod law;
 pub mod probe;
 pub mod tally;

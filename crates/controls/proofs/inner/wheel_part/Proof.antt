@@ -18,18 +18,12 @@ scale3-requires c κs = search needs
 add3-requires : tie.Need-add3-requires
 add3-requires c κs = search needs
 
-cross-requires : tie.Need-cross-requires
-cross-requires c κs = search needs
-
-scale3-requires-2 : tie.Need-scale3-requires-2
-scale3-requires-2 c κs = search needs
-
-add3-requires-2 : tie.Need-add3-requires-2
-add3-requires-2 c κs = search needs
+wheel-by-requires : tie.Need-wheel-by-requires
+wheel-by-requires c κs = search needs
 
 returns-2 : tie.Need-returns-2
 unfolding Parts.wheelPart lib.Ieee.ofBits lib.Ieee.neg
-returns-2 c = rw (c .add32 .ensures, c .before .scale32 .ensures, c .before .before .cross .ensures, c .before .before .before .add3 .ensures, c .before .before .before .before .scale3 .ensures, c .before .before .before .before .before .axis-sum .ensures, ne-eqb _ _ (c .before .before .before .before .before .before .before .if1 .left))
+returns-2 c = rw (c .wheel-by .ensures, c .before .add3 .ensures, c .before .before .scale3 .ensures, c .before .before .before .axis-sum .ensures, ne-eqb _ _ (c .before .before .before .before .before .if1 .left))
 
 pub wheel-part-spec : {M : Type 1} → statement M
 wheel-part-spec =
@@ -39,7 +33,5 @@ wheel-part-spec =
     axis-sum-requires
     scale3-requires
     add3-requires
-    cross-requires
-    scale3-requires-2
-    add3-requires-2
+    wheel-by-requires
     returns-2)

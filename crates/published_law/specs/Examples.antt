@@ -1,0 +1,21 @@
+-- The two laws apart: one wheel at rest about x, a rate of 1 about x and a stored momentum of 1 about y. Assumes nothing.
+use mathlib.Core.Path.{_≡_, refl}
+use mathlib.Core.List.{List, [], _∷_}
+use lib.Ieee.{Float, add, sub, mul, neg, ofBits}
+use Rattle.common.specs.Iter.{iter}
+use Rattle.geom.specs.Vec as Vec
+use Rattle.controls.specs.Parts.{wheelPart}
+use Rattle.controls.specs.declared.WheelLaw.{WheelLaw}
+use Rattle.controls.specs.declared.WheelLaw.the-variants.{Once, Published}
+
+abbrev torque : WheelLaw → List Float
+torque law = wheelPart law (Vec.one ∷ Vec.plusZero ∷ Vec.plusZero ∷ []) 1 (Vec.plusZero ∷ []) (Vec.one ∷ Vec.plusZero ∷ Vec.plusZero ∷ []) (Vec.plusZero ∷ Vec.one ∷ Vec.plusZero ∷ []) Vec.zero3
+
+-- three +0, not -0: the sum begins at +0
+one-term : torque Once ≡ Vec.zero3
+unfolding wheelPart iter add sub mul neg ofBits
+one-term = refl
+
+two-terms : torque Published ≡ Vec.plusZero ∷ Vec.plusZero ∷ Vec.minusOne ∷ []
+unfolding wheelPart iter add sub mul neg ofBits
+two-terms = refl
