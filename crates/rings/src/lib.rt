@@ -1,0 +1,1 @@
+// Equations of commutative rings, for proofs: they stand in specs/. No code.
