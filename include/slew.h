@@ -98,7 +98,10 @@ size_t slew_sample_count(double duration, size_t requested, double alpha, size_t
 
 /* Dense sample number `index`, from 0, of a path: time, attitude, rate, torque, body momentum. `inertia` (by rows) and `tolerance` (the norm tolerance) are
  * the problem's, `duration` and `nodes` the path's. Returns 0, or a refusal's number (5 and 11 at the sample, 20 for too many samples or an index that is
- * not below the count); beside a refusal the sample is zeros. `place` gets the refusal's place, or 0. */
+ * not below the count); beside a refusal the sample is zeros. `place` gets the refusal's place, or 0.
+ *
+ * Of a path that this planner has answered each part of a sample's rate is finite, and in size at most that of the larger of its two nodes' parts times
+ * 1 + 2^-50, plus 2^-1070. It can pass the larger one by a last place. */
 size_t slew_sample_path(const double inertia[9], double tolerance, double duration, const double nodes[374],
                         size_t requested, double alpha, size_t index,
                         double sample[14], size_t *place);

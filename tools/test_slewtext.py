@@ -115,6 +115,35 @@ class Answers(unittest.TestCase):
         for rest in ("", "(refused\n (number 5)\n (place 3)\n (runs 0))\n"):
             self.assertRaises(slewtext.Fault, slewtext.read_samples, "(samples\n" + sample + rest)
 
+    def test_rates_beside_the_nodes(self):
+        node = lambda t, *rate: [t, 1.0, 0.0, 0.0, 0.0, *rate] + [0.0] * 6
+        path = {"nodes": [node(float(k), 0.1, -0.2 * k, 0.0) for k in range(17)]}
+        above = math.nextafter(0.1, 1)
+        self.assertEqual(0.1 * (1 - 0.2) + 0.1 * 0.2, above)  # a fifth of the way from 0.1 to 0.1
+        told = lambda *samples: slewtext.rates_told(list(samples), path)
+        good = [node(-1.0, 0.1, 0.0, 0.0), node(3.5, 0.1, -0.8, 0.0), node(4.0, -0.1, 0.8, 0.0), node(17.0, 0.1, -3.2, 0.0)]
+        self.assertEqual(told(*good), "No rate of 4 samples is above the larger of its two nodes'.")
+        self.assertEqual(told(*good, node(4.2, above, 0.0, 0.0)), "A rate is above the larger of its two nodes' in 1 of 5 samples, by at most 1.39e-17 rad/s (sample 4, x): a last place of rounding.")
+        for near in (node(3.5, 0.1, math.nextafter(-0.8, -1), 0.0), node(4.0, 0.1, 0.0, 16 * 5e-324)):
+            self.assertIn("in 1 of 1 samples", told(near))
+        for far in (node(4.0, 0.1, -0.9, 0.0), node(-1.0, 0.1, -0.2, 0.0), node(4.0, 0.1, 0.0, 17 * 5e-324), node(18.0, 0.1, -3.3, 0.0)):
+            self.assertIn("not the samples of that path", told(far))
+
+    def test_rates_of_a_stored_path(self):
+        with open(os.path.join(slewtext.ROOT, "examples", "gyro-pyramid.answer"), encoding="utf-8") as file:
+            path = slewtext.read_path(file.read())
+        times = [path["duration"] * k / 1999 for k in range(2000)]
+        mean = lambda n, m, t: [a * (1 - (t - n[0]) / (m[0] - n[0])) + b * ((t - n[0]) / (m[0] - n[0])) for a, b in zip(n[5:8], m[5:8])]
+        pair = lambda t: next((n, m) for n, m in zip(path["nodes"], path["nodes"][1:]) if not m[0] < t)
+        samples = [[t] + [0.0] * 4 + mean(*pair(t), t) + [0.0] * 6 for t in times if t <= path["nodes"][16][0]]
+        self.assertIn("above the larger of its two nodes' in 3 of", slewtext.rates_told(samples, path))
+
+    def test_rates_beside_another_path(self):
+        stored = run("samples", Planes.STORED, os.path.join(slewtext.ROOT, "examples", "quarter-turn.answer"))
+        self.assertEqual((stored.returncode, stored.stdout), (0, run("samples", Planes.STORED).stdout))
+        self.assertIn("not the samples of that path", stored.stderr)
+        self.assertEqual(len(stored.stderr.splitlines()), 1)
+
     def test_a_damaged_path(self):
         self.assertRaises(slewtext.Fault, slewtext.read_path, path_text().replace(" (row 3FE BFE)\n", "", 1))
         self.assertRaises(slewtext.Fault, slewtext.read_path, "(refused\n (number 7)\n (place 0)\n (runs 0))\n")

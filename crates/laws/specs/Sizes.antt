@@ -75,14 +75,14 @@ module _ (f : Format) (k : ℕ) (h : k ≤ emax f) where
   top-under = rw pow2-mag at (mag-lt f false (pos k) 1 pow2-fits)
 
 -- ---- sizes and places
-place-high : (f : Format) (x : Float) → T (finite x) → place f x ≤ mid f + mag f x
+pub place-high : (f : Format) (x : Float) → T (finite x) → place f x ≤ mid f + mag f x
 unfolding place
 place-high f nan p = absurd p
 place-high f (inf s) p = absurd p
 place-high f (fin true m e) p = omega arith
 place-high f (fin false m e) p = omega arith
 
-place-low : (f : Format) (x : Float) → T (finite x) → mid f ≤ place f x + mag f x
+pub place-low : (f : Format) (x : Float) → T (finite x) → mid f ≤ place f x + mag f x
 unfolding place
 place-low f nan p = absurd p
 place-low f (inf s) p = absurd p
@@ -90,7 +90,7 @@ place-low f (fin true m e) p = omega arith
 place-low f (fin false m e) p = omega arith
 
 -- a number whose place is within M of the middle is finite, and at most M units in size
-between : (f : Format) (x : Float) (M : ℕ) → Held f x → M < mid f → place f x ≤ mid f + M → mid f ≤ place f x + M → T (finite x) × (mag f x ≤ M)
+pub between : (f : Format) (x : Float) (M : ℕ) → Held f x → M < mid f → place f x ≤ mid f + M → mid f ≤ place f x + M → T (finite x) × (mag f x ≤ M)
 unfolding place
 between f nan M p b h k = absurd (p .num)
 between f (inf true) M p b h k = absurd (clash (mag-inf f true))

@@ -19,11 +19,12 @@ use Rattle.geom.specs.declared.Turned.{Turned}
 use Rattle.geom.specs.declared.Turned.the-variants as Turned
 use Rattle.laws.specs.Below.{below-three, below-turns}
 use Rattle.laws.specs.Exact.{exact}
+use Rattle.mean_laws.specs.Means.{Plain}
+use Rattle.mean_laws.specs.Weights.{nought, mean-first, mean-last}
 use Rattle.forward.specs.StepLaws.{refused-going}
 use Rattle.samples.specs.Counts.{sampleCount}
 use Rattle.samples.specs.Samples.{time, rate, momentum, atNode, mean, normedBy, turnedBy, turned, fraction, between, onward, earlier, interpolate, timeOf, sample}
 use Rattle.samples.specs.SampleLaws.{not-below, at-first, at-last, amid, in-count}
-use Rattle.samples.specs.Weights.{Plain, nought, mean-first, mean-last}
 use Rattle.samples.specs.declared.Count.the-variants as Count
 use Rattle.samples.specs.declared.PathSample.{PathSample}
 
@@ -41,14 +42,15 @@ has-next nodes t h =
     let s = below-turns (λ (k i : ℕ). i ≤ 15) (onward nodes t) 0 16 (λ k b i l. next-by nodes t (not-below (time nodes 16) t h) i l (lt (time nodes (i + 1)) t) refl) (omega arith) in
     omega arith
 
--- ---- a sample that is given keeps the rate and the momentum that it was made with
+-- ---- a sample that is given keeps the time, the rate and the momentum that it was made with
 record Kept (s : PathSample) (r : PathSample) : Type 0 where
+  pub times : r .t ≡ s .t
   pub rates : r .w ≡ s .w
   pub momenta : r .h ≡ s .h
 
 normed-kept : (x : Normal) (s : PathSample) (index : ℕ) → normedBy x s index .fate ≡ Going → Kept s (normedBy x s index .sample)
 normed-kept Normal.Not s index g = absurd (refused-going g)
-normed-kept (Normal.Is q) s index g = record { rates = refl; momenta = refl }
+normed-kept (Normal.Is q) s index g = record { times = refl; rates = refl; momenta = refl }
 
 turned-by-kept : (x : Turned) (tol : Float) (s : PathSample) (index : ℕ) → turnedBy x tol s index .fate ≡ Going → Kept s (turnedBy x tol s index .sample)
 turned-by-kept Turned.Outside tol s index g = absurd (refused-going g)
@@ -101,11 +103,15 @@ module _ (j : List (List Float)) (tol duration : Float) (nodes : List (List Floa
       inside : sample j tol duration nodes requested alpha index ≡ between j tol nodes i t index
       inside = placed ∙ sym (amid j tol nodes t index refl after refl before walked)
 
-      means : (r .w ≡ mean (rate nodes i) (rate nodes (i + 1)) (fraction nodes i t)) × (r .h ≡ mean (momentum nodes i) (momentum nodes (i + 1)) (fraction nodes i t))
+      pub means : (r .w ≡ mean (rate nodes i) (rate nodes (i + 1)) (fraction nodes i t)) × (r .h ≡ mean (momentum nodes i) (momentum nodes (i + 1)) (fraction nodes i t))
       unfolding between
       means =
           let kept = turned-kept _ _ _ index (rw inside at given) in
           (rw (is, inside) (kept .rates), rw (is, inside) (kept .momenta))
+
+      pub sample-time : r .t ≡ t
+      unfolding between
+      sample-time = let kept = turned-kept _ _ _ index (rw inside at given) in rw (is, inside) (kept .times)
 
       -- at the fraction 0 of either sign its rate is node i's, as exact numbers
       pub rate-at-node : (s : Bool) → fraction nodes i t ≡ nought s → Plain3 (rate nodes i) → Plain3 (rate nodes (i + 1)) → (k : ℕ) → k < 3 → exact (at (r .w) k) ≡ exact (at (rate nodes i) k)

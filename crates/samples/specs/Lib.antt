@@ -5,5 +5,4 @@ pub mod Rows
 pub mod Samples
 pub mod SampleLaws
 pub mod Answers
-pub mod Weights
 pub mod Laws

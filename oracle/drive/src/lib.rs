@@ -11,6 +11,7 @@ pub mod edges;
 pub mod leaves;
 pub mod libraries;
 pub mod maps;
+pub mod means;
 pub mod planes;
 pub mod order;
 pub mod plans;

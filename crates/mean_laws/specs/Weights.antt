@@ -1,7 +1,7 @@
 -- A weighted sum whose weights are 1 and a zero, as exact numbers: it is the part of weight 1, signs of zero aside. Assumes nothing.
-use mathlib.Core.Path.{_≡_, refl, sym, ap, _∙_}
+use mathlib.Core.Path.{_≡_, refl, sym, _∙_}
 use mathlib.Core.Bool.{Bool, true, false}
-use Prim.Native.Nat.{ℕ, zero, _+_, _-_, _*_, _^_, _≤_, _<_}
+use Prim.Native.Nat.{ℕ, _+_, _-_, _*_, _^_, _<_}
 use native.Mathlib.Nat.{le-antisymm, mul-one, mul-zero, zero-mul}
 use native.Mathlib.Omega.{arith}
 use lib.Dec.{T}
@@ -9,8 +9,7 @@ use lib.IntN.{ℤ, pos}
 use lib.Pow.{pow-pos}
 use lib.Ieee.{Float, nan, inf, fin, binary64, low, up, down, unlike, size, units, round, sum, add, sub, mul, neg, fits, ofBits}
 use lib.Ieee.Fits.{down-pos, add-fits, mul-fits}
-use lib.Ieee.Scale.{finite, round-same}
-use Rattle.geom.specs.Vec.{one}
+use lib.Ieee.Scale.{round-same}
 use Rattle.laws.specs.Place.{mag, mid, side, place, mag-exact, mag-lt, fin-above, fin-under, place-inf}
 use Rattle.laws.specs.Order.{Held, held, place-neg}
 use Rattle.laws.specs.Signs.{round-neg, round-held}
@@ -18,17 +17,14 @@ use Rattle.laws.specs.Finite.{finite-number}
 use Rattle.laws.specs.Rounding.{rnd, rnd-fix, add-above, add-below}
 use Rattle.laws.specs.Commute.{add-swap}
 use Rattle.laws.specs.Exact.{signed, exact}
-
--- a finite f64
-pub record Plain (x : Float) : Type 0 where
-  pub fit : T (fits binary64 x)
-  pub fine : T (finite x)
+use Rattle.laws.specs.Unit.{one}
+use Rattle.mean_laws.specs.Means.{Plain}
 
 -- a zero of either sign
 abbrev pub nought : Bool → Float
 nought s = fin s 0 (pos 0)
 
-plain-held : {x : Float} → Plain x → Held binary64 x
+pub plain-held : {x : Float} → Plain x → Held binary64 x
 plain-held {x} p = held (p .fit) (finite-number x (p .fine))
 
 -- ---- by their places
@@ -79,13 +75,13 @@ once-place (fin true m e) p =
 zero-round : (s : Bool) (c : ℕ) → 0 < c → round binary64 s 0 c ≡ nought s
 zero-round s c p = round-same binary64 s 0 c 0 1 p (omega arith) (sym (zero-mul c)) ∙ unfold round units size in refl
 
-none-is : (x : Float) (t : Bool) → Plain x → (s : Bool) × (mul binary64 x (nought t) ≡ nought s)
+pub none-is : (x : Float) (t : Bool) → Plain x → (s : Bool) × (mul binary64 x (nought t) ≡ nought s)
 unfolding mul
 none-is nan t p = absurd (p .fine)
 none-is (inf s) t p = absurd (p .fine)
 none-is (fin s m e) t p = (unlike s t, rw (mul-zero (m * up e), mul-one (down e)) (zero-round (unlike s t) (down e) (down-pos e)))
 
-nought-place : (s : Bool) → place binary64 (nought s) ≡ mid binary64
+pub nought-place : (s : Bool) → place binary64 (nought s) ≡ mid binary64
 unfolding place mag
 nought-place true = omega arith
 nought-place false = omega arith
