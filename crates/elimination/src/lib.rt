@@ -7,8 +7,7 @@ ghost use Rattle.normal_equations.specs.Rows.{rows};
 ghost use Rattle.elimination.specs.Elimination as Elimination;
 use self::columns::column;
 use self::columns::columns;
-use normal_equations::normal_matrix;
-use normal_equations::right_side;
+use normal_equations::equations;
 
 pub mod columns;
 pub mod pivots;
@@ -54,7 +53,6 @@ pub fn damped_step(v: &mut [f64], m: usize, r: &[f64], lambda: f64, g: &mut [f64
 {
     let n = g.len();
     let o = n * m;
-    right_side(g, &v[..o], m, r);
-    normal_matrix(v, n, m, lambda);
+    equations(v, m, r, lambda, g);
     solve_dense(&mut v[o..], g)
 }

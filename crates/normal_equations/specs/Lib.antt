@@ -2,6 +2,7 @@
 pub mod Normal
 pub mod Tab
 pub mod Rows
+pub mod Placed
 pub mod Filled
 pub mod Inner
 pub mod NormalLaws

@@ -22,9 +22,13 @@ line a i = getD a i []
 abbrev pub cell : List (List Float) → ℕ → ℕ → Float
 cell a i j = at (line a i) j
 
+-- 1e-6: the step of a forward difference, by which the difference is divided
+abbrev pub fdEps : Float
+fdEps = ofBits binary64 0x3EB0_C6F7_A0B5_ED8D
+
 -- a column of the Jacobian: (rp[i] - r0[i]) / 1e-6 for each of m residuals
 unfoldable pub slopes : ℕ → List Float → List Float → List Float
-slopes m rp r0 = tab m (λ i. div binary64 (sub binary64 (at rp i) (at r0 i)) (ofBits binary64 0x3EB0_C6F7_A0B5_ED8D))
+slopes m rp r0 = tab m (λ i. div binary64 (sub binary64 (at rp i) (at r0 i)) fdEps)
 
 -- what residual row i adds: a[c][d] += jac[i][c] * jac[i][d]
 unfoldable pub rowOnto : ℕ → List (List Float) → ℕ → List (List Float) → List (List Float)

@@ -5,6 +5,7 @@ ghost use Prim.Native.Nat.{_+_, _*_, _≤_};
 ghost use lib.ListN.{length, replicate, take, drop};
 ghost use Rattle.normal_equations.specs.Rows.{rows};
 ghost use Rattle.normal_equations.specs.Normal as Normal;
+ghost use Rattle.normal_equations.specs.Placed.{ColumnPut, Equations};
 use self::matrix::matrix_row;
 use self::matrix::matrix_rows;
 use self::sums::dot;
@@ -12,6 +13,9 @@ use self::sums::dot;
 pub mod matrix;
 pub mod rows;
 pub mod sums;
+
+// The step of a forward difference, by which the difference is divided.
+pub const FD_EPS: f64 = 1.0e-6;
 
 // Every number becomes +0.0.
 pub fn clear(v: &mut [f64])
@@ -24,16 +28,26 @@ pub fn clear(v: &mut [f64])
     }
 }
 
-// A column of the Jacobian: the residuals rp of the moved decision against r0.
-pub fn put_column(column: &mut [f64], rp: &[f64], r0: &[f64])
-    requires { ⌜ (length (now column) ≤ length (now rp)) × (length (now column) ≤ length (now r0)) ⌝ }
+// The residuals rp of a moved decision against those of the decision, r0.
+fn put_slopes(column: &mut [f64], rp: &[f64; 79], r0: &[f64; 79])
+    requires { ⌜ length (now column) ≤ 79 ⌝ }
     ensures { λ _. ⌜ now (column .exit) ≡ Normal.slopes (length (now (column .entry))) (now (rp .entry)) (now (r0 .entry)) ⌝ }
 {
     let mut i = 0;
     while i < column.len() {
-        column[i] = (rp[i] - r0[i]) / 1.0e-6;
+        column[i] = (rp[i] - r0[i]) / FD_EPS;
         i += 1;
     }
+}
+
+// Column c of the columns of m numbers in v, of the residuals rp of the moved decision against r0: all else in v stays.
+pub fn put_column(v: &mut [f64], m: usize, c: usize, rp: &[f64; 79], r0: &[f64; 79])
+    requires { ⌜ (m ≤ 79) × (c * m + m ≤ length (now v)) ⌝ }
+    ensures { λ _. ⌜ ColumnPut m c (Normal.slopes m (now (rp .entry)) (now (r0 .entry))) (now (v .entry)) (now (v .exit)) ⌝ }
+{
+    let at = c * m;
+    let end = at + m;
+    put_slopes(&mut v[at..end], rp, r0);
 }
 
 // The normal matrix of n columns of m numbers, which lie in front of it: only the matrix is changed.
@@ -67,4 +81,15 @@ pub fn right_side(g: &mut [f64], j: &[f64], m: usize, r: &[f64])
         g[c] = -x;
         c += 1;
     }
+}
+
+// The normal equations of g.len() columns of m numbers, which begin v and stay: the matrix behind them, the right side in g.
+pub fn equations(v: &mut [f64], m: usize, r: &[f64], lambda: f64, g: &mut [f64])
+    requires { ⌜ (length (now g) ≤ 193) × (m ≤ length (now r)) × (length (now v) ≡ length (now g) * m + length (now g) * length (now g)) ⌝ }
+    ensures { λ _. ⌜ Equations (length (now (g .entry))) m (now (v .entry)) (now (r .entry)) lambda (now (v .exit)) (now (g .exit)) ⌝ }
+{
+    let n = g.len();
+    let o = n * m;
+    right_side(g, &v[..o], m, r);
+    normal_matrix(v, n, m, lambda);
 }

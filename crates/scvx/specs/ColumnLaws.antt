@@ -1,26 +1,26 @@
--- The loop over a Jacobian's columns: one column more, a refused run, and the whole. Assumes nothing.
-use Prim.Native.Nat.{ℕ, _+_, _*_, _≤_, _<_}
-use mathlib.Core.Path.{_≡_, refl, ap, sym, _∙_}
+-- The loop over a Jacobian's columns: one column more, a refused run, and the whole; and each column by itself. Assumes nothing.
+use Prim.Native.Nat.{ℕ, zero, suc, _+_, _*_, _≤_, _<_}
+use mathlib.Core.Path.{_≡_, refl, ap, sym, subst, _∙_}
+use mathlib.Core.Logic.{inr}
 use mathlib.Core.List.{List, [], _∷_, _++_}
 use native.Mathlib.Omega.{arith}
-use lib.ListN.{length, take}
+use lib.ListN.{length, take, length-append, List·getD-append}
+use lib.Seq.{getD-at}
+use borrow.Author.Count.{below-more}
 use lib.Ieee.{Float}
 use Rattle.common.specs.Iter.{iter, iter-next, iter-stays}
-use Rattle.common.specs.Lists.{slice, pasted}
+use Rattle.common.specs.Lists.{at}
 use Rattle.common.specs.declared.Fate.{Fate}
 use Rattle.common.specs.declared.Fate.the-variants.{Going, Refused}
 use Rattle.problem.specs.declared.CheckedProblem.{CheckedProblem}
 use Rattle.residuals.specs.Residuals.{residualsOf}
 use Rattle.residuals.specs.declared.ResidualVector.{ResidualVector}
-use Rattle.normal_equations.specs.Tab.{tab, tab-same, length-tab}
-use Rattle.normal_equations.specs.Normal.{slopes}
-use Rattle.normal_equations.specs.Rows.{row, rows, row-same, row-other, rows-more, row-take, length-row, length-row-put, part-row}
+use Rattle.normal_equations.specs.Tab.{tab, tab-same}
+use Rattle.normal_equations.specs.Normal.{line, slopes}
+use Rattle.normal_equations.specs.Rows.{row, rows, rows-more, row-take}
+use Rattle.normal_equations.specs.Placed.{ColumnPut}
 use Rattle.scvx.specs.Search.{numbers, width, nudged, Columns, Formed, Broken, columnBy, columnOf, columnTurn, jacobian}
-use Rattle.scvx.specs.Stands.{columnLeft}
-
--- the part that is lent for column c
-pub part-length : (m : ℕ) (v : List Float) (c : ℕ) → c * m + m ≤ length v → length (slice (c * m) (c * m + m) v) ≡ m
-part-length m v c room = ap length (part-row m v c (c * m) (c * m + m) refl refl) ∙ length-row m v c room
+use Rattle.scvx.specs.Stands.{ColumnLeft, SameFrom}
 
 module _ (p : CheckedProblem) (m : ℕ) (z r0 : List Float) where
   -- v holds the first c columns, one after the other
@@ -39,18 +39,21 @@ module _ (p : CheckedProblem) (m : ℕ) (z r0 : List Float) where
     by-run g = iter-next (columnTurn p m z r0) (Formed []) c (sym front) g
 
     -- one column more
-    pub front-next : {u : List Float} {f : Fate} → c * m + m ≤ length v → f ≡ e .fate → f ≡ Going → u ≡ columnLeft f v c m (slopes m (e .r) r0) → (length u ≡ length v) × Front (c + 1) u
-    unfolding slopes
-    front-next {u} room fate f g =
-        let q : List Float = slopes m (e .r) r0 in
-        let w : List Float = pasted v (c * m) (c * m + m) q in
-        let put : u ≡ w = g ∙ ap (λ (x : Fate). columnLeft x v c m q) f in
-        let whole : length q ≡ m = length-tab m _ in
-        let same : rows c m w ≡ rows c m v = tab-same c (row m w) (row m v) (λ x l. row-other m v q c room whole x (λ b. omega arith)) in
-        let next : Front (c + 1) w =
-        sym (by-run (ap Formed (rows-more c m w ∙ ap (λ l. l ++ (row m w c ∷ [])) same ∙ ap (λ x. rows c m v ++ (x ∷ [])) (row-same m v q c room whole))
-        ∙ sym (ap (λ (x : Fate). columnBy m r0 c (rows c m v) x (e .r)) (sym fate ∙ f)))) in
-        rw put (length-row-put m v q c room whole, next)
+    pub front-next : (u : List Float) {f : Fate} → f ≡ e .fate → f ≡ Going → ColumnLeft f m c (slopes m (e .r) r0) v u → Front (c + 1) u
+    front-next u fate f left =
+        let put : ColumnPut m c (slopes m (e .r) r0) v u = subst (λ (x : Fate). ColumnLeft x m c (slopes m (e .r) r0) v u) f left in
+        let same : rows c m u ≡ rows c m v = tab-same c (row m u) (row m v) (λ x l. put .others x (λ b. omega arith)) in
+        sym (by-run (ap Formed (rows-more c m u ∙ ap (λ l. l ++ (row m u c ∷ [])) same ∙ ap (λ x. rows c m v ++ (x ∷ [])) (put .own))
+        ∙ sym (ap (λ (x : Fate). columnBy m r0 c (rows c m v) x (e .r)) (sym fate ∙ f))))
+
+    -- either way as many numbers, and all past the column
+    pub left-length : (u : List Float) (f : Fate) → ColumnLeft f m c (slopes m (e .r) r0) v u → length u ≡ length v
+    left-length u Going put = put .size
+    left-length u (Refused number place) same = ap length same
+
+    pub left-past : (u : List Float) (f : Fate) → ColumnLeft f m c (slopes m (e .r) r0) v u → (end : ℕ) → c * m + m ≤ end → SameFrom end v u
+    left-past u Going put end h i l = put .outside i (inr (omega arith))
+    left-past u (Refused number place) same end h i l = ap (λ w. at w i) same
 
     -- a run that is refused ends the columns
     pub front-broken : {number place : ℕ} → m ≡ width p → c < numbers p → e .fate ≡ Refused number place → jacobian p z r0 ≡ Broken number place (c + 1)
@@ -67,3 +70,43 @@ module _ (p : CheckedProblem) (m : ℕ) (z r0 : List Float) where
   front-whole n v en em room front =
       rw (← en, ← em)
       (front ∙ ap Formed (tab-same n (row m v) (row m (take (n * m) v)) (λ i h. sym (row-take n m v i h room))))
+
+-- ---- each column by itself: what the others are does not enter
+module _ (p : CheckedProblem) (m : ℕ) (z r0 : List Float) where
+  -- the first k columns: each is made by its own run, which goes on
+  pub record Each (k : ℕ) (l : List (List Float)) : Type 0 where
+    pub count : length l ≡ k
+    pub goes : (c : ℕ) → c < k → residualsOf p (nudged p z c) .fate ≡ Going
+    pub own : (c : ℕ) → c < k → line l c ≡ slopes m (residualsOf p (nudged p z c) .r) r0
+
+  each-more : (k : ℕ) (l : List (List Float)) {x : List (List Float)} (f : Fate) → residualsOf p (nudged p z k) .fate ≡ f
+      → columnBy m r0 k l f (residualsOf p (nudged p z k) .r) ≡ Formed x → Each k l → Each (suc k) x
+  each-more k l {x} Going g e h =
+      let q : List Float = slopes m (residualsOf p (nudged p z k) .r) r0 in
+      let longer : l ++ (q ∷ []) ≡ x = cc in
+      subst (λ y. Each (suc k) y) longer
+      (record {
+        count = omega (arith, length-append l (q ∷ []), h .count);
+        goes = λ c b. below-more (λ d. residualsOf p (nudged p z d) .fate ≡ Going) k (h .goes) g c (omega arith);
+        own = λ c b.
+            below-more (λ d. line (l ++ (q ∷ [])) d ≡ slopes m (residualsOf p (nudged p z d) .r) r0) k
+            (λ d b. List·getD-append l (q ∷ []) [] d (omega (arith, h .count)) ∙ h .own d b)
+            (getD-at l q [] [] k (h .count)) c (omega arith);
+      })
+  each-more k l (Refused number place) g e h = let no : _≡_ {A = ℕ} 0 1 = cc in absurd (omega arith)
+
+  each-turn : (k : ℕ) (j : Columns) → ((l : List (List Float)) → j ≡ Formed l → Each k l) → (x : List (List Float)) → columnTurn p m z r0 k j ≡ Formed x → Each (suc k) x
+  each-turn k (Formed l) h x e = each-more k l (residualsOf p (nudged p z k) .fate) refl e (h l refl)
+  each-turn k (Broken number place runs) h x e = let no : _≡_ {A = ℕ} 0 1 = cc in absurd (omega arith)
+
+  each-of : (k : ℕ) (l : List (List Float)) → iter (columnTurn p m z r0) (Formed []) k ≡ Formed l → Each k l
+  unfolding iter
+  each-of zero l e =
+      let none : [] ≡ l = cc in
+      subst (λ y. Each 0 y) none (record { count = refl; goes = λ c b. absurd (omega arith); own = λ c b. absurd (omega arith) })
+  each-of (suc k) l e = each-turn k (iter (columnTurn p m z r0) (Formed []) k) (each-of k) l e
+
+-- of a Jacobian that is formed
+pub jacobian-each : (p : CheckedProblem) (z r0 : List Float) {j : List (List Float)} → jacobian p z r0 ≡ Formed j → Each p (width p) z r0 (numbers p) j
+unfolding jacobian
+jacobian-each p z r0 {j} e = each-of p (width p) z r0 (numbers p) j e

@@ -12,12 +12,12 @@ use Rattle.common.specs.declared.Fate.the-variants as Fate
 use Rattle.problem.specs.declared.CheckedProblem.{CheckedProblem}
 use Rattle.residuals.specs.Residuals.{residualsOf}
 use Rattle.residuals.specs.declared.ResidualVector.{ResidualVector}
-use Rattle.elimination.specs.Elimination.{Solution, Solved, Singular, dampedStep}
+use Rattle.elimination.specs.Elimination.{Solution, Solved, Singular}
 use Rattle.scvx.specs.declared.Status.{Status}
 use Rattle.scvx.specs.declared.Status.the-variants.{Going, Ended, Refused}
 use Rattle.scvx.specs.declared.Candidate.{Candidate}
 use Rattle.scvx.specs.declared.State.{State}
-use Rattle.scvx.specs.Search.{numbers, width, lengthOf, measured, Columns, Formed, Broken, columnBy, columnTurn, nudged, jacobian, ran, ended, moved, damped, judged, weaker, stronger, triedBy, trialOf, tried, steppedBy, stepped, linearBy, linear, goal, improved, goingBy, begun, going, turnBy, turn}
+use Rattle.scvx.specs.Search.{numbers, width, lengthOf, measured, Columns, Formed, Broken, columnBy, columnTurn, nudged, jacobian, ran, ended, moved, damped, judged, weaker, stronger, triedBy, trialOf, tried, stepOf, steppedBy, stepped, linearBy, linear, goal, improved, goingBy, begun, going, turnBy, turn}
 
 either : (b : Bool) (x y : State) {n : ℕ} → x .runs ≤ n → y .runs ≤ n → cond b x y .runs ≤ n
 either true x y h k = h
@@ -64,7 +64,7 @@ broken-le p z r0 e = subst (λ (j : Columns). brokenRuns j ≤ numbers p) e (jac
 
 linear-by : (p : CheckedProblem) (s : State) (r : List Float) (j : Columns) → brokenRuns j ≤ numbers p → linearBy p s r j .runs ≤ s .runs + numbers p + 1
 unfolding stepped
-linear-by p s r (Formed l) h = stepped-by p (ran s (numbers p)) (dampedStep (numbers p) (width p) l r (s .lambda))
+linear-by p s r (Formed l) h = stepped-by p (ran s (numbers p)) (stepOf p l r (s .lambda))
 linear-by p s r (Broken number place runs) h = omega arith
 
 linear-le : (p : CheckedProblem) (s : State) (r : List Float) → linear p s r .runs ≤ s .runs + numbers p + 1

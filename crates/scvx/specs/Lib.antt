@@ -3,4 +3,5 @@ pub mod Search
 pub mod Counts
 pub mod Stands
 pub mod ColumnLaws
+pub mod EquationLaws
 pub mod StepLaws

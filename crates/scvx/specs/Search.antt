@@ -18,8 +18,9 @@ use Rattle.forward.specs.declared.Run.{Run}
 use Rattle.residuals.specs.Sums.{normSlice}
 use Rattle.residuals.specs.Residuals.{residualsOf}
 use Rattle.residuals.specs.declared.ResidualVector.{ResidualVector}
-use Rattle.normal_equations.specs.Normal.{slopes}
-use Rattle.elimination.specs.Elimination.{Solution, Solved, Singular, dampedStep}
+use Rattle.normal_equations.specs.Normal as Normal
+use Rattle.normal_equations.specs.Normal.{fdEps, slopes}
+use Rattle.elimination.specs.Elimination.{Solution, Solved, Singular, solveDense}
 use Rattle.scvx.specs.declared.Status.{Status}
 use Rattle.scvx.specs.declared.Status.the-variants.{Going, Ended, Refused}
 use Rattle.scvx.specs.declared.Candidate.{Candidate}
@@ -55,13 +56,9 @@ held p z = projectDecision (p .map) (p .«torque_limit») (unpack z)
 
 -- ---- the Jacobian, by columns
 
--- 1e-6, the step of a forward difference
-abbrev pub difference : Float
-difference = ofBits binary64 0x3eb0_c6f7_a0b5_ed8d
-
--- the decision whose residuals make column c
+-- the decision whose residuals make column c: number c moved by the step by which the difference is divided
 abbrev pub nudged : CheckedProblem → List Float → ℕ → List Float
-nudged p z c = held p (set z c (add binary64 (at z c) difference))
+nudged p z c = held p (set z c (add binary64 (at z c) fdEps))
 
 -- the columns so far, or the refusal of a column's run: its number, its place and the columns' runs begun
 pub data Columns : Type 0 where
@@ -83,6 +80,20 @@ columnTurn p m z r0 c (Broken number place runs) = Broken number place runs
 -- at the decision z, whose residuals are r0
 unfoldable pub jacobian : CheckedProblem → List Float → List Float → Columns
 jacobian p z r0 = iter (columnTurn p (width p) z r0) (Formed []) (numbers p)
+
+-- ---- the normal equations of the columns j of the Jacobian at a decision, whose residuals are r
+
+-- the matrix: for each two columns their products, summed over the residual rows in order from +0.0; then the damping factor is added on the diagonal
+abbrev pub normalMatrix : CheckedProblem → List (List Float) → Float → List (List Float)
+normalMatrix p j lambda = Normal.normalMatrix (numbers p) (width p) j lambda
+
+-- the right side: for each column its products with the residuals, summed over the residual rows in order from +0.0; then the sign is turned
+abbrev pub rightSide : CheckedProblem → List (List Float) → List Float → List Float
+rightSide p j r = Normal.rightSide (numbers p) (width p) j r
+
+-- the step that solves them
+abbrev pub stepOf : CheckedProblem → List (List Float) → List Float → Float → Solution
+stepOf p j r lambda = solveDense (numbers p) (normalMatrix p j lambda) (rightSide p j r)
 
 -- ---- the parts of an iteration
 abbrev pub ran : State → ℕ → State
@@ -142,7 +153,7 @@ steppedBy p s Singular = damped s (stiffer (s .lambda))
 
 -- the step of the normal equations of the columns j and the residuals r
 unfoldable pub stepped : CheckedProblem → State → List (List Float) → List Float → State
-stepped p s j r = steppedBy p s (dampedStep (numbers p) (width p) j r (s .lambda))
+stepped p s j r = steppedBy p s (stepOf p j r (s .lambda))
 
 -- each column is one run
 abbrev pub linearBy : CheckedProblem → State → List Float → Columns → State

@@ -6,7 +6,7 @@ use mathlib.Core.List.{List}
 use native.Mathlib.Nat.{mul-add, mul-le-mul, le-refl}
 use native.Mathlib.Omega.{arith}
 use lib.Ieee.{Float, lt}
-use Rattle.common.specs.Lists.{pasted}
+use Rattle.common.specs.Lists.{at}
 use Rattle.common.specs.declared.Fate.{Fate}
 use Rattle.common.specs.declared.Fate.the-variants as Fate
 use Rattle.residuals.specs.declared.ResidualVector.{ResidualVector}
@@ -15,6 +15,7 @@ use Rattle.problem.specs.Problems.{plusZero}
 use Rattle.problem.specs.declared.CheckedProblem.{CheckedProblem}
 use Rattle.residuals.specs.Sums.{normSlice}
 use Rattle.residuals.specs.Residuals.{residualsOf}
+use Rattle.normal_equations.specs.Placed.{ColumnPut}
 use Rattle.scvx.specs.declared.Status.the-variants.{Going}
 use Rattle.scvx.specs.declared.Candidate.{Candidate}
 use Rattle.scvx.specs.declared.State.{State}
@@ -76,10 +77,14 @@ sizes-step {p} {n} {m} k s e = subst (λ x. Sizes p x m (x * m + x * x)) (sym e)
 
 -- ---- what is kept
 
--- v with column c of m numbers; a refused run leaves it as it was
-abbrev pub columnLeft : Fate → List Float → ℕ → ℕ → List Float → List Float
-columnLeft Fate.Going v c m column = pasted v (c * m) (c * m + m) column
-columnLeft (Fate.Refused number place) v c m column = v
+-- what column c of m numbers, which are x, leaves of the workspace v in u, by its run: a run that goes on changes the column alone, a refused one nothing
+abbrev pub ColumnLeft : Fate → ℕ → ℕ → List Float → List Float → List Float → Type 0
+ColumnLeft Fate.Going m c x v u = ColumnPut m c x v u
+ColumnLeft (Fate.Refused number place) m c x v u = u ≡ v
+
+-- from place e on, u is as v was
+abbrev pub SameFrom : ℕ → List Float → List Float → Type 0
+SameFrom e v u = (i : ℕ) → e ≤ i → at u i ≡ at v i
 
 -- the columns that the code leaves, or its refusal, as the definition has them
 abbrev pub columnsOf : Slopes → List (List Float) → Columns

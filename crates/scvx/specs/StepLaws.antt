@@ -42,7 +42,7 @@ module _ (w n m : ℕ) (v : List Float) (e : w ≡ n) (fits : n * m + n * n ≤ 
 
 module _ (p : CheckedProblem) (s : State) (n m : ℕ) (j : List (List Float)) (r : List Float) (en : n ≡ numbers p) (em : m ≡ width p) where
   by-told : (b : Bool) (d : List Float) → told b d ≡ dampedStep n m j r (s .lambda) → steppedBy p s (told b d) ≡ stepped p s j r
-  unfolding stepped
+  unfolding stepped dampedStep
   by-told b d e = rw (← en, ← em) (ap (λ (x : Solution). steppedBy p s x) e)
 
   pub singular : (b : Bool) (d : List Float) → told b d ≡ dampedStep n m j r (s .lambda) → b ≡ false → damped s (stiffer (s .lambda)) ≡ stepped p s j r

@@ -9,12 +9,13 @@ ghost use Rattle.residuals.specs.Residuals.{residualsOf};
 ghost use Rattle.normal_equations.specs.Normal.{slopes};
 ghost use Rattle.normal_equations.specs.Rows.{rows};
 ghost use Rattle.scvx.specs.Search as Search;
-ghost use Rattle.scvx.specs.Stands.{Sizes, columnLeft, columnsOf};
+ghost use Rattle.scvx.specs.Stands.{Sizes, ColumnLeft, SameFrom, columnsOf};
 use super::Slopes;
 use actuators::control_dim;
 use common::Fate;
 use forward::decisions::project_decision;
 use forward::decisions::unpack;
+use normal_equations::FD_EPS;
 use normal_equations::put_column;
 use problem::CheckedProblem;
 use residuals::terms::residuals_of;
@@ -46,25 +47,17 @@ pub fn held(p: CheckedProblem, z: [f64; 193]) -> [f64; 193]
     project_decision(map, limit, unpack(z))
 }
 
-// The decision with number c moved by 1e-6.
+// The decision with number c moved by the step of the difference.
 fn nudged(p: CheckedProblem, z: [f64; 193], c: usize) -> [f64; 193]
     requires { ⌜ (controlDim (p .map) ≤ 12) × (c < 193) ⌝ }
     ensures { λ r. ⌜ r ≡ Search.nudged p z c ⌝ }
 {
     let mut plus = z;
-    plus[c] = plus[c] + 1.0e-6;
+    plus[c] = plus[c] + FD_EPS;
     held(p, plus)
 }
 
-// The residuals rp of the moved decision against r0.
-fn put_slopes(column: &mut [f64], rp: [f64; 79], r0: [f64; 79])
-    requires { ⌜ length (now column) ≤ 79 ⌝ }
-    ensures { λ _. ⌜ now (column .exit) ≡ slopes (length (now (column .entry))) rp r0 ⌝ }
-{
-    put_column(column, &rp, &r0);
-}
-
-// Column c of m numbers, of the decision z, whose residuals are r0: the rest of v stays, and all of it where the column's run is refused.
+// Column c of m numbers at the decision z, whose residuals are r0: one run. Every other column and all past them stays, and all of v where the run is refused.
 fn column(
     p: CheckedProblem,
     v: &mut [f64],
@@ -74,7 +67,7 @@ fn column(
     r0: [f64; 79],
 ) -> Fate
     requires { ⌜ (isSized (p .map) ≡ true) × ((controlDim (p .map) ≤ 12) × ((c < 193) × ((m ≤ 79) × (c * m + m ≤ length (now v))))) ⌝ }
-    ensures { λ r. ⌜ (r ≡ residualsOf p (Search.nudged p z c) .fate) × (now (v .exit) ≡ columnLeft r (now (v .entry)) c m (slopes m (residualsOf p (Search.nudged p z c) .r) r0)) ⌝ }
+    ensures { λ r. ⌜ (r ≡ residualsOf p (Search.nudged p z c) .fate) × ColumnLeft r m c (slopes m (residualsOf p (Search.nudged p z c) .r) r0) (now (v .entry)) (now (v .exit)) ⌝ }
 {
     let e = residuals_of(p, nudged(p, z, c));
     let fate = e.fate;
@@ -82,15 +75,13 @@ fn column(
         Fate::Refused(number, place) => Fate::Refused(number, place),
         Fate::Going => {
             let rp = e.r;
-            let at = c * m;
-            let end = at + m;
-            put_slopes(&mut v[at..end], rp, r0);
+            put_column(v, m, c, &rp, &r0);
             Fate::Going
         }
     }
 }
 
-// The n columns of m numbers at the decision z, whose residuals are r0, from the front of v on; a refused run ends them.
+// The n columns of m numbers at the decision z, whose residuals are r0, from the front of v on; a refused run ends them. All past them stays.
 pub fn jacobian(
     p: CheckedProblem,
     v: &mut [f64],
@@ -100,7 +91,7 @@ pub fn jacobian(
     r0: [f64; 79],
 ) -> Slopes
     requires { ⌜ Sizes p n m (length (now v)) ⌝ }
-    ensures { λ r. ⌜ Search.jacobian p z r0 ≡ columnsOf r (rows n m (take (n * m) (now (v .exit)))) ⌝ }
+    ensures { λ r. ⌜ (Search.jacobian p z r0 ≡ columnsOf r (rows n m (take (n * m) (now (v .exit))))) × SameFrom (n * m) (now (v .entry)) (now (v .exit)) ⌝ }
 {
     let mut c: usize = 0;
     while c < n {

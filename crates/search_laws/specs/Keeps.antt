@@ -12,7 +12,7 @@ use Rattle.problem.specs.declared.CheckedProblem.{CheckedProblem}
 use Rattle.forward.specs.Runs.{runOf}
 use Rattle.residuals.specs.Residuals.{residualsOf}
 use Rattle.residuals.specs.declared.ResidualVector.{ResidualVector}
-use Rattle.elimination.specs.Elimination.{Solution, Solved, Singular, dampedStep}
+use Rattle.elimination.specs.Elimination.{Solution, Solved, Singular}
 use Rattle.scvx.specs.Search as Search
 use Rattle.scvx.specs.Search.{Columns, Formed, Broken}
 use Rattle.scvx.specs.declared.Status.{Status}
@@ -54,7 +54,7 @@ module _ (p : CheckedProblem) (Q : State → Type 0) (K : Kept p Q) where
 
   stepped-keeps : (s : State) (j : List (List Float)) (r : List Float) → Q s → Q (Search.stepped p s j r)
   unfolding Search.stepped
-  stepped-keeps s j r q = steppedBy-keeps s (dampedStep (Search.numbers p) (Search.width p) j r (s .lambda)) q
+  stepped-keeps s j r q = steppedBy-keeps s (Search.stepOf p j r (s .lambda)) q
 
   linearBy-keeps : (s : State) (r : List Float) (j : Columns) → Q s → Q (Search.linearBy p s r j)
   linearBy-keeps s r (Formed j) q = stepped-keeps (Search.ran s (Search.numbers p)) j r (K .ran s (Search.numbers p) q)

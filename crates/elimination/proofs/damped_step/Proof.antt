@@ -14,31 +14,32 @@ use Rattle.elimination.proofs.damped_step.Statement.{statement}
 use Rattle.elimination.proofs.damped_step.Tie as tie
 
 solve-dense-requires : tie.Need-solve-dense-requires
-solve-dense-requires c κs = let a = c .before .before .before .before .before .before .before .before .before .before .before .before .before .before .args in
+solve-dense-requires c κs =
+    let a = c .before .before .before .before .before .before .before .before .before .before .before .before .args in
     let n : ℕ = length (a .g .now) in
     let o : ℕ = n * a .m in
-    let t = c .before .before .before .before .normal-matrix in
+    let t = c .before .before .before .before .before .before .equations in
     let u : List Float = t .last .0 in
-    let e : length (c .before .before .before .before .before .before .before .before .right-side .last .0) ≡ n = c .before .before .before .before .before .before .before .before .right-side .kept .0 in
-    let l : length (take (length u - o) (drop o u)) ≡ n * n = omega (arith, ap length (tail-part u o), length-drop o u, t .kept .0, c .before .before .before .before .before .before .before .before .before .before .before .before .before .before .pre .2) in
-    (omega (arith, c .before .before .before .before .before .before .before .before .before .before .before .before .before .before .pre .0), l ∙ ap (λ k. k * k) (sym e))
+    let e : length (t .last .1 .1 .1 .1 .0) ≡ n = t .kept .1 .1 .1 .1 .0 in
+    let l : length (take (length u - o) (drop o u)) ≡ n * n = omega (arith, ap length (tail-part u o), length-drop o u, t .kept .0, c .before .before .before .before .before .before .before .before .before .before .before .before .pre .2) in
+    (omega (arith, c .before .before .before .before .before .before .before .before .before .before .before .before .pre .0), l ∙ ap (λ k. k * k) (sym e))
 
 returns : tie.Need-returns
 unfolding Elimination.dampedStep
-returns c = let a = c .before .before .before .before .before .before .before .before .before .before .before .before .before .before .before .before .before .before .before .args in
+returns c =
+    let a = c .before .before .before .before .before .before .before .before .before .before .before .before .before .before .before .before .before .args in
     let n : ℕ = length (a .g .now) in
     let o : ℕ = n * a .m in
     let j : List (List Float) = rows n (a .m) (take o (a .v .now)) in
-    let r = c .before .before .before .before .before .before .before .before .before .before .before .before .before .right-side in
-    let t = c .before .before .before .before .before .before .before .before .before .normal-matrix in
+    let t = c .before .before .before .before .before .before .before .before .before .before .before .equations in
     let s = c .before .before .before .before .solve-dense in
     let u : List Float = t .last .0 in
-    let b : List Float = r .last .0 in (
-      take-at (take o u) (s .last .0 ++ drop (length u - o) (drop o u)) o (length-take-le o u (omega (arith, t .kept .0, c .before .before .before .before .before .before .before .before .before .before .before .before .before .before .before .before .before .before .before .pre .2))) ∙ t .ensures .0,
-      subst (λ k. Elimination.told (s .result) (s .last .1 .0) ≡ Elimination.solveDense k (rows k k (take (length u - o) (drop o u))) b) (r .kept .0) (s .ensures)
+    let b : List Float = t .last .1 .1 .1 .1 .0 in (
+      take-at (take o u) (s .last .0 ++ drop (length u - o) (drop o u)) o (length-take-le o u (omega (arith, t .kept .0, c .before .before .before .before .before .before .before .before .before .before .before .before .before .before .before .before .before .pre .2))) ∙ t .ensures .columns,
+      subst (λ k. Elimination.told (s .result) (s .last .1 .0) ≡ Elimination.solveDense k (rows k k (take (length u - o) (drop o u))) b) (t .kept .1 .1 .1 .1 .0) (s .ensures)
           ∙ ap (λ x. Elimination.solveDense n (rows n n x) b) (tail-part u o)
-          ∙ ap (λ x. Elimination.solveDense n x b) (t .ensures .1)
-          ∙ ap (λ x. Elimination.solveDense n (Normal.normalMatrix n (a .m) j (a .lambda)) x) (r .ensures),
+          ∙ ap (λ x. Elimination.solveDense n x b) (t .ensures .matrix)
+          ∙ ap (λ x. Elimination.solveDense n (Normal.normalMatrix n (a .m) j (a .lambda)) x) (t .ensures .right),
     )
 
 pub damped-step-spec : {M : Type 1} → statement M
@@ -46,9 +47,6 @@ damped-step-spec =
     tie.close
     (tie.spec
     (λ c. search needs)
-    (λ c. search needs)
-    (λ c. sym (length-take-le _ _ (omega arith)))
-    (λ c κs. (omega arith, length-take-le _ _ (omega arith)))
     (λ c κs. search needs)
     (λ c. search needs)
     (λ c. search needs)

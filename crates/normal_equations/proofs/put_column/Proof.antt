@@ -1,48 +1,55 @@
 -- `normal_equations::put_column` meets its contract. Assumes nothing.
+use Prim.Native.Nat.{ℕ, _+_, _*_, _≤_}
+use mathlib.Core.Path.{_≡_, refl, ap, sym, subst, _∙_}
+use mathlib.Core.Logic.{⊎-elim}
 use mathlib.Core.List.{List}
-use lib.Ieee.{Float, binary64, sub, div, ofBits}
-use Rattle.normal_equations.specs.Normal as Normal
-use Rattle.normal_equations.specs.Filled.{Filled, filled-none, filled-set, filled-all}
-use Rattle.common.specs.Lists.{at}
-use lib.ListN.{length, length-set}
-use mathlib.Core.Path.{_≡_, refl}
-use Prim.Native.Nat.{_-_, _≤_}
+use lib.ListN.{length}
+use lib.Ieee.{Float}
+use Rattle.common.specs.Lists.{pasted}
+use Rattle.normal_equations.specs.Tab.{length-tab}
+use Rattle.normal_equations.specs.Normal.{slopes}
+use Rattle.normal_equations.specs.NormalLaws.{part-length}
+use Rattle.normal_equations.specs.Rows.{row-same, row-other, length-row-put, at-pasted-before, at-pasted-after}
+use Rattle.normal_equations.specs.Placed.{ColumnPut}
 use native.Mathlib.Omega.{arith}
+use borrow.Author.Needs.{needs}
 use Rattle.normal_equations.proofs.put_column.Statement.{statement}
 use Rattle.normal_equations.proofs.put_column.Tie as tie
 
-abbrev Inv-loop : tie.InvT-loop
-Inv-loop column₀ rp r0 i₀ column i = (i ≤ length column₀) × (length column ≡ length column₀) × (Filled (λ x. div binary64 (sub binary64 (at rp x) (at r0 x)) (ofBits binary64 0x3EB0_C6F7_A0B5_ED8D)) 0 i (at column₀) (at column))
+-- a part that comes back as column c
+column-put : (m c : ℕ) (x v : List Float) → c * m + m ≤ length v → length x ≡ m → ColumnPut m c x v (pasted v (c * m) (c * m + m) x)
+column-put m c x v room whole =
+    record {
+      size = length-row-put m v x c room whole;
+      own = row-same m v x c room whole;
+      others = row-other m v x c room whole;
+      outside = λ i h. ⊎-elim (λ b. at-pasted-before v x (c * m) (c * m + m) i b (omega arith)) (λ b. at-pasted-after v x (c * m) (c * m + m) i (omega arith) room (omega arith) b) h;
+    }
 
-abbrev μ-loop : tie.MeasureT-loop
-μ-loop column₀ rp r0 i₀ column i = length column₀ - i
+put-slopes-requires : tie.Need-put-slopes-requires
+put-slopes-requires c κs =
+    let a = c .before .before .args in
+    let l = part-length (a .m) (a .v .now) (a .c) (a .c * a .m) (a .c * a .m + a .m) refl refl (omega arith) in
+    omega arith
 
-loop-again : tie.Need-loop-again Inv-loop μ-loop
-loop-again c = let l = c .before .before .before .loop in
-    (omega arith, simp length-set (omega arith), filled-set _ 0 (l .i) (c .before .before .before .before .args .column .now) (l .column) _ (omega arith) (omega arith) (l .inv .2) refl)
-
-returns : tie.Need-returns Inv-loop μ-loop
-unfolding Normal.slopes
-returns c = let l = c .before .loop in
-    let v : List Float = c .before .before .args .column .now in
-    let e : l .i ≡ length v = omega arith in
-    filled-all _ 0 v (l .column) (l .inv .1) (rw e at (l .inv .2)) (λ x h. absurd (omega arith))
+returns : tie.Need-returns
+unfolding slopes
+returns c =
+    let a = c .before .before .before .before .before .args in
+    let l = part-length (a .m) (a .v .now) (a .c) (a .c * a .m) (a .c * a .m + a .m) refl refl (omega arith) in
+    let put = c .before .before .put-slopes .ensures ∙ ap (λ k. slopes k (a .rp .now) (a .r0 .now)) l in
+    subst (λ x. ColumnPut (a .m) (a .c) (slopes (a .m) (a .rp .now) (a .r0 .now)) (a .v .now) (pasted (a .v .now) (a .c * a .m) (a .c * a .m + a .m) x)) (sym put) (column-put (a .m) (a .c) (slopes (a .m) (a .rp .now) (a .r0 .now)) (a .v .now) (omega arith) (length-tab (a .m) _))
 
 pub put-column-spec : {M : Type 1} → statement M
 put-column-spec =
     tie.close
     (tie.spec
-    Inv-loop
-    μ-loop
-    (λ c. (omega arith, refl, filled-none _ _ _))
-    (λ c. omega arith)
-    (λ c. omega arith)
-    (λ c. omega arith)
-    (λ c. omega arith)
-    (λ c. omega arith)
-    (λ c. omega arith)
-    (λ c. omega arith)
-    (λ c. omega arith)
-    loop-again
-    (λ c. omega arith)
+    (λ c. search needs)
+    (λ c. search needs)
+    (λ c. search needs)
+    (λ c. search needs)
+    (λ c. search needs)
+    (λ c. search needs)
+    put-slopes-requires
+    (λ c. search needs)
     returns)

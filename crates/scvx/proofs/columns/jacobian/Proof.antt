@@ -1,22 +1,23 @@
 -- `scvx::columns::jacobian` meets its contract. Assumes nothing.
 use Prim.Native.Nat.{_+_, _*_, _-_, _≤_}
-use mathlib.Core.Path.{_≡_, sym, _∙_}
+use mathlib.Core.Path.{_≡_, refl, sym, _∙_}
 use lib.ListN.{length}
 use Rattle.common.specs.Iter.{row-end}
-use Rattle.scvx.specs.ColumnLaws.{Front, front-none, front-next, front-broken, front-whole}
+use Rattle.scvx.specs.Stands.{SameFrom}
+use Rattle.scvx.specs.ColumnLaws.{Front, front-none, front-next, front-broken, front-whole, left-length, left-past}
 use native.Mathlib.Omega.{arith}
 use borrow.Author.Needs.{needs}
 use Rattle.scvx.proofs.columns.jacobian.Statement.{statement}
 use Rattle.scvx.proofs.columns.jacobian.Tie as tie
 
 abbrev Inv-loop : tie.InvT-loop
-Inv-loop p v₀ n m z r0 c₀ v c = (c ≤ n) × ((length v ≡ length v₀) × Front p m z r0 c v)
+Inv-loop p v₀ n m z r0 c₀ v c = (c ≤ n) × ((length v ≡ length v₀) × (Front p m z r0 c v × SameFrom (n * m) v₀ v))
 
 abbrev μ-loop : tie.MeasureT-loop
 μ-loop p v₀ n m z r0 c₀ v c = n - c
 
 loop-holds : tie.Need-loop-holds Inv-loop μ-loop
-loop-holds c = (search needs, (search needs, front-none _ _ _ _ _))
+loop-holds c = (search needs, (search needs, (front-none _ _ _ _ _, λ i h. refl)))
 
 column-requires : tie.Need-column-requires Inv-loop μ-loop
 column-requires c κs =
@@ -30,23 +31,28 @@ returns c =
     let a = c .before .before .before .before .before .before .before .before .before .before .args in
     let s = c .before .before .before .before .before .before .before .before .before .before .pre in
     let l = c .before .before .before .before .before .before .before .before .loop in
-    front-broken (a .p) (a .m) (a .z) (a .r0) (l .c) (l .v) (l .inv .1 .1) (s .m-is) (omega (arith, s .n-is)) (sym (c .before .before .before .before .before .column .ensures .0) ∙ c .before .fate .given .1)
+    let t = c .before .before .before .before .before .column in
+    let past = left-past (a .p) (a .m) (a .z) (a .r0) (l .c) (l .v) (l .inv .1 .1 .0) (t .last .1 .0) (t .result) (t .ensures .1) (a .n * a .m) (row-end (l .c) (a .n) (a .m) (omega arith)) in
+    (front-broken (a .p) (a .m) (a .z) (a .r0) (l .c) (l .v) (l .inv .1 .1 .0) (s .m-is) (omega (arith, s .n-is)) (sym (t .ensures .0) ∙ c .before .fate .given .1), λ i h. past i h ∙ l .inv .1 .1 .1 i h)
 
 loop-again : tie.Need-loop-again Inv-loop μ-loop
 loop-again c =
     let a = c .before .before .before .before .before .before .before .before .before .args in
     let l = c .before .before .before .before .before .before .before .loop in
-    let t = c .before .before .before .before .column .ensures in
-    let room : l .c * a .m + a .m ≤ length (l .v) = omega (arith, row-end (l .c) (a .n) (a .m) (omega arith), c .before .before .before .before .before .before .before .before .before .pre .fits, l .inv .1 .0) in
-    let next = front-next (a .p) (a .m) (a .z) (a .r0) (l .c) (l .v) (l .inv .1 .1) room (t .0) (c .enum-told .given .1) (t .1) in
-    (search needs, (next .0 ∙ l .inv .1 .0, next .1))
+    let t = c .before .before .before .before .column in
+    let u = t .last .1 .0 in
+    let size = left-length (a .p) (a .m) (a .z) (a .r0) (l .c) (l .v) (l .inv .1 .1 .0) u (t .result) (t .ensures .1) in
+    let next = front-next (a .p) (a .m) (a .z) (a .r0) (l .c) (l .v) (l .inv .1 .1 .0) u (t .ensures .0) (c .enum-told .given .1) (t .ensures .1) in
+    let past = left-past (a .p) (a .m) (a .z) (a .r0) (l .c) (l .v) (l .inv .1 .1 .0) u (t .result) (t .ensures .1) (a .n * a .m) (row-end (l .c) (a .n) (a .m) (omega arith)) in
+    (search needs, (size ∙ l .inv .1 .0, (next, λ i h. past i h ∙ l .inv .1 .1 .1 i h)))
 
 returns-2 : tie.Need-returns-2 Inv-loop μ-loop
 returns-2 c =
     let a = c .before .before .before .args in
+    let s = c .before .before .before .pre in
     let l = c .before .loop in
     let e : l .c ≡ a .n = omega arith in
-    front-whole (a .p) (a .m) (a .z) (a .r0) (a .n) (l .v) (c .before .before .before .pre .n-is) (c .before .before .before .pre .m-is) (omega (arith, c .before .before .before .pre .fits, l .inv .1 .0)) (rw e at (l .inv .1 .1))
+    (front-whole (a .p) (a .m) (a .z) (a .r0) (a .n) (l .v) (s .n-is) (s .m-is) (omega (arith, s .fits, l .inv .1 .0)) (rw e at (l .inv .1 .1 .0)), l .inv .1 .1 .1)
 
 pub jacobian-spec : {M : Type 1} → statement M
 jacobian-spec =

@@ -11,7 +11,7 @@ use Rattle.scvx.proofs.steps.formed.Tie as tie
 
 ran-requires : tie.Need-ran-requires
 ran-requires c κs =
-    let b = broken-le _ _ _ (rw (c .before .j .given .1) at (c .before .before .before .before .before .jacobian .ensures)) in
+    let b = broken-le _ _ _ (rw (c .before .j .given .1) at (c .before .before .before .before .before .jacobian .ensures .0)) in
     omega (arith, c .before .before .before .before .before .before .before .before .before .before .before .before .pre .0 .n-is, c .before .before .before .before .before .before .before .before .before .before .before .before .pre .0 .n-most, c .before .before .before .before .before .before .before .before .before .before .before .before .pre .1 .0)
 
 stepped-requires : tie.Need-stepped-requires
@@ -21,13 +21,13 @@ stepped-requires c κs =
 
 returns : tie.Need-returns
 returns c =
-    let e = rw (c .before .before .before .j .given .1) at (c .before .before .before .before .before .before .before .jacobian .ensures) in
+    let e = rw (c .before .before .before .j .given .1) at (c .before .before .before .before .before .before .before .jacobian .ensures .0) in
     (rw (c .ended .ensures, c .before .ran .ensures) (linear-broken _ _ _ e), rw (c .ended .ensures, c .before .ran .ensures) (stands-broken (c .before .before .before .before .before .before .before .before .before .before .before .before .before .before .pre .1 .1)))
 
 returns-2 : tie.Need-returns-2
 returns-2 c =
     let a = c .before .before .before .before .before .before .before .before .before .before .before .before .before .before .before .before .args in
-    let e = rw (c .before .before .before .before .before .enum-told .given .1) at (c .before .before .before .before .before .before .before .before .before .jacobian .ensures) in
+    let e = rw (c .before .before .before .before .before .enum-told .given .1) at (c .before .before .before .before .before .before .before .before .before .jacobian .ensures .0) in
     let t = c .before .before .stepped .ensures in (
       (rw (c .before .before .before .before .ran2 .ensures) at (t .0)) ∙ linear-formed (a .p) (a .g .state) (a .g .r) (c .before .before .before .before .before .before .before .before .before .before .before .before .before .before .before .before .pre .0 .n-is) e,
       rw (t .1 .1) (t .1 .0 _ (rw (c .before .before .before .before .ran2 .ensures) (stands-formed (c .before .before .before .before .before .before .before .before .before .before .before .before .before .before .before .before .pre .1 .1) e))),
