@@ -1,5 +1,6 @@
 /* The slew planner, as a controller calls it from C or C++ on x86-64. Link target/staticlib/libexport.a, which `rt staticlib export` writes;
- * the functions below "Rooms with moving air" are in libexport_tools.a, which `rt staticlib export_tools` writes.
+ * the functions below "Rooms with moving air" are in libexport_tools.a, which `rt staticlib export_tools` writes, those below "Whole numbers for the drive board" in
+ * libexport_board.a, which `rt staticlib export_board` writes.
  *
  * Every function here is proved to answer what the definitions say, for every value of its arguments, NaN and infinities included, and to end. Nothing is
  * allocated, nothing is kept between calls, nothing is read or written but what is lent: calls from several threads need only different buffers.
@@ -8,7 +9,7 @@
  * overlaps nothing else that is lent; floats round to nearest and subnormals are kept, as in every program that has not changed this; the thread has
  * 256 kB of stack (over the examples a call used up to 107 kB).
  *
- * A refusal is its number of 1 to 21, 25, 27 or 28, with a place and the forward runs begun (README.md, "Refusals"); 0 is no refusal. */
+ * A refusal is its number of 1 to 21, 24, 25, 27 or 28, with a place and the forward runs begun (README.md, "Refusals"); 0 is no refusal. */
 #ifndef SLEW_H
 #define SLEW_H
 
@@ -105,6 +106,32 @@ size_t slew_sample_count(double duration, size_t requested, double alpha, size_t
 size_t slew_sample_path(const double inertia[9], double tolerance, double duration, const double nodes[374],
                         size_t requested, double alpha, size_t index,
                         double sample[14], size_t *place);
+
+/* Whole numbers for the drive board: 32-bit signed numbers of a fixed unit, in libexport_board.a.
+ *
+ * An attitude's parts count units of 2^-30; rates (rad/s), torques (N m) and momenta (N m s) count coarse units, 2^-20. A part is rounded to the nearest number, a tie to the even
+ * one, so it is at most half a unit off; -0.0 is 0. Refusal 24: a part is not finite, or its number is outside -2^31 to 2^31 - 1 (a rate, torque or momentum of 2,048 or more). */
+#define SLEW_COARSE true
+#define SLEW_FINE false
+
+/* A part's number. Returns 0, or 24, and then `number` is 0. */
+size_t slew_board_part(double part, bool coarse, int32_t *number);
+
+/* The float that a number stands for, exactly. slew_board_part gives the number again, for every one of the 2^32. */
+double slew_board_read(int32_t number, bool coarse);
+
+/* Dense sample number `index` of a path, as slew_sample_path gives it, in the drive board's numbers: attitude (0 to 3), rate (4 to 6), torque (7 to 9), body momentum (10 to 12); the
+ * time is left out. Returns 0, or a refusal's number: 20, 5 and 11 as there, then 24 at the sample. Beside a refusal the numbers are zeros. `place` gets the refusal's place, or 0. */
+size_t slew_board_sample(const double inertia[9], double tolerance, double duration, const double nodes[374],
+                         size_t requested, double alpha, size_t index,
+                         int32_t numbers[13], size_t *place);
+
+/* The whole list: a row for each sample, the first slew_sample_count of `rows`. `written` gets how many rows were written; what stands behind them stays. Returns 0; or the number of
+ * the first sample that is refused, and the rows before it are written; or 20 for too many samples. `place` gets the refusal's place, or 0. Fewer rows lent than there are samples
+ * get nothing: 99 is returned. */
+size_t slew_board_list(const double inertia[9], double tolerance, double duration, const double nodes[374],
+                       size_t requested, double alpha,
+                       int32_t (*rows)[13], size_t rows_count, size_t *written, size_t *place);
 
 /* Below: functions that stand beside a plan. Link target/staticlib/libexport_tools.a, which `rt staticlib export_tools` writes. */
 

@@ -150,7 +150,7 @@ class Answers(unittest.TestCase):
         self.assertRaises(slewtext.Fault, slewtext.read_path, "")
 
     def test_every_refusal_has_a_sentence(self):
-        for number in (*range(1, 22), 25, 27, 28):
+        for number in (*range(1, 22), 24, 25, 27, 28):
             for place in (0, 1, 2, 9, 16, 20):
                 said = slewtext.explain(f"(refused\n (number {number})\n (place {place})\n (runs 5))\n")
                 self.assertTrue(said.startswith(f"Refusal {number}, place {place}, after 5 forward runs. ") and said.endswith(".\n"))
@@ -158,6 +158,45 @@ class Answers(unittest.TestCase):
 
     def test_a_path_is_explained(self):
         self.assertEqual(slewtext.explain(path_text()), "A path of 1 s, found in 1 iterations and 3 forward runs.\n")
+
+
+class Board(unittest.TestCase):
+    ROW = "1073741824 0 -1 1 " + " ".join(["1048576", "-524288", "0"] * 3)
+    WHOLE = f"(board\n (sample {ROW})\n (sample {ROW}))\n"
+    REFUSED = "(refused\n (number 24)\n (place 1)\n (runs 0))\n"
+
+    def test_numbers_in_units(self):
+        lines = slewtext.csv(slewtext.NODE[1:], slewtext.read_board(self.WHOLE)).splitlines()
+        self.assertEqual(lines[0].split(",")[0], "qw")
+        self.assertEqual(lines[1:], [",".join(["1.0", "0.0", repr(-(2.0 ** -30)), repr(2.0 ** -30)] + ["1.0", "-0.5", "0.0"] * 3)] * 2)
+
+    def test_the_ends_of_the_range_are_exact(self):
+        row = "(board\n (sample " + " ".join(["-2147483648", "2147483647"] * 6 + ["-2147483648"]) + "))\n"
+        found = slewtext.read_board(row)[0]
+        self.assertEqual(found[:2] + found[4:6], [-2.0, 2.0 - 2.0 ** -30, -2048.0, 2048.0 - 2.0 ** -20])
+
+    def test_stored_numbers_are_those_of_the_stored_samples(self):
+        folder = os.path.join(os.path.dirname(TOOL), "..", "crates")
+        with open(os.path.join(folder, "board_samples", "stdout"), encoding="ascii") as file:
+            board = slewtext.read_board(file.read())
+        with open(os.path.join(folder, "slew_samples", "stdout"), encoding="ascii") as file:
+            samples = slewtext.read_samples(file.read())
+        self.assertEqual(len(board), len(samples))
+        for row, sample in zip(board, samples):
+            for k, (x, y) in enumerate(zip(row, sample[1:])):
+                unit = 2.0 ** (-30 if k < 4 else -20)
+                self.assertEqual(x, round(y / unit) * unit)
+
+    def test_bad_lists_get_a_sentence(self):
+        bad = (
+            self.REFUSED, f"(board\n (sample {self.ROW})\n" + self.REFUSED, self.REFUSED.replace("24", "x"), self.REFUSED.replace(" 24", ""), f"(board\n (sample {self.ROW})\n", self.WHOLE.replace(" 0", "", 1), "(samples)\n", "", "(board)\n",
+            self.WHOLE.replace("1073741824", "3FF", 1), self.WHOLE.replace("1073741824", "2147483648", 1), self.WHOLE.replace("1073741824", "--1", 1), self.WHOLE.replace("(sample", "(Sample", 1),
+        )
+        for text in bad:
+            made = run("board", "-", text=text)
+            self.assertEqual((made.returncode, made.stdout, made.stderr.count("\n")), (1, "", 1), text)
+            self.assertTrue(made.stderr.startswith("slewtext: ") and made.stderr.endswith(".\n"), made.stderr)
+        self.assertIn("must be below 2,048 in size", run("board", "-", text=bad[1]).stderr)
 
 
 class Planes(unittest.TestCase):

@@ -1,8 +1,11 @@
-// Program `slew_samples`: prints the dense samples of the problem whose text stands on standard input, one a line. The argument is the number of samples asked for, 17
-// where there is none; a path has more where its rate asks for more. A refusal is printed in the place of the samples that are left, with a sentence on standard
-// error. A program of this language has no exit status: a bad argument shows by its sentence, and by nothing on standard output.
+// Program `slew_samples`: prints the dense samples of the problem whose text stands on standard input, one a line. The first argument is the number of samples asked for, 17
+// where there is none; a path has more where its rate asks for more. A second argument, the word `board`, asks for the drive board's whole numbers. A refusal is printed in the place of the samples that are left, with a sentence on standard
+// error. A program of this language has no exit status: bad arguments show by their sentence, and by nothing on standard output.
 ghost use mathlib.Core.Path.{_≡_};
+ghost use Prim.Native.Nat.{_≤_};
+ghost use lib.ListN.{length};
 ghost use Rattle.sample_text.specs.SampleTexts as SampleTexts;
+use board_text::write_numbers;
 use libc::STDERR_FILENO;
 use libc::STDIN_FILENO;
 use libc::STDOUT_FILENO;
@@ -20,23 +23,44 @@ pub fn course(text: &[u8]) -> Course
     plan_course(text, &mut ws)
 }
 
+// A step's first bytes to standard output, its sentence's to standard error.
+fn show(out: &[u8], bytes: usize, said: &[u8], told: usize)
+    requires { ⌜ (bytes ≤ length (now out)) × (told ≤ length (now said)) ⌝ }
+{
+    io::write_all(STDOUT_FILENO, &out[..bytes]);
+    io::write_all(STDERR_FILENO, &said[..told]);
+}
+
 // Prints one sample, and answers whether another follows.
-fn print_step(c: Course, requested: usize, index: usize) -> bool {
+fn print_sample(c: Course, requested: usize, index: usize) -> bool {
     let mut out = [0u8; 272];
     let mut said = [0u8; 212];
     let line = write_step(c, requested, c.alpha, index, &mut out, &mut said);
-    let bytes = line.bytes;
-    io::write_all(STDOUT_FILENO, &out[..bytes]);
-    let told = line.said;
-    io::write_all(STDERR_FILENO, &said[..told]);
+    show(&out, line.bytes, &said, line.said);
     line.more
 }
 
+// The same in the drive board's numbers.
+fn print_numbers(c: Course, requested: usize, index: usize) -> bool {
+    let mut out = [0u8; 320];
+    let mut said = [0u8; 212];
+    let line = write_numbers(c, requested, c.alpha, index, &mut out, &mut said);
+    show(&out, line.bytes, &said, line.said);
+    line.more
+}
+
+fn print_step(board: bool, c: Course, requested: usize, index: usize) -> bool {
+    if board {
+        return print_numbers(c, requested, index);
+    }
+    print_sample(c, requested, index)
+}
+
 // No path has more than 100,000 samples.
-fn print_steps(c: Course, requested: usize) {
+fn print_steps(board: bool, c: Course, requested: usize) {
     let mut index: usize = 0;
     while index < 100_000 {
-        if !print_step(c, requested, index) {
+        if !print_step(board, c, requested, index) {
             return;
         }
         index += 1;
@@ -44,20 +68,34 @@ fn print_steps(c: Course, requested: usize) {
 }
 
 // A text longer than 4,096 bytes is refused, so one byte more is all that is looked at.
-fn print_samples(requested: usize) {
+fn print_samples(board: bool, requested: usize) {
     let mut text = [0u8; 4097];
     let length = io::read_full(STDIN_FILENO, &mut text);
     let c = course(&text[..length]);
-    print_steps(c, requested);
+    print_steps(board, c, requested);
+}
+
+// Whether argument number 2 is the word `board`.
+fn asks_board() -> bool {
+    let mut word = [0u8; 64];
+    let length = os::arg(2, &mut word);
+    length == 5
+        && word[0] == b'b'
+        && word[1] == b'o'
+        && word[2] == b'a'
+        && word[3] == b'r'
+        && word[4] == b'd'
 }
 
 // The number of samples asked for. The first of the program's arguments is its own name.
-fn asked() -> Requested {
-    let given = os::arg_count();
+fn asked(given: usize) -> Requested {
     if given < 2 {
         return Requested::Of(17);
     }
-    if given > 2 {
+    if given > 3 {
+        return Requested::Not;
+    }
+    if given == 3 && !asks_board() {
         return Requested::Not;
     }
     let mut word = [0u8; 64];
@@ -66,13 +104,14 @@ fn asked() -> Requested {
 }
 
 pub fn run() {
-    let request = asked();
+    let given = os::arg_count();
+    let request = asked(given);
     match request {
-        Requested::Of(requested) => print_samples(requested),
+        Requested::Of(requested) => print_samples(given == 3, requested),
         Requested::Not => {
             io::write_all(
                 STDERR_FILENO,
-                b"slew_samples takes one argument at most, the number of samples in decimal digits.\n",
+                b"slew_samples takes the number of samples in decimal digits, and behind it the word board for the drive board's numbers.\n",
             );
         }
     }

@@ -284,6 +284,12 @@ fn later(number: usize, place: usize, out: &mut [u8]) -> usize
     ensures { λ r. ⌜ Puts (now (out .entry)) 0 (Sentences.later number place) 212 (now (out .exit)) r ⌝ }
 {
     match number {
+        24 => tell(
+            out,
+            b"Sample ",
+            place,
+            b": a part does not fit the drive board's 32 bits: rates, torques and momenta must be below 2,048 in size.\n",
+        ),
         25 => put_all(
             out,
             0,

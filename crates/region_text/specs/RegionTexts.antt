@@ -1,12 +1,12 @@
 -- What is printed of the room's game, byte for byte. Definitions only.
-use Prim.Native.Nat.{ℕ, suc, _+_, _*_}
+use Prim.Native.Nat.{ℕ, _+_, _*_}
 use mathlib.Core.List.{List, [], _++_}
-use lib.IntN.{ℤ, pos, negsuc, subℕ}
+use lib.IntN.{ℤ, subℕ}
 use lib.ListN.{getD}
 use Rattle.common.specs.Answer.{Answer, Given, Refused}
 use Rattle.text.specs.Bytes.{bytes}
 use Rattle.text_writer.specs.Puts.{Puts}
-use Rattle.text_writer.specs.Texts.{times, digits, counted, refused}
+use Rattle.text_writer.specs.Texts.{times, digits, whole, counted, refused}
 use Rattle.refusal_text.specs.Sentences.{explain}
 use Rattle.reach_avoid.specs.Answers.{ofStart, ofReply}
 use Rattle.reach_avoid.specs.declared.StartOutcome.{StartOutcome}
@@ -14,11 +14,6 @@ use Rattle.reach_avoid.specs.declared.StartOutcome.the-variants as StartOutcome
 use Rattle.reach_avoid.specs.declared.DraughtReply.{DraughtReply}
 use Rattle.reach_avoid.specs.declared.DraughtReply.the-variants as DraughtReply
 use Rattle.region_text.specs.declared.Printed.{Printed}
-
--- a whole number in decimal, a minus before it where it is below 0
-abbrev pub whole : ℤ → List ℕ
-whole (pos n) = digits 20 n
-whole (negsuc n) = bytes "-" ++ digits 20 (suc n)
 
 -- ---- a start and a reply
 

@@ -1,31 +1,21 @@
--- Laws of the texts: a difference in decimal, a choice, small words, what is printed of an answer. Assumes nothing.
+-- Laws of the texts: a choice, small words, what is printed of an answer. Assumes nothing.
 use Prim.Native.Nat.{ℕ, zero, suc, _-_, _<_, _≤_}
 use native.Mathlib.Omega.{arith}
-use mathlib.Core.Path.{_≡_, refl, ap}
+use mathlib.Core.Path.{_≡_, refl}
 use mathlib.Core.Bool.{Bool, true, false, cond}
-use mathlib.Core.List.{List, [], _++_}
+use mathlib.Core.List.{List, []}
 use lib.Dec.{ltb}
 use lib.IntN.{ℤ, pos, negsuc, natAbs, subℕ, _+ℤ_, _-ℤ_}
 use borrow.Author.Tests.{ltb-true}
 use mir.Syntax.{w64}
 use mir.Val.{SFits, toZ}
 use mir.Facts.{toZ-ofZ}
-use Rattle.text.specs.Bytes.{bytes}
 use Rattle.text_writer.specs.Puts.{Puts}
 use Rattle.text_writer.specs.PutLaws.{puts-none, puts-most}
-use Rattle.text_writer.specs.Texts.{digits}
 use Rattle.reach_avoid.specs.Room.{within}
 use Rattle.reach_avoid.specs.WholeLaws.{is-one, sub-is, within-is, within-of, within-in}
-use Rattle.region_text.specs.RegionTexts.{whole, Prints}
+use Rattle.region_text.specs.RegionTexts.{Prints}
 use Rattle.region_text.specs.Words.{clipped}
-
--- x - m, by which of the two is larger
-pub whole-less : (x m : ℕ) → whole (subℕ x m) ≡ cond (ltb x m) (bytes "-" ++ digits 20 (m - x)) (digits 20 (x - m))
-whole-less x m = by (ltb x m) refl
-  where
-    by : (b : Bool) → ltb x m ≡ b → whole (cond b (negsuc (m - suc x)) (pos (x - m))) ≡ cond b (bytes "-" ++ digits 20 (m - x)) (digits 20 (x - m))
-    by true e = let h : x < m = ltb-true x m e in let k : suc (m - suc x) ≡ m - x = omega arith in ap (λ n. bytes "-" ++ digits 20 n) k
-    by false e = refl
 
 -- a choice by its count from -2
 pub choice-less : (u : ℤ) → within 2 u ≡ true → u ≡ subℕ (natAbs (u +ℤ pos 2)) 2

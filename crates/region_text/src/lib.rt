@@ -2,10 +2,9 @@
 ghost use mathlib.Core.Path.{_≡_};
 ghost use mathlib.Core.Bool.{true};
 ghost use Prim.Native.Nat.{_*_, _≤_, _<_, _^_};
-ghost use lib.IntN.{subℕ};
 ghost use Rattle.reach_avoid.specs.Room as Room;
 ghost use Rattle.text_writer.specs.Puts.{Puts};
-ghost use Rattle.text_writer.specs.Texts.{times, refused};
+ghost use Rattle.text_writer.specs.Texts.{times, refused, whole};
 ghost use Rattle.refusal_text.specs.Sentences as Sentences;
 ghost use Rattle.region_text.specs.RegionTexts as RegionTexts;
 ghost use Rattle.region_text.specs.RegionTexts.{Prints};
@@ -19,6 +18,7 @@ use text_writer::forms::put_counted;
 use text_writer::put::put_all;
 use text_writer::put::put_byte;
 use text_writer::put::put_digits;
+use text_writer::put::put_less;
 use text_writer::write_refused;
 
 pub mod words;
@@ -29,22 +29,10 @@ pub struct Printed {
     pub said: usize,
 }
 
-// x - m in decimal.
-fn put_less(b: &mut [u8], at: usize, x: usize, m: usize) -> usize
-    requires { ⌜ at < 2 ^ 29 ⌝ }
-    ensures { λ r. ⌜ Puts (now (b .entry)) at (RegionTexts.whole (subℕ x m)) 21 (now (b .exit)) r ⌝ }
-{
-    if x < m {
-        let i = put_byte(b, at, b'-');
-        return put_digits(b, i, 20, m - x);
-    }
-    put_digits(b, at, 20, x - m)
-}
-
 // A choice in decimal.
 fn put_choice(b: &mut [u8], at: usize, u: i64) -> usize
     requires { ⌜ (at < 2 ^ 29) × (Room.within 2 u ≡ true) ⌝ }
-    ensures { λ r. ⌜ Puts (now (b .entry)) at (RegionTexts.whole u) 21 (now (b .exit)) r ⌝ }
+    ensures { λ r. ⌜ Puts (now (b .entry)) at (whole u) 21 (now (b .exit)) r ⌝ }
 {
     put_less(b, at, (u + 2) as usize, 2)
 }

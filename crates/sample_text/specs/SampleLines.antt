@@ -39,24 +39,29 @@ closing last = cond last (bytes "))\n") (bytes ")\n")
 unfoldable pub sampleLine : ℕ → Bool → PathSample → List ℕ
 sampleLine index last s = opening index ++ Texts.words (numbers s) 0 14 ++ closing last
 
--- ---- a step: what goes to standard output and to standard error, and whether another step follows
-abbrev pub lineBy : Answer PathSample → ℕ → Bool → List ℕ
-lineBy (Given s) index last = sampleLine index last s
-lineBy (Refused number place runs) index last = Texts.refused number place runs
+-- ---- a step of any list: what goes to standard output and to standard error, and whether another step follows
+abbrev pub lineBy : {A : Type 0} → (A → List ℕ) → Answer A → List ℕ
+lineBy form (Given a) = form a
+lineBy form (Refused number place runs) = Texts.refused number place runs
 
-abbrev pub sentenceBy : Answer PathSample → List ℕ
-sentenceBy (Given s) = []
+abbrev pub sentenceBy : {A : Type 0} → Answer A → List ℕ
+sentenceBy (Given a) = []
 sentenceBy (Refused number place runs) = Sentences.explain number place
 
-abbrev pub moreBy : Answer PathSample → Bool → Bool
-moreBy (Given s) last = not last
+abbrev pub moreBy : {A : Type 0} → Answer A → Bool → Bool
+moreBy (Given a) last = not last
 moreBy (Refused number place runs) last = false
 
--- both texts are put into lent buffers as far as these reach
-pub record Steps (a : Answer PathSample) (index : ℕ) (last : Bool) (out said : List ℕ) (r : Line) (out′ said′ : List ℕ) : Type 0 where
-  pub prints : Puts out 0 (lineBy a index last) 272 out′ (r .bytes)
-  pub says : Puts said 0 (sentenceBy a) 212 said′ (r .said)
-  pub goes : r .more ≡ moreBy a last
+-- both texts are put into lent buffers as far as these reach; the line has at most so many bytes
+pub record Prints (line : List ℕ) (most : ℕ) (sentence : List ℕ) (more : Bool) (out said : List ℕ) (r : Line) (out′ said′ : List ℕ) : Type 0 where
+  pub prints : Puts out 0 line most out′ (r .bytes)
+  pub says : Puts said 0 sentence 212 said′ (r .said)
+  pub goes : r .more ≡ more
 
+abbrev pub Steps : {A : Type 0} → (A → List ℕ) → ℕ → Answer A → Bool → List ℕ → List ℕ → Line → List ℕ → List ℕ → Type 0
+Steps form most a last = Prints (lineBy form a) most (sentenceBy a) (moreBy a last)
+
+-- ---- the step of sample number index
 abbrev pub StepsAt : Course → ℕ → Float → ℕ → List ℕ → List ℕ → Line → List ℕ → List ℕ → Type 0
-StepsAt c requested alpha index = Steps (answer (sampleCourse c requested alpha index)) index (isLast (c .duration) requested alpha index)
+StepsAt c requested alpha index =
+    let last = isLast (c .duration) requested alpha index in Steps (sampleLine index last) 272 (answer (sampleCourse c requested alpha index)) last

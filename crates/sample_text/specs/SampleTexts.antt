@@ -62,9 +62,9 @@ unfoldable pub sampleCourse : Course → ℕ → Float → ℕ → Dense
 sampleCourse c requested alpha index = denseBy (c .fate) (c .runs) (sampleOf c requested alpha index)
 
 -- ---- document 01's answer
-abbrev pub answerBy : Fate → ℕ → PathSample → Answer PathSample
-answerBy Fate.Going runs s = Given s
-answerBy (Fate.Refused number place) runs s = Refused number place runs
+abbrev pub answerBy : {A : Type 0} → Fate → ℕ → A → Answer A
+answerBy Fate.Going runs a = Given a
+answerBy (Fate.Refused number place) runs a = Refused number place runs
 
 unfoldable pub answer : Dense → Answer PathSample
 answer d = answerBy (d .sampled .fate) (d .runs) (d .sampled .sample)

@@ -1,12 +1,13 @@
 // What is printed of a text's dense samples, one step a sample: its line, or a refusal and what it means.
 ghost use mathlib.Core.Path.{_≡_};
-ghost use mathlib.Core.Bool.{true, cond};
+ghost use mathlib.Core.Bool.{false, cond};
 ghost use Prim.Native.Nat.{_<_, _≤_, _^_};
 ghost use lib.ListN.{length};
-ghost use Rattle.common.specs.Answer as Answer;
+ghost use Rattle.refusal_text.specs.Sentences as Sentences;
 ghost use Rattle.text_writer.specs.Puts.{Puts};
+ghost use Rattle.text_writer.specs.Texts as Texts;
 ghost use Rattle.sample_text.specs.SampleLines as SampleLines;
-ghost use Rattle.sample_text.specs.SampleLines.{Steps, StepsAt};
+ghost use Rattle.sample_text.specs.SampleLines.{Prints, StepsAt};
 use super::Course;
 use super::numbers_of;
 use super::sample_course;
@@ -27,7 +28,7 @@ pub struct Line {
 }
 
 // Whether a sample is the path's last.
-fn is_last(duration: f64, requested: usize, alpha: f64, index: usize) -> bool
+pub fn is_last(duration: f64, requested: usize, alpha: f64, index: usize) -> bool
     ensures { λ r. ⌜ r ≡ SampleLines.isLast duration requested alpha index ⌝ }
 {
     let counted = sample_count(duration, requested, alpha);
@@ -44,7 +45,7 @@ fn is_last(duration: f64, requested: usize, alpha: f64, index: usize) -> bool
 }
 
 // One text or the other.
-fn put_either(out: &mut [u8], at: usize, first: bool, a: &[u8], b: &[u8]) -> usize
+pub fn put_either(out: &mut [u8], at: usize, first: bool, a: &[u8], b: &[u8]) -> usize
     requires { ⌜ (at < 2 ^ 32) × ((length (now a) ≤ 17) × (length (now b) ≤ 17)) ⌝ }
     ensures { λ r. ⌜ Puts (now (out .entry)) at (cond first (now (a .entry)) (now (b .entry))) 17 (now (out .exit)) r ⌝ }
 {
@@ -65,8 +66,14 @@ fn put_sample(out: &mut [u8], index: usize, last: bool, s: PathSample) -> usize
 }
 
 // A refusal, after which no step follows.
-fn tell_refused(number: usize, place: usize, runs: usize, out: &mut [u8], said: &mut [u8]) -> Line
-    ensures { λ r. ⌜ Steps (Answer.Refused number place runs) 0 true (now (out .entry)) (now (said .entry)) r (now (out .exit)) (now (said .exit)) ⌝ }
+pub fn tell_refused(
+    number: usize,
+    place: usize,
+    runs: usize,
+    out: &mut [u8],
+    said: &mut [u8],
+) -> Line
+    ensures { λ r. ⌜ Prints (Texts.refused number place runs) 100 (Sentences.explain number place) false (now (out .entry)) (now (said .entry)) r (now (out .exit)) (now (said .exit)) ⌝ }
 {
     let bytes = write_refused(out, number, place, runs);
     let told = explain(number, place, said);

@@ -1,14 +1,19 @@
--- One text after another, and a buffer that has room for the whole. Assumes nothing.
-use Prim.Native.Nat.{ℕ, zero, suc, _+_, _*_, _≤_, _<_}
+-- One text after another, a buffer that has room for the whole, a difference in decimal. Assumes nothing.
+use Prim.Native.Nat.{ℕ, zero, suc, _+_, _-_, _*_, _≤_, _<_}
 use native.Mathlib.Omega.{arith}
 use native.Mathlib.Numerals.{add-one}
 use native.Mathlib.Nat.{add-zero, add-assoc, add-suc, suc-add}
 use mathlib.Core.Path.{_≡_, refl, sym, _∙_, ap}
+use mathlib.Core.Bool.{Bool, true, false, cond}
 use mathlib.Core.List.{List, [], _∷_, _++_}
+use borrow.Author.Tests.{ltb-true}
+use lib.Dec.{ltb}
+use lib.IntN.{pos, negsuc, subℕ}
 use lib.ListN.{length, drop, length-append}
 use lib.Seq.{sets, sets-eq}
+use Rattle.text.specs.Bytes.{bytes}
 use Rattle.text_writer.specs.Puts.{Puts}
-use Rattle.text_writer.specs.Texts.{times}
+use Rattle.text_writer.specs.Texts.{times, digits, whole}
 
 sets-append : (t u b : List ℕ) (at : ℕ) → sets b at (t ++ u) ≡ sets (sets b at t) (at + length t) u
 sets-append [] u b at = rw add-zero
@@ -43,3 +48,11 @@ puts-first b at f = puts-none b at 0
 -- where the buffer has room, it begins with the text, and what stands after it is as it was
 pub puts-whole : {b b′ t : List ℕ} {i most : ℕ} → Puts b 0 t most b′ i → most ≤ length b → b′ ≡ t ++ drop i b
 puts-whole {b} {b′} {t} {i} p l = p .is ∙ sets-eq t b 0 (omega arith) ∙ rw (p .ends)
+
+-- x - m, by which of the two is larger
+pub whole-less : (x m : ℕ) → whole (subℕ x m) ≡ cond (ltb x m) (bytes "-" ++ digits 20 (m - x)) (digits 20 (x - m))
+whole-less x m = by (ltb x m) refl
+  where
+    by : (b : Bool) → ltb x m ≡ b → whole (cond b (negsuc (m - suc x)) (pos (x - m))) ≡ cond b (bytes "-" ++ digits 20 (m - x)) (digits 20 (x - m))
+    by true e = let h : x < m = ltb-true x m e in let k : suc (m - suc x) ≡ m - x = omega arith in ap (λ n. bytes "-" ++ digits 20 n) k
+    by false e = refl

@@ -3,6 +3,7 @@ use Prim.Native.Nat.{ℕ, zero, suc, _+_, _*_, _/_, _%_}
 use mathlib.Core.Bool.{Bool, true, false, cond, _&&_}
 use mathlib.Core.List.{List, [], _∷_, _++_}
 use lib.Dec.{ltb, leb}
+use lib.IntN.{ℤ, pos, negsuc}
 use lib.ListN.{getD}
 use lib.Ieee.{Float, binary64, toBits}
 use Rattle.common.specs.Lists.{at}
@@ -21,6 +22,11 @@ times f (suc k) = times f k ++ f k
 unfoldable pub digits : ℕ → ℕ → List ℕ
 digits zero n = []
 digits (suc places) n = cond (ltb n 10) ((48 + n) ∷ []) (digits places (n / 10) ++ (48 + n % 10) ∷ [])
+
+-- a whole number in decimal, a minus before it where it is below 0
+abbrev pub whole : ℤ → List ℕ
+whole (pos n) = digits 20 n
+whole (negsuc n) = bytes "-" ++ digits 20 (suc n)
 
 -- the bits of a float; those of the NaN are 7FF8 and twelve zeros
 abbrev pub bits : Float → ℕ

@@ -3,6 +3,7 @@
 ghost use mathlib.Core.Path.{_≡_};
 ghost use Prim.Native.Nat.{_+_, _*_, _≤_, _<_, _^_};
 ghost use mathlib.Core.List.{[], _∷_};
+ghost use lib.IntN.{subℕ};
 ghost use lib.ListN.{length, set};
 ghost use Rattle.text.specs.Hex as Hex;
 ghost use Rattle.text_writer.specs.Puts.{Puts};
@@ -59,6 +60,18 @@ pub fn put_digits(b: &mut [u8], at: usize, places: usize, n: usize) -> usize
     }
     let i = put_digits(b, at, places - 1, n / 10);
     put_byte(b, i, decimal_byte(n % 10))
+}
+
+// x - m in decimal.
+pub fn put_less(b: &mut [u8], at: usize, x: usize, m: usize) -> usize
+    requires { ⌜ at < 2 ^ 29 ⌝ }
+    ensures { λ r. ⌜ Puts (now (b .entry)) at (Texts.whole (subℕ x m)) 21 (now (b .exit)) r ⌝ }
+{
+    if x < m {
+        let i = put_byte(b, at, b'-');
+        return put_digits(b, i, 20, m - x);
+    }
+    put_digits(b, at, 20, x - m)
 }
 
 fn hex_byte(d: u64) -> u8

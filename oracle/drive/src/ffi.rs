@@ -335,3 +335,54 @@ mod orders {
 pub fn slew_order(tiles: usize, times: &[u32], budget: u64, order: &mut [usize; 10], told: &mut [u64; 4]) -> usize {
     unsafe { orders::slew_order(tiles, times.as_ptr(), times.len(), budget, order, told) }
 }
+
+/// Whole numbers for the drive board: a sample and a part as they are, a list as a pointer and a count of rows.
+mod rows_of_numbers {
+    use super::A9;
+    unsafe extern "C" {
+        pub fn slew_board_list(
+            j: &A9,
+            tolerance: f64,
+            duration: f64,
+            nodes: &[[f64; 22]; 17],
+            requested: usize,
+            alpha: f64,
+            out: *mut [i32; 13],
+            out_len: usize,
+            rows: &mut usize,
+            place: &mut usize,
+        ) -> usize;
+    }
+}
+
+unsafe extern "C" {
+    pub safe fn slew_board_part(x: f64, coarse: bool, out: &mut i32) -> usize;
+    pub safe fn slew_board_read(n: i32, coarse: bool) -> f64;
+    pub safe fn slew_board_sample(
+        j: &A9,
+        tolerance: f64,
+        duration: f64,
+        nodes: &[[f64; 22]; 17],
+        requested: usize,
+        alpha: f64,
+        index: usize,
+        out: &mut [i32; 13],
+        place: &mut usize,
+    ) -> usize;
+}
+
+/// A path's whole list; its refusal's number.
+pub fn slew_board_list(
+    j: &A9,
+    tolerance: f64,
+    duration: f64,
+    nodes: &[[f64; 22]; 17],
+    requested: usize,
+    alpha: f64,
+    out: &mut [[i32; 13]],
+    rows: &mut usize,
+    place: &mut usize,
+) -> usize {
+    let lent = (out.as_mut_ptr(), out.len());
+    unsafe { rows_of_numbers::slew_board_list(j, tolerance, duration, nodes, requested, alpha, lent.0, lent.1, rows, place) }
+}

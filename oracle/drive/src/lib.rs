@@ -5,6 +5,7 @@ pub mod random;
 pub mod recipes;
 pub mod words;
 
+pub mod board;
 pub mod courses;
 pub mod damage;
 pub mod edges;

@@ -1,7 +1,7 @@
 //! What is compared: the libraries, each with its functions and its share of the time of `--minutes`.
 
 use crate::words::Entry;
-use crate::{courses, edges, leaves, order, planes, plans, region, runs, samples, series, shapes, systems, texts};
+use crate::{board, courses, edges, leaves, order, planes, plans, region, runs, samples, series, shapes, systems, texts};
 
 pub struct Library {
     pub name: &'static str,
@@ -16,7 +16,7 @@ const fn library(name: &'static str, entries: &'static [Entry]) -> Library {
 }
 
 /// Each has the same share; whole plans have as much as all the others.
-pub const LIBRARIES: [Library; 16] = [
+pub const LIBRARIES: [Library; 17] = [
     library("floats", &leaves::LEAVES),
     library("angles", &leaves::ANGLES),
     library("series", &series::SERIES),
@@ -29,6 +29,7 @@ pub const LIBRARIES: [Library; 16] = [
     Library { name: "plans at edges", share: 2, entries: &edges::PLANS_AT_EDGES, plans: true },
     Library { name: "early ends", share: 1, entries: &plans::EARLY, plans: true },
     library("dense samples", &samples::SAMPLES),
+    library("drive board", &board::BOARD),
     library("texts", &texts::TEXTS),
     library("byte planes", &planes::PLANES),
     library("orders", &order::ORDERS),

@@ -28,7 +28,7 @@ impl Track {
         w.f(self.alpha);
     }
 
-    fn take(r: &mut Reader<'_>) -> Self {
+    pub fn take(r: &mut Reader<'_>) -> Self {
         let (inertia, tolerance, duration) = (r.a(), r.f(), r.f());
         let nodes = std::array::from_fn(|_| r.a());
         Track { inertia, tolerance, duration, nodes, requested: r.n() as usize, alpha: r.f() }
@@ -95,7 +95,7 @@ fn refused(number: u64, place: u64, o: &mut Words) {
 }
 
 /// The nodes of a forward run, those of a run with numbers spoilt, or numbers of any kind.
-fn track(r: &mut Random) -> Track {
+pub fn track(r: &mut Random) -> Track {
     let b = runs::body(r);
     let (mut duration, mut nodes) = run(r).unwrap_or((r.unit(), std::array::from_fn(|_| r.numbers())));
     match r.below(6) {

@@ -8,6 +8,15 @@ use native.Mathlib.Omega.{arith}
 use Rattle.refusal_text.proofs.later.Statement.{statement}
 use Rattle.refusal_text.proofs.later.Tie as tie
 
+slice-aggregate-tell : tie.Need-slice-aggregate-tell
+slice-aggregate-tell c = search needs
+
+slice-aggregate-tell-2 : tie.Need-slice-aggregate-tell-2
+slice-aggregate-tell-2 c = search needs
+
+tell-requires : tie.Need-tell-requires
+tell-requires c κs = search needs
+
 slice-aggregate-put-all : tie.Need-slice-aggregate-put-all
 slice-aggregate-put-all c = search needs
 
@@ -37,33 +46,43 @@ same-length c = search needs
 
 returns : tie.Need-returns
 unfolding later
-returns c = let e : c .before .before .before .before .before .before .before .args .number ≡ 25 = c .before .before .before .before .before .match .keys1 in rw e (puts-most (omega arith) (c .before .before .put-all .ensures))
+returns c = let e : c .before .before .before .before .before .before .before .before .args .number ≡ 24 = c .before .before .before .before .before .before .match .keys1 in rw e (c .before .before .tell .ensures)
 
 same-length-2 : tie.Need-same-length-2
 same-length-2 c = search needs
 
 returns-2 : tie.Need-returns-2
 unfolding later
-returns-2 c = let e : c .before .before .before .before .before .before .before .args .number ≡ 27 = c .before .before .before .before .before .match .keys2 in rw e (puts-most (omega arith) (c .before .before .put-all2 .ensures))
+returns-2 c = let e : c .before .before .before .before .before .before .before .args .number ≡ 25 = c .before .before .before .before .before .match .keys2 in rw e (puts-most (omega arith) (c .before .before .put-all .ensures))
 
 same-length-3 : tie.Need-same-length-3
 same-length-3 c = search needs
 
 returns-3 : tie.Need-returns-3
 unfolding later
-returns-3 c = let e : c .before .before .before .before .before .before .before .args .number ≡ 28 = c .before .before .before .before .before .match .keys3 in rw e (puts-most (omega arith) (c .before .before .put-all3 .ensures))
+returns-3 c = let e : c .before .before .before .before .before .before .before .args .number ≡ 27 = c .before .before .before .before .before .match .keys3 in rw e (puts-most (omega arith) (c .before .before .put-all2 .ensures))
 
 same-length-4 : tie.Need-same-length-4
 same-length-4 c = search needs
 
 returns-4 : tie.Need-returns-4
 unfolding later
-returns-4 c = simp (ne-eqb (c .before .before .before .before .before .before .before .args .number) 25 (c .before .before .before .before .before .match .rest .0 .0 .1), ne-eqb (c .before .before .before .before .before .before .before .args .number) 27 (c .before .before .before .before .before .match .rest .0 .1), ne-eqb (c .before .before .before .before .before .before .before .args .number) 28 (c .before .before .before .before .before .match .rest .1)) (puts-most (omega arith) (c .before .before .put-all4 .ensures))
+returns-4 c = let e : c .before .before .before .before .before .before .before .args .number ≡ 28 = c .before .before .before .before .before .match .keys4 in rw e (puts-most (omega arith) (c .before .before .put-all3 .ensures))
+
+same-length-5 : tie.Need-same-length-5
+same-length-5 c = search needs
+
+returns-5 : tie.Need-returns-5
+unfolding later
+returns-5 c = simp (ne-eqb (c .before .before .before .before .before .before .before .args .number) 24 (c .before .before .before .before .before .match .rest .0 .0 .0 .1), ne-eqb (c .before .before .before .before .before .before .before .args .number) 25 (c .before .before .before .before .before .match .rest .0 .0 .1), ne-eqb (c .before .before .before .before .before .before .before .args .number) 27 (c .before .before .before .before .before .match .rest .0 .1), ne-eqb (c .before .before .before .before .before .before .before .args .number) 28 (c .before .before .before .before .before .match .rest .1)) (puts-most (omega arith) (c .before .before .put-all4 .ensures))
 
 pub later-spec : {M : Type 1} → statement M
 later-spec =
     tie.close
     (tie.spec
+    slice-aggregate-tell
+    slice-aggregate-tell-2
+    tell-requires
     slice-aggregate-put-all
     put-all-requires
     slice-aggregate-put-all-2
@@ -79,4 +98,6 @@ later-spec =
     same-length-3
     returns-3
     same-length-4
-    returns-4)
+    returns-4
+    same-length-5
+    returns-5)

@@ -5,10 +5,10 @@ use Rattle.programs.proofs.samples.print_steps.Statement.{statement}
 use Rattle.programs.proofs.samples.print_steps.Tie as tie
 
 abbrev Inv-loop : tie.InvT-loop
-Inv-loop c requested index₀ index = Unit {0}
+Inv-loop board c requested index₀ index = Unit {0}
 
 abbrev μ-loop : tie.MeasureT-loop
-μ-loop c requested index₀ index = 100000 - index
+μ-loop board c requested index₀ index = 100000 - index
 
 pub print-steps-spec : {M : Type 1} → statement M
 print-steps-spec = tie.close (tie.spec Inv-loop μ-loop (λ c. tt) (λ c κs. tt) (λ c. tt) (λ c. omega arith) (λ c. omega arith) (λ c. tt) (λ c. tt))

@@ -1,11 +1,10 @@
--- `region_text::put_less` meets its contract. Assumes nothing.
+-- `text_writer::put::put_less` meets its contract. Assumes nothing.
 use native.Mathlib.Omega.{arith}
 use borrow.Author.Tests.{lt-ltb, le-ltb}
-use Rattle.text_writer.specs.PutLaws.{puts-join, puts-most}
-use Rattle.region_text.specs.TextLaws.{whole-less}
+use Rattle.text_writer.specs.PutLaws.{puts-join, puts-most, whole-less}
 use borrow.Author.Needs.{needs}
-use Rattle.region_text.proofs.put_less.Statement.{statement}
-use Rattle.region_text.proofs.put_less.Tie as tie
+use Rattle.text_writer.proofs.put.put_less.Statement.{statement}
+use Rattle.text_writer.proofs.put.put_less.Tie as tie
 
 returns : tie.Need-returns
 returns c =

@@ -1,0 +1,3 @@
+-- What the contracts of the drive board's C interface cite besides the library's own definitions.
+pub mod Units
+pub mod Told
