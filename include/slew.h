@@ -9,7 +9,7 @@
  * overlaps nothing else that is lent; floats round to nearest and subnormals are kept, as in every program that has not changed this; the thread has
  * 256 kB of stack (over the examples a call used up to 107 kB).
  *
- * A refusal is its number of 1 to 21, 24, 25, 27 or 28, with a place and the forward runs begun (README.md, "Refusals"); 0 is no refusal. */
+ * A refusal is its number of 1 to 22, 24, 25, 27 or 28, with a place and the forward runs begun (README.md, "Refusals"); 0 is no refusal. */
 #ifndef SLEW_H
 #define SLEW_H
 
@@ -66,7 +66,8 @@ uint64_t slew_sample(const uint8_t *text, size_t text_count,
  *   (48 to 83), their largest torques (84 to 95); the pyramid's skew, momentum of a wheel, largest gimbal rate, smallest measure (96 to 99). What stands for
  *   actuators that are not there is ignored.
  * body: q0 and qf, scalar first (0 to 7); the inertia by rows (8 to 16); the torque limits (17 to 19); the slew limit (20), read where `limited` is true;
- *   the weights of time, control, energy, pointing, smoothness, momentum (21 to 26); the norm and the tie tolerance (27, 28).
+ *   the weights of time, control, energy, pointing, smoothness, momentum (21 to 26); the norm and the tie tolerance (27, 28); the momenta that
+ *   eight wheels start with (29 to 36), of which those of wheels that are not there are ignored.
  * Units: kg m2, N m, N m s, W, rad, rad/s, s. */
 
 /* Plans it with the planner's own seed. Returns 0, or a refusal's number.
@@ -76,13 +77,13 @@ uint64_t slew_sample(const uint8_t *text, size_t text_count,
  *   another, zeros behind them; 17 nodes of 22 numbers, one after another: time, attitude, rate, torque, body momentum, eight wheel momenta. Beside a
  *   refusal all of them are zeros. In a path every number is finite but the body momentum of the last node, which can be a NaN or an infinity.
  * The workspace is untouched where no forward run began, and all +0.0 otherwise. */
-size_t slew_plan_numbers(const size_t counts[11], const double actuators[100], const double body[29], bool limited,
+size_t slew_plan_numbers(const size_t counts[11], const double actuators[100], const double body[37], bool limited,
                          double *workspace, size_t workspace_count,
                          size_t told[5], double *duration, double *max_defect, double decision[193], double nodes[374]);
 
 /* The same with a caller's seed: a duration, 17 rates and 17 torques of three numbers (51 each; other counts are refusal 10).
  * Of the rates only the count matters, and the last torque is not read. */
-size_t slew_plan_from_numbers(const size_t counts[11], const double actuators[100], const double body[29], bool limited,
+size_t slew_plan_from_numbers(const size_t counts[11], const double actuators[100], const double body[37], bool limited,
                               double seed_duration, const double *rates, size_t rates_count, const double *torques, size_t torques_count,
                               double *workspace, size_t workspace_count,
                               size_t told[5], double *duration, double *max_defect, double decision[193], double nodes[374]);
@@ -90,7 +91,7 @@ size_t slew_plan_from_numbers(const size_t counts[11], const double actuators[10
 /* The bang-coast-bang profile from which the planner's own seed is taken. Returns 0 and the 22 numbers: angle, acceleration, time of acceleration, time of
  * coast, duration, peak rate (0 to 5), axis (6 to 8), inertia by rows (9 to 17), q0 (18 to 21). Or a refusal's number (1 to 7, 11), and leaves `profile`
  * as it was. `place` gets the refusal's place, or 0. */
-size_t slew_problem_profile(const size_t counts[11], const double actuators[100], const double body[29], bool limited,
+size_t slew_problem_profile(const size_t counts[11], const double actuators[100], const double body[37], bool limited,
                             double profile[22], size_t *place);
 
 /* How many dense samples a path of this duration has: the most of `requested`, 17, and what an acceleration of `alpha` (number 1 of the profile) asks for.

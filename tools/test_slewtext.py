@@ -5,6 +5,7 @@ import importlib.machinery
 import importlib.util
 import io
 import math
+import json
 import os
 import random
 import struct
@@ -63,25 +64,41 @@ class Problems(unittest.TestCase):
         self.assertEqual(lines[1], " (q0 3FF 0 0 0)")
         self.assertEqual(lines[3], " (inertia 4024 0 0 0 4028 0 0 0 402)")
         self.assertEqual(lines[5], " (slew none)")
+        self.assertEqual(lines[8], " (momenta)")
         self.assertEqual(lines[-1], " (actuators))")
 
     def test_actuators_in_order(self):
         wheel = {"axis": [1, 0, 0], "torque_nm": 0.5, "momentum_nms": 4}
         lines = slewtext.problem_text(QUARTER | {
             "thruster": [{"axis": [0, 1, 0], "torque_nm": 1}],
-            "wheel": [wheel, wheel | {"power_w": 1}],
+            "wheel": [wheel, wheel | {"power_w": 1, "start_nms": 1}],
             "pyramid": {"skew_deg": 54.74, "momentum_nms": 1, "rate_deg_s": 60, "singularity_eps": 0.5},
         }).splitlines()
-        self.assertEqual(lines[8], " (actuators")
-        self.assertEqual(lines[9], "  (wheel 3FF 0 0 3FE 401 none)")
-        self.assertEqual(lines[10], "  (wheel 3FF 0 0 3FE 401 3FF)")
-        self.assertEqual(lines[11], "  (thruster 0 3FF 0 3FF)")
-        self.assertTrue(lines[12].startswith("  (cmg ") and lines[12].endswith("))") and lines[12].count(")") == 3)
+        self.assertEqual(lines[8], " (momenta 0 3FF)")
+        self.assertEqual(lines[9], " (actuators")
+        self.assertEqual(lines[10], "  (wheel 3FF 0 0 3FE 401 none)")
+        self.assertEqual(lines[11], "  (wheel 3FF 0 0 3FE 401 3FF)")
+        self.assertEqual(lines[12], "  (thruster 0 3FF 0 3FF)")
+        self.assertTrue(lines[13].startswith("  (cmg ") and lines[13].endswith("))") and lines[13].count(")") == 3)
+
+    def test_wheels_turn_as_a_path_left_them(self):
+        path = slewtext.read_path(path_text())
+        path["nodes"][16][14:] = [0.25, -0.0]
+        wheels = QUARTER | {"wheel": [{"axis": [1, 0, 0], "torque_nm": 0.5, "momentum_nms": 4, "start_nms": 9}] * 2}
+        self.assertEqual(slewtext.problem_text(slewtext.turning_after(wheels, path)).splitlines()[8], " (momenta 3FD 8)")
+        self.assertRaises(slewtext.Fault, slewtext.turning_after, QUARTER, path)
+        with tempfile.NamedTemporaryFile("w", suffix=".json") as problem, tempfile.NamedTemporaryFile("w") as ended:
+            json.dump(wheels, problem)
+            problem.flush()
+            ended.write(path_text())
+            ended.flush()
+            self.assertEqual(run("problem", problem.name, "--after", ended.name).stdout.splitlines()[8], " (momenta 0 0)")
+            self.assertEqual(run("problem", problem.name, "--before", ended.name).returncode, 1)
 
     def test_bad_input_is_one_sentence(self):
         bad = (
             {"to": None}, {"inertia_kgm2": [1, 2]}, {"torque_limit_nm": "x"}, {"weights": {"speed": 1}}, {"wheel": [{"axis": [1, 0, 0]}]},
-            {"from": {"axis": [0, 0, 0], "degrees": 1}}, {"slew_limit_deg_s": True}, {"colour": 1}, {"wheel": 3},
+            {"from": {"axis": [0, 0, 0], "degrees": 1}}, {"slew_limit_deg_s": True}, {"colour": 1}, {"wheel": 3}, {"wheel": [{"axis": [1, 0, 0], "torque_nm": 1, "momentum_nms": 1, "start_nms": "x"}]},
         )
         for change in bad:
             with self.assertRaises(slewtext.Fault) as caught:
@@ -150,7 +167,7 @@ class Answers(unittest.TestCase):
         self.assertRaises(slewtext.Fault, slewtext.read_path, "")
 
     def test_every_refusal_has_a_sentence(self):
-        for number in (*range(1, 22), 24, 25, 27, 28):
+        for number in (*range(1, 23), 24, 25, 27, 28):
             for place in (0, 1, 2, 9, 16, 20):
                 said = slewtext.explain(f"(refused\n (number {number})\n (place {place})\n (runs 5))\n")
                 self.assertTrue(said.startswith(f"Refusal {number}, place {place}, after 5 forward runs. ") and said.endswith(".\n"))

@@ -1,6 +1,6 @@
 //! Makes the crate's root from the published files, which stay as they are: geom.rs is named by its path, actuators.rs is copied with its one gyroscopic line
-//! (`GYROSCOPIC`) under a test of law.rs, scvx.rs is copied with one line added that lets a module of ours see its private functions, and lib.rs gives the
-//! lines that `PARTS` lists. A second copy of scvx.rs, the module `counted`, has the lines of `COUNTED` added, which count and compute nothing. With the feature
+//! (`GYROSCOPIC`) under a test of law.rs, scvx.rs is copied with the start of a run (`STARTING`) taken from starts.rs and one line added that lets a module of ours see its
+//! private functions, and lib.rs gives the lines that `PARTS` lists. A second copy of scvx.rs, the module `counted`, has the lines of `COUNTED` added, which count and compute nothing. With the feature
 //! `faults` every file is a copy in which each fault of mutations.rs has a switch; the ordinary comparison is built without it.
 use mutations::FAULTS;
 use std::cmp::Reverse;
@@ -45,6 +45,12 @@ const COUNTED: [(&str, &str); 17] = [
 /// The line of actuators.rs that subtracts the cross product of body rate and stored momentum: run under the published law alone.
 const GYROSCOPIC: &str = "            tau = add3(tau, scale3(cross(omega, h), -1.0));\n";
 
+/// The two lines of scvx.rs with which a run begins, and what stands there instead: the problem's start momenta, and the body momentum that they make.
+const STARTING: (&str, &str) = (
+    "    let mut h = [0.0; 3];\n    let mut h_wheels = vec![0.0; problem.actuators.wheels.len()];\n",
+    "    let mut h_wheels = crate::starts::of(problem.actuators.wheels.len());\n    let mut h = problem.actuators.body_momentum(&h_wheels);",
+);
+
 /// A part of a published text and what is written there: a line before it, or a fault's switch about it.
 struct Edit {
     start: usize,
@@ -72,6 +78,13 @@ fn by_law(published: &str) -> Vec<Edit> {
     let start = place("actuators.rs", published, GYROSCOPIC);
     let line = |at, text| Edit { start: at, end: at, fault: None, text };
     vec![line(start, "if crate::law::published() {"), line(start + GYROSCOPIC.len(), "}")]
+}
+
+/// The start of a run, in both copies of scvx.rs.
+fn starting(published: &str) -> Edit {
+    let (old, text) = STARTING;
+    let start = place("scvx.rs", published, old);
+    Edit { start, end: start + old.len(), fault: None, text }
 }
 
 /// The switches of a file's faults; none without the feature.
@@ -142,7 +155,7 @@ fn main() {
     let torques = read("actuators.rs");
     let published = read("scvx.rs");
     let door = format!("\n#[path = \"{}\"]\npub mod probe;\n", named(&here.join("src/probe_scvx.rs")));
-    let search = |counts: Vec<Edit>| edited(&published, switches("scvx.rs", &published).into_iter().chain(counts).collect()) + &door;
+    let search = |counts: Vec<Edit>| edited(&published, switches("scvx.rs", &published).into_iter().chain([starting(&published)]).chain(counts).collect()) + &door;
     let mut root = String::new();
     let modules = [
         ("geom", plain("geom.rs")),

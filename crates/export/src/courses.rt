@@ -25,7 +25,7 @@ fn put_checked(p: CheckedProblem, out: &mut [f64; 22], place: &mut usize) -> usi
 pub extern "C" fn slew_problem_profile(
     c: &[usize; 11],
     v: &[f64; 100],
-    b: &[f64; 29],
+    b: &[f64; 37],
     limited: bool,
     out: &mut [f64; 22],
     place: &mut usize,

@@ -48,7 +48,7 @@ fn put_planned(
 pub extern "C" fn slew_plan_numbers(
     c: &[usize; 11],
     v: &[f64; 100],
-    b: &[f64; 29],
+    b: &[f64; 37],
     limited: bool,
     ws: &mut [f64],
     counts: &mut [usize; 5],
@@ -75,7 +75,7 @@ pub extern "C" fn slew_plan_numbers(
 pub extern "C" fn slew_plan_from_numbers(
     c: &[usize; 11],
     v: &[f64; 100],
-    b: &[f64; 29],
+    b: &[f64; 37],
     limited: bool,
     seed_duration: f64,
     rates: &[f64],

@@ -2,7 +2,7 @@
 --
 -- Counts c: wheels, thrusters, a pyramid (1, else none), and for each of eight wheels whether it has a power limit (1, else none).
 -- Numbers v: eight wheel axes, their torques, momenta, powers; twelve thruster axes, their torques; the pyramid's skew, momentum, rate, smallest measure.
--- Numbers b: q0, qf, the inertia by rows, the torque limits, the slew limit, six weights, the norm tolerance, the tie tolerance.
+-- Numbers b: q0, qf, the inertia by rows, the torque limits, the slew limit, six weights, the norm tolerance, the tie tolerance, eight wheels' start momenta.
 use Prim.Native.Nat.{ℕ}
 use mathlib.Core.Bool.{Bool, cond}
 use mathlib.Core.List.{List, [], _∷_}
@@ -90,7 +90,7 @@ actuators c v = record {
 abbrev pub map : List ℕ → List Float → ActuatorMap
 map c v = Prepare.prepare (actuators c v) .map
 
--- a whole problem; with a slew limit or without
+-- a whole problem; with a slew limit or without; as many momenta count as there are wheels
 unfoldable pub problem : List ℕ → List Float → List Float → Bool → Problem
 problem c v b limited = record {
   q0 = Quats.quat (at b 0) (at b 1) (at b 2) (at b 3);
@@ -102,4 +102,5 @@ problem c v b limited = record {
   «norm_tolerance» = at b 27;
   «tie_tolerance» = at b 28;
   actuators = actuators c v;
+  momenta = record { count = count c 0; at = at b 29 ∷ at b 30 ∷ at b 31 ∷ at b 32 ∷ at b 33 ∷ at b 34 ∷ at b 35 ∷ at b 36 ∷ [] };
 }

@@ -2,7 +2,7 @@
 //
 // Counts: wheels, thrusters, a pyramid (1, else none), and for each of eight wheels whether it has a power limit (1, else none).
 // Numbers: eight wheel axes, their torques, momenta, powers; twelve thruster axes, their torques; the pyramid's skew, momentum, rate, smallest measure.
-// A body's numbers: q0, qf, the inertia by rows, the torque limits, the slew limit, six weights, the norm tolerance, the tie tolerance.
+// A body's numbers: q0, qf, the inertia by rows, the torque limits, the slew limit, six weights, the norm tolerance, the tie tolerance, eight wheels' start momenta.
 ghost use mathlib.Core.Path.{_≡_};
 ghost use Rattle.export_problem.specs.Declared as Declared;
 use actuators::ActuatorMap;
@@ -13,6 +13,7 @@ use actuators::Thruster;
 use actuators::Wheel;
 use export_leaves::pack::limit_of;
 use geom::Quat;
+use problem::Momenta;
 use problem::Problem;
 use problem::Weights;
 
@@ -116,8 +117,8 @@ pub fn map_of(c: &[usize; 11], v: &[f64; 100]) -> ActuatorMap
     map
 }
 
-// A whole problem; with a slew limit or without.
-pub fn problem_of(c: &[usize; 11], v: &[f64; 100], b: &[f64; 29], limited: bool) -> Problem
+// A whole problem; with a slew limit or without. As many momenta count as there are wheels.
+pub fn problem_of(c: &[usize; 11], v: &[f64; 100], b: &[f64; 37], limited: bool) -> Problem
     ensures { λ r. ⌜ r ≡ Declared.problem (now (c .entry)) (now (v .entry)) (now (b .entry)) limited ⌝ }
 {
     let actuators = actuators_of(c, v);
@@ -144,6 +145,10 @@ pub fn problem_of(c: &[usize; 11], v: &[f64; 100], b: &[f64; 29], limited: bool)
         smoothness: b[25],
         momentum: b[26],
     };
+    let momenta = Momenta {
+        count: c[0],
+        at: [b[29], b[30], b[31], b[32], b[33], b[34], b[35], b[36]],
+    };
     Problem {
         q0: q0,
         qf: qf,
@@ -154,5 +159,6 @@ pub fn problem_of(c: &[usize; 11], v: &[f64; 100], b: &[f64; 29], limited: bool)
         norm_tolerance: b[27],
         tie_tolerance: b[28],
         actuators: actuators,
+        momenta: momenta,
     }
 }

@@ -37,7 +37,7 @@ pub fn place_of(f: Fate) -> usize
 pub extern "C" fn slew_reconstruct(
     c: &[usize; 11],
     v: &[f64; 100],
-    b: &[f64; 29],
+    b: &[f64; 37],
     limited: bool,
     z: &[f64; 193],
     nodes: &mut [[f64; 22]; 17],
@@ -68,7 +68,7 @@ pub extern "C" fn slew_reconstruct(
 pub extern "C" fn slew_residuals(
     c: &[usize; 11],
     v: &[f64; 100],
-    b: &[f64; 29],
+    b: &[f64; 37],
     limited: bool,
     z: &[f64; 193],
     out: &mut [f64; 79],

@@ -90,9 +90,9 @@ frameOf p dt = record { j = p .inertia; jinv = p .inverse; tolerance = p .«norm
 abbrev pub bodyUnder : WheelLaw → CheckedProblem → Float → Body
 bodyUnder law p dt = bodyWith (rigUnder law (p .map)) (p .map .«wheel_axes») (p .map .«wheel_powers») (p .map .«thruster_axes») (frameOf p dt)
 
--- the start of every run of a problem: its wheels at +0
+-- the start of every run of a problem: its wheels with the momenta that the user gives
 abbrev pub startOf : CheckedProblem → State
-startOf p = start (p .map .«wheel_axes») (p .map .«wheel_count») (p .q0) (replicate 8 Vec.plusZero)
+startOf p = start (p .map .«wheel_axes») (p .map .«wheel_count») (p .q0) (p .momenta)
 
 -- one forward run under a law of the wheels' torque: the problem and a decision, its duration as it stands, and nothing else
 unfoldable pub runUnder : WheelLaw → CheckedProblem → List Float → Run

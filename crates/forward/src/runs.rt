@@ -1,5 +1,5 @@
 // Forward runs: 16 steps from the problem's start, and their 17 nodes. Carried over from `reconstruct` of quatopsy-plan/src/scvx.rs (Apache-2.0), changed:
-// the state and the nodes are locals of one loop, the largest defect is found by squares, and a refused run answers blank nodes.
+// the wheels begin with the problem's momenta, the state and the nodes are locals of one loop, the largest defect is found by squares, and a refused run answers blank nodes.
 ghost use mathlib.Core.Path.{_≡_};
 ghost use Prim.Native.Nat.{_+_, _*_, _≤_, _<_};
 ghost use lib.ListN.{length};
@@ -303,6 +303,7 @@ pub fn run_under(law: WheelLaw, p: CheckedProblem, z: [f64; 193]) -> Run
         Fate::Going => {
             let skew = l.skew;
             let a = l.a;
+            let momenta = p.momenta;
             run_from(
                 rig,
                 &wheels,
@@ -312,7 +313,7 @@ pub fn run_under(law: WheelLaw, p: CheckedProblem, z: [f64; 193]) -> Run
                 skew,
                 n,
                 z,
-                start(&wheels, map.wheel_count, p.q0, [0.0; 8]),
+                start(&wheels, map.wheel_count, p.q0, momenta),
                 a,
             )
         }

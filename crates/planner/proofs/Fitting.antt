@@ -78,6 +78,7 @@ actuators-held a vs g =
     record {
       torque = each-held _ _ (λ (w : Wheel). T (fits binary64 (w .«max_torque_nm»))) (λ w us h. held _ (h .1 .1 .1 .0 .1)) _ nan-held (a .wheels) _ (f .0 .1 .1);
       momentum = each-held _ _ (λ (w : Wheel). T (fits binary64 (w .«max_momentum_nms»))) (λ w us h. held _ (h .1 .1 .1 .1 .0 .1)) _ nan-held (a .wheels) _ (f .0 .1 .1);
+      axis = each-held _ _ (λ (w : Wheel). Fit (w .axis)) (λ w us h. field-held (w .axis) _ (h .1 .1 .0 .1 .1)) _ (λ i. nan-held) (a .wheels) _ (f .0 .1 .1);
       thrust = each-held _ _ (λ (t : Thruster). T (fits binary64 (t .«max_torque_nm»))) (λ t us h. held _ (h .1 .1 .1 .0 .1)) _ nan-held (a .thrusters) _ (f .1 .1 .0 .1 .1);
       rate = rate-held (a .cmgs) _ (f .1 .1 .1 .1 .0);
     }
@@ -102,4 +103,5 @@ problem-held p vs g =
       slew = slew-held (p .slew) _ (f .1 .1 .1 .1 .0);
       tolerance = held _ (f .1 .1 .1 .1 .1 .1 .0 .1);
       actuators = actuators-held (p .actuators) _ (f .1 .1 .1 .1 .1 .1 .1 .1 .0);
+      momenta = field-held (p .momenta .at) _ (f .1 .1 .1 .1 .1 .1 .1 .1 .1 .0 .1 .1 .1 .0 .1 .1);
     })

@@ -18,6 +18,7 @@ use Rattle.geom.specs.Quats.{norm3, normalized}
 use Rattle.geom.specs.declared.Quat.{Quat}
 use Rattle.geom.specs.declared.Normal.the-variants as Normal
 use Rattle.geom.specs.declared.Rotation.the-variants as Rotation
+use Rattle.controls.specs.Parts.{bodyMomentum}
 use Rattle.profile.specs.Seeds.{sampleSeed}
 use Rattle.problem.specs.Problems.{check}
 use Rattle.problem.specs.declared.Problem.{Problem}
@@ -83,6 +84,10 @@ pub record Promised (p : Problem) (seed : List Float) (path : Path) (reported : 
   pub rerun-once : reconstruct p (path .z) .runs ≡ 1
   pub rerun-nodes : reconstruct p (path .z) .run .nodes ≡ path .nodes
   pub rerun-defect : reconstruct p (path .z) .run .defect ≡ path .«max_defect»
+  -- node 0 has the momenta that the user gives, one a wheel, bit for bit, and the body momentum that they make along the wheels' unit axes
+  pub start-count : p .momenta .count ≡ p .actuators .«wheel_count»
+  pub start-momenta : (i : ℕ) → i < p .actuators .«wheel_count» → at (nodeAt (path .nodes) 0 .hw) i ≡ at (p .momenta .at) i
+  pub start-stored : nodeAt (path .nodes) 0 .h ≡ bodyMomentum (check p .problem .map .«wheel_axes») (p .actuators .«wheel_count») (nodeAt (path .nodes) 0 .hw)
   -- each control is in size at most its actuator's limit
   pub controls : (k : ℕ) → k < 16 → (i : ℕ) → i < controlsOf (p .actuators) → T (le (abs (control (controlsOf (p .actuators)) (path .z) k i)) (controlLimit p i))
   -- the final attitude error and rate have computed lengths of at most 0.0001

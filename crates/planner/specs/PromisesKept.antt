@@ -17,18 +17,21 @@ use Rattle.float.specs.Ops.{abs}
 use Rattle.laws.specs.Limits.{Limit, Under, under-exact}
 use Rattle.geom.specs.Vec.{tensor}
 use Rattle.actuators.specs.Maps.{isSized, controlDim}
+use Rattle.controls.specs.Parts.{bodyMomentum}
 use Rattle.profile.specs.Seeds.{sampleSeed}
 use Rattle.profile.specs.declared.Seed.{Seed}
 use Rattle.problem.specs.Passed.{passed-sized}
+use Rattle.problem.specs.StartLaws.{placed-at}
 use Rattle.problem.specs.Problems.{isPositive, check}
 use Rattle.problem.specs.declared.Problem.{Problem}
 use Rattle.problem.specs.declared.CheckedProblem.{CheckedProblem}
 use Rattle.forward.specs.Decisions.{packedLen}
 use Rattle.forward.specs.Operations.{admit, admit-narrow, reconstruct}
-use Rattle.forward.specs.Runs.{runOf}
+use Rattle.forward.specs.Runs.{runOf, start, nodeOf}
 use Rattle.forward.specs.StepLaws.{refused-going}
 use Rattle.forward.specs.declared.Reconstructed.{Reconstructed}
 use Rattle.forward.specs.declared.Run.{Run}
+use Rattle.forward.specs.declared.Node.{Node}
 use Rattle.seeds.specs.Seeds.{served}
 use Rattle.seeds.specs.SeedLaws.{served-narrow}
 use Rattle.residuals.specs.Sums.{nodeAt}
@@ -139,6 +142,9 @@ module _ (p : Problem) (F : FitsP p) (passed : check p .fate ≡ Going) (serves 
         rerun-once = rw (once z) refl;
         rerun-nodes = ap (λ (x : Reconstructed). x .run .nodes) (once z) ∙ sym (ap (λ (x : Run). x .nodes) (A .is));
         rerun-defect = ap (λ (x : Reconstructed). x .run .defect) (once z) ∙ sym (ap (λ (x : Run). x .defect) (A .is));
+        start-count = same .count;
+        start-momenta = λ i l. ap (λ (v : List Float). at v i) (starts .0 ∙ same .momenta) ∙ placed-at (p .actuators .«wheel_count») (p .momenta .at) i (omega (arith, ready .map .wheels, same .map .wheels)) l;
+        start-stored = starts .1 ∙ rw (same .map .wheels, starts .0) refl;
         controls = λ k h i l. bounded (controlDim (c .map)) (controlsOf (p .actuators)) z k i _ _ row (ap (λ (v : List Float). limitIn (c .map) v i) (same .limit) ∙ limit-same p (c .map) (same .map) sized i) (A .controls k h i (rw row l));
         end-error = record { qf = c .qf; qf-is = same .qf; x = A .error .x; y = A .error .y; z = A .error .z; is = A .error .is; small = A .error-small };
         end-rate = A .rate-small;
@@ -169,6 +175,9 @@ module _ (p : Problem) (F : FitsP p) (passed : check p .fate ≡ Going) (serves 
 
           A : Answered c seed z (search c seed .run)
           A = answered c ready seed wide (seed-projected (c .map) narrow duration torques (ready .map) (c .«torque_limit») (ready .limits) G) t e
+
+          starts : (nodeAt (search c seed .run .nodes) 0 .hw ≡ c .momenta) × (nodeAt (search c seed .run .nodes) 0 .h ≡ bodyMomentum (c .map .«wheel_axes») (c .map .«wheel_count») (c .momenta))
+          starts = unfold nodeOf start in (ap (λ (n : Node). n .hw) (A .path .first), ap (λ (n : Node). n .h) (A .path .first))
 
       ends : (b : Fate) → endFate c (search c seed .run) ≡ b → T (goes (search c seed .fate)) → Plans.endedBy b c (search c seed) .fate ≡ Going → Held p seed (Plans.endedBy b c (search c seed))
       ends Going e t g = found t (rw e tt)

@@ -20,6 +20,7 @@ use Rattle.actuators.specs.Ready.{prepared-sized}
 use Rattle.problem.specs.declared.Problem.{Problem}
 use Rattle.problem.specs.declared.Checked.{Checked}
 use Rattle.problem.specs.Problems as Problems
+use Rattle.problem.specs.Starts.{checkStarts}
 
 never : {n place : ℕ} {A : Type 0} → Refused n place ≡ Going → A
 never e = let z : _≡_ {A = ℕ} 0 1 = cc in absurd (omega arith)
@@ -42,13 +43,18 @@ module _ (p : Problem) (map : ActuatorMap) where
   kept-start Not g = never g
   kept-start (Is q0) g = kept-final (normalized (p .«norm_tolerance») (p .qf)) q0 g
 
-  kept-numbers : (b : Bool) → Kept (cond b (Problems.startBy (normalized (p .«norm_tolerance») (p .q0)) p map) (Problems.refused 4 0))
-  kept-numbers true g = kept-start (normalized (p .«norm_tolerance») (p .q0)) g
-  kept-numbers false g = never g
+  kept-momenta : (f : Fate) → Kept (Problems.momentaBy f p map)
+  unfolding Problems.withStarts
+  kept-momenta (Refused n k) g = never g
+  kept-momenta Going g = kept-start (normalized (p .«norm_tolerance») (p .q0)) g
+
+  kept-numbers : (b : Bool) (f : Fate) → Kept (cond b (Problems.momentaBy f p map) (Problems.refused 4 0))
+  kept-numbers true f g = kept-momenta f g
+  kept-numbers false f g = never g
 
   kept : Kept (Problems.withMap p map)
   unfolding Problems.withMap
-  kept g = kept-numbers (Problems.numbersFit p) g
+  kept g = kept-numbers (Problems.numbersFit p) (checkStarts (map .«wheel_count») (map .«wheel_momenta») (p .momenta)) g
 
 sized-by : (p : Problem) (f : Fate) → prepare (p .actuators) .fate ≡ f → Problems.preparedBy f (prepare (p .actuators) .map) p .fate ≡ Going → isSized (Problems.preparedBy f (prepare (p .actuators) .map) p .problem .map) ≡ true
 sized-by p (Refused n k) e g = never g

@@ -1,4 +1,4 @@
--- Checks 1 to 6 of document 01, and the problem that passed them. Definitions only.
+-- Checks 1 to 6 of document 01 and 22, and the problem that passed them. Definitions only.
 use Prim.Native.Nat.{ℕ}
 use mathlib.Core.Bool.{Bool, true, false, not, cond, _&&_}
 use mathlib.Core.List.{List}
@@ -23,6 +23,7 @@ use Rattle.problem.specs.declared.Weights.{Weights}
 use Rattle.problem.specs.declared.Problem.{Problem}
 use Rattle.problem.specs.declared.CheckedProblem.{CheckedProblem}
 use Rattle.problem.specs.declared.Checked.{Checked}
+use Rattle.problem.specs.Starts.{checkStarts, placed}
 
 -- 0 and 1
 abbrev pub plusZero : Float
@@ -79,6 +80,7 @@ blankProblem = record {
   «norm_tolerance» = plusZero;
   «tie_tolerance» = plusZero;
   map = blankMap;
+  momenta = replicate 8 plusZero;
 }
 
 abbrev pub refused : ℕ → ℕ → Checked
@@ -100,6 +102,7 @@ invertedBy Going m p map q0 qf = record {
     «norm_tolerance» = p .«norm_tolerance»;
     «tie_tolerance» = p .«tie_tolerance»;
     map = map;
+    momenta = placed (map .«wheel_count») (p .momenta .at);
   };
 }
 
@@ -115,9 +118,17 @@ abbrev pub startBy : Normal → Problem → ActuatorMap → Checked
 startBy Not p map = refused 5 0
 startBy (Is q0) p map = finalBy (normalized (p .«norm_tolerance») (p .qf)) p map q0
 
--- 4, then 5
+unfoldable pub withStarts : Problem → ActuatorMap → Checked
+withStarts p map = startBy (normalized (p .«norm_tolerance») (p .q0)) p map
+
+-- 22: a wheel's start
+abbrev pub momentaBy : Fate → Problem → ActuatorMap → Checked
+momentaBy (Refused n k) p map = refused n k
+momentaBy Going p map = withStarts p map
+
+-- 4, then 22
 unfoldable pub withMap : Problem → ActuatorMap → Checked
-withMap p map = cond (numbersFit p) (startBy (normalized (p .«norm_tolerance») (p .q0)) p map) (refused 4 0)
+withMap p map = cond (numbersFit p) (momentaBy (checkStarts (map .«wheel_count») (map .«wheel_momenta») (p .momenta)) p map) (refused 4 0)
 
 -- 1, 2 and 3: `prepare` refuses
 abbrev pub preparedBy : Fate → ActuatorMap → Problem → Checked

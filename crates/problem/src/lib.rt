@@ -1,6 +1,6 @@
-// The problem as a user gives it, checks 1 to 6 of document 01 in their order, and the checked problem that every forward run reads.
+// The problem as a user gives it, checks 1 to 6 of document 01 and 22 in their order, and the checked problem that every forward run reads.
 // Carried over from quatopsy-plan/src/scvx.rs (`SolverProblem`, `Weights`) and src/lib.rs (the checks of `plan`), Apache-2.0, changed: one record for
-// all inputs, the two tolerances as fields, refusals as numbers, both attitudes normalized and the inertia inverted once.
+// all inputs, the two tolerances and the wheels' start momenta as fields, refusals as numbers, both attitudes normalized and the inertia inverted once.
 ghost use mathlib.Core.Path.{_≡_};
 ghost use Rattle.problem.specs.Problems as Problems;
 use actuators::ActuatorMap;
@@ -15,6 +15,8 @@ use geom::Quat;
 use geom::invert_spd;
 use geom::tensor;
 
+pub mod starts;
+
 // The six weights of the search's residuals.
 pub struct Weights {
     pub time: f64,
@@ -25,7 +27,13 @@ pub struct Weights {
     pub momentum: f64,
 }
 
-// A rest-to-rest slew: from q0 to qf, with the body, its limits, the weights, the two tolerances and the actuators.
+// The momenta of `count` wheels, in N m s, in the order in which the wheels are declared.
+pub struct Momenta {
+    pub count: usize,
+    pub at: [f64; 8],
+}
+
+// A rest-to-rest slew: from q0 to qf, with the body, its limits, the weights, the two tolerances, the actuators and the momenta that the wheels start with.
 pub struct Problem {
     pub q0: Quat,
     pub qf: Quat,
@@ -36,9 +44,10 @@ pub struct Problem {
     pub norm_tolerance: f64,
     pub tie_tolerance: f64,
     pub actuators: Actuators,
+    pub momenta: Momenta,
 }
 
-// A problem that passed checks 1 to 6: both attitudes normalized once, the inertia's inverse, the actuators' tables.
+// A problem that passed the checks: both attitudes normalized once, the inertia's inverse, the actuators' tables, the wheels' start momenta with +0 past them.
 pub struct CheckedProblem {
     pub q0: Quat,
     pub qf: Quat,
@@ -50,6 +59,7 @@ pub struct CheckedProblem {
     pub norm_tolerance: f64,
     pub tie_tolerance: f64,
     pub map: ActuatorMap,
+    pub momenta: [f64; 8],
 }
 
 // What the checks answer; the problem is blank where one refuses.
@@ -178,6 +188,7 @@ pub fn blank_problem() -> CheckedProblem
         norm_tolerance: 0.0,
         tie_tolerance: 0.0,
         map: blank_map(),
+        momenta: [0.0; 8],
     }
 }
 
@@ -205,6 +216,9 @@ pub fn with_attitudes(p: Problem, map: ActuatorMap, q0: Quat, qf: Quat) -> Check
             let limit = p.torque_limit;
             let weights = p.weights;
             let slew = p.slew;
+            let momenta = p.momenta;
+            let given = momenta.at;
+            let starts = starts::placed(map.wheel_count, given);
             let problem = CheckedProblem {
                 q0: q0,
                 qf: qf,
@@ -216,6 +230,7 @@ pub fn with_attitudes(p: Problem, map: ActuatorMap, q0: Quat, qf: Quat) -> Check
                 norm_tolerance: p.norm_tolerance,
                 tie_tolerance: p.tie_tolerance,
                 map: map,
+                momenta: starts,
             };
             Checked {
                 fate: Fate::Going,
@@ -225,13 +240,10 @@ pub fn with_attitudes(p: Problem, map: ActuatorMap, q0: Quat, qf: Quat) -> Check
     }
 }
 
-// Checks 4 and 5, with the actuators prepared.
-pub fn with_map(p: Problem, map: ActuatorMap) -> Checked
-    ensures { λ r. ⌜ r ≡ Problems.withMap p map ⌝ }
+// Check 5, with the actuators prepared and the wheels' starts in their limits.
+pub fn with_starts(p: Problem, map: ActuatorMap) -> Checked
+    ensures { λ r. ⌜ r ≡ Problems.withStarts p map ⌝ }
 {
-    if !numbers_fit(p) {
-        return refused(4, 0);
-    }
     let start = p.q0;
     let end = p.qf;
     let Normal::Is(q0) = start.normalized(p.norm_tolerance) else {
@@ -243,7 +255,23 @@ pub fn with_map(p: Problem, map: ActuatorMap) -> Checked
     with_attitudes(p, map, q0, qf)
 }
 
-// Checks 1 to 6 in document 01's order.
+// Checks 4 and 22, with the actuators prepared.
+pub fn with_map(p: Problem, map: ActuatorMap) -> Checked
+    ensures { λ r. ⌜ r ≡ Problems.withMap p map ⌝ }
+{
+    if !numbers_fit(p) {
+        return refused(4, 0);
+    }
+    let limits = map.wheel_momenta;
+    let momenta = p.momenta;
+    let fate = starts::check_starts(map.wheel_count, limits, momenta);
+    match fate {
+        Fate::Refused(number, place) => refused(number, place),
+        Fate::Going => with_starts(p, map),
+    }
+}
+
+// Checks 1 to 6 in document 01's order, and 22 after 4.
 pub fn check(p: Problem) -> Checked
     ensures { λ r. ⌜ r ≡ Problems.check p ⌝ }
 {

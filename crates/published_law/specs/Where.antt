@@ -4,7 +4,7 @@ use mathlib.Core.Path.{_≡_, refl, ap, _∙_}
 use mathlib.Core.List.{List}
 use native.Mathlib.Omega.{arith}
 use lib.Dec.{T}
-use lib.ListN.{getD, set, replicate, length, length-set, length-replicate}
+use lib.ListN.{getD, set, length, length-set, length-replicate}
 use lib.Seq.{getD-set-same, getD-set-other}
 use lib.Ieee.{Float, ofBits}
 use Rattle.common.specs.Iter.{iter}
@@ -119,4 +119,4 @@ reconstruct-nodes-agree p z t S = reconstruct-agrees p z (λ e. nodes-unladen (b
 
 -- and so is every run of a problem without wheels, also a refused one
 pub reconstruct-wheelless-agrees : (p : Problem) (z : List Float) → admit p .problem .map .«wheel_count» ≡ 0 → Published.reconstruct p z ≡ Operations.reconstruct p z
-reconstruct-wheelless-agrees p z w = reconstruct-agrees p z (λ e. wheelless-unladen (bodyOf (admit p .problem) (stepTime z)) (controlDim (admit p .problem .map)) z (startOf (admit p .problem)) w (unfold start in none-still (admit p .problem .map .«wheel_axes») (admit p .problem .map .«wheel_count») (replicate 8 Vec.plusZero) w))
+reconstruct-wheelless-agrees p z w = reconstruct-agrees p z (λ e. wheelless-unladen (bodyOf (admit p .problem) (stepTime z)) (controlDim (admit p .problem .map)) z (startOf (admit p .problem)) w (unfold start in none-still (admit p .problem .map .«wheel_axes») (admit p .problem .map .«wheel_count») (admit p .problem .momenta) w))

@@ -284,6 +284,12 @@ fn later(number: usize, place: usize, out: &mut [u8]) -> usize
     ensures { λ r. ⌜ Puts (now (out .entry)) 0 (Sentences.later number place) 212 (now (out .exit)) r ⌝ }
 {
     match number {
+        22 => tell(
+            out,
+            b"Wheel ",
+            place,
+            b": its start momentum must be finite and at most its limit in size, one for each wheel.\n",
+        ),
         24 => tell(
             out,
             b"Sample ",

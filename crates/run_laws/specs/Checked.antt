@@ -1,8 +1,9 @@
--- What the checks before a run leave of a problem: attitudes of at most 2 ^ 56, a norm tolerance below 1, torque and slew limits that are finite and above 0, prepared actuators in order. Assumes nothing.
+-- What the checks before a run leave of a problem: attitudes of at most 2 ^ 56, a norm tolerance below 1, torque and slew limits that are finite and above 0, prepared actuators in order,
+-- momenta that the wheels may start with. Assumes nothing.
 use mathlib.Core.Path.{_≡_, refl}
-use mathlib.Core.Bool.{Bool, true, false, cond, _&&_}
+use mathlib.Core.Bool.{Bool, true, false, not, cond, _&&_}
 use mathlib.Core.List.{List}
-use Prim.Native.Nat.{ℕ, zero, _<_}
+use Prim.Native.Nat.{ℕ, zero, _<_, _≤_}
 use native.Mathlib.Omega.{arith}
 use lib.Dec.{T}
 use lib.Ieee.{Float, binary64, lt, fits}
@@ -13,7 +14,10 @@ use Rattle.common.specs.declared.Fate.{Fate}
 use Rattle.common.specs.declared.Fate.the-variants.{Going, Refused}
 use Rattle.common.specs.declared.Limit.{Limit}
 use Rattle.common.specs.declared.Limit.the-variants.{Nothing, At}
+use Rattle.float.specs.Ops.{abs}
 use Rattle.laws.specs.Below.{below-three}
+use Rattle.laws.specs.Order.{held}
+use Rattle.laws.specs.Finite.{finite-number}
 use Rattle.laws.specs.Limits as Limits
 use Rattle.laws.specs.Unit.{Below1}
 use Rattle.geom.specs.Vec.{tensor}
@@ -25,11 +29,15 @@ use Rattle.geom.specs.declared.Normal.the-variants as Normal
 use Rattle.actuators.specs.Prepare.{prepare}
 use Rattle.actuators.specs.declared.ActuatorMap.{ActuatorMap}
 use Rattle.problem.specs.Problems as Problems
+use Rattle.problem.specs.Starts.{checkStarts, placed}
+use Rattle.problem.specs.StartLaws.{Passed, starts-passed, placed-at, placed-past, placed-long}
+use Rattle.problem.specs.declared.Momenta.{Momenta}
 use Rattle.problem.specs.declared.Problem.{Problem}
 use Rattle.problem.specs.declared.CheckedProblem.{CheckedProblem}
 use Rattle.run_laws.specs.Values.{goes, FitsQ, WithinQ}
 use Rattle.run_laws.specs.Attitudes.{normalized-is, normed-in}
 use Rattle.run_laws.specs.Prepared.{FitsM, MapOk, prepare-ok}
+use Rattle.run_laws.specs.Runs.{MomentaOk}
 
 -- ---- a slew limit, where there is one, is finite and above 0
 abbrev pub SlewOk : Limit → Type 0
@@ -48,8 +56,9 @@ pub record FitsP (p : Problem) : Type 0 where
   pub slew : SlewFits (p .slew)
   pub tolerance : T (fits binary64 (p .«norm_tolerance»))
   pub map : FitsM (prepare (p .actuators) .map)
+  pub momenta : (i : ℕ) → T (fits binary64 (at (p .momenta .at) i))
 
--- a problem that passed checks 1 to 6
+-- a problem that passed the checks
 pub record Ready (p : CheckedProblem) : Type 0 where
   pub q0 : WithinQ 56 (p .q0)
   pub qf : WithinQ 56 (p .qf)
@@ -57,6 +66,7 @@ pub record Ready (p : CheckedProblem) : Type 0 where
   pub limits : (i : ℕ) → i < 3 → Limits.Limit (at (p .«torque_limit») i)
   pub slew : SlewOk (p .slew)
   pub map : MapOk (p .map)
+  pub momenta : MomentaOk (p .map .«wheel_count») (p .momenta)
 
 limit-of : (x : Float) → T (fits binary64 x) → T (Problems.isPositive x) → Limits.Limit x
 limit-of x g t = record { fit = g; fine = and-l (finite x) (lt Problems.plusZero x) t; over = and-r (finite x) (lt Problems.plusZero x) t }
@@ -64,6 +74,21 @@ limit-of x g t = record { fit = g; fine = and-l (finite x) (lt Problems.plusZero
 slew-of : (l : Limit) → SlewFits l → T (Problems.limitFits l) → SlewOk l
 slew-of Nothing g t = tt
 slew-of (At r) g t = limit-of r g t
+
+-- check 22 leaves momenta that a run may begin with
+momenta-of : (n : ℕ) (limits : List Float) (m : Momenta) → n ≤ 8 → ((i : ℕ) → T (fits binary64 (at (m .at) i))) → Passed n limits m → MomentaOk n (placed n (m .at))
+momenta-of n limits m l G P = record {
+  long = rw (placed-long n (m .at)) l;
+  held = λ i h. rw (placed-at n (m .at) i (below i h) h) (held (G i) (finite-number (at (m .at) i) (fine i h)));
+  fine = λ i h. rw (placed-at n (m .at) i (below i h) h) (fine i h);
+  spare = λ i h k. placed-past n (m .at) i k h;
+}
+  where
+    below : (i : ℕ) → i < n → i < 8
+    below i h = omega (arith, l)
+
+    fine : (i : ℕ) → i < n → T (finite (at (m .at) i))
+    fine i h = and-l (finite (at (m .at) i)) (not (lt (at limits i) (abs (at (m .at) i)))) (rw (P .fit i h) tt)
 
 module _ (p : Problem) (F : FitsP p) where
   -- check 4
@@ -93,10 +118,10 @@ module _ (p : Problem) (F : FitsP p) where
         tolerance = record { fit = F .tolerance; less = and-r (lt Problems.plusZero (p .«norm_tolerance»)) (lt (p .«norm_tolerance») Problems.one) (and-r (f && s && w) n t4) };
       }
 
-  module _ (m : ActuatorMap) (M : MapOk m) (N : Numbers) where
+  module _ (m : ActuatorMap) (M : MapOk m) (N : Numbers) (H : MomentaOk (m .«wheel_count») (placed (m .«wheel_count») (p .momenta .at))) where
     inverted : (e : Fate) (i : List Float) (q0 qf : Quat) → WithinQ 56 q0 → WithinQ 56 qf → T (goes (Problems.invertedBy e i p m q0 qf .fate)) → Ready (Problems.invertedBy e i p m q0 qf .problem)
     inverted (Refused a b) i q0 qf A B t = absurd t
-    inverted Going i q0 qf A B t = record { q0 = A; qf = B; tolerance = N .tolerance; limits = N .limits; slew = N .slew; map = M }
+    inverted Going i q0 qf A B t = record { q0 = A; qf = B; tolerance = N .tolerance; limits = N .limits; slew = N .slew; map = M; momenta = H }
 
     final : (q0 : Quat) → WithinQ 56 q0 → (x : Normal) → normalized (p .«norm_tolerance») (p .qf) ≡ x → T (goes (Problems.finalBy x p m q0 .fate)) → Ready (Problems.finalBy x p m q0 .problem)
     unfolding Problems.withAttitudes
@@ -111,15 +136,20 @@ module _ (p : Problem) (F : FitsP p) where
         final q0 (normed-in (p .«norm_tolerance») (p .q0) q0 (N .tolerance) (F .q0) (normalized-is (p .«norm_tolerance») (p .q0) q0 e)) (normalized (p .«norm_tolerance») (p .qf)) refl t
 
   mapped : (m : ActuatorMap) → MapOk m → T (goes (Problems.withMap p m .fate)) → Ready (Problems.withMap p m .problem)
-  unfolding Problems.withMap
-  mapped m M t = go (Problems.numbersFit p) (λ h. h) t
+  unfolding Problems.withMap Problems.withStarts
+  mapped m M t = go (Problems.numbersFit p) (λ h. h) (checkStarts n limits (p .momenta)) refl t
     where
-      x : Normal
-      x = normalized (p .«norm_tolerance») (p .q0)
+      n : ℕ
+      n = m .«wheel_count»
 
-      go : (b : Bool) → (T b → T (Problems.numbersFit p)) → T (goes (cond b (Problems.startBy x p m) (Problems.refused 4 0) .fate)) → Ready (cond b (Problems.startBy x p m) (Problems.refused 4 0) .problem)
-      go true h t = begun m M (numbers-of (h tt)) x refl t
-      go false h t = absurd t
+      limits : List Float
+      limits = m .«wheel_momenta»
+
+      go : (b : Bool) → (T b → T (Problems.numbersFit p)) → (e : Fate) → checkStarts n limits (p .momenta) ≡ e
+          → T (goes (cond b (Problems.momentaBy e p m) (Problems.refused 4 0) .fate)) → Ready (cond b (Problems.momentaBy e p m) (Problems.refused 4 0) .problem)
+      go true h Going e t = begun m M (numbers-of (h tt)) (momenta-of n limits (p .momenta) (M .wheels) (F .momenta) (starts-passed n limits (p .momenta) e)) (normalized (p .«norm_tolerance») (p .q0)) refl t
+      go true h (Refused i j) e t = absurd t
+      go false h f e t = absurd t
 
   -- CHECKED: what passed is ready
   pub check-ready : T (goes (Problems.check p .fate)) → Ready (Problems.check p .problem)

@@ -28,7 +28,7 @@ use Rattle.forward.specs.declared.Node.{Node}
 use Rattle.forward.specs.declared.Run.{Run}
 use Rattle.run_laws.specs.Values.{goes, Fine3}
 use Rattle.run_laws.specs.Torques.{at-slice}
-use Rattle.run_laws.specs.Runs.{StateOk, NodeOk, rest-ok, start-ok, Flown, run-flown}
+use Rattle.run_laws.specs.Runs.{StateOk, NodeOk, start-ok, Flown, run-flown}
 use Rattle.run_laws.specs.Defects.{grounded}
 use Rattle.run_laws.specs.Times.{time-finite}
 use Rattle.run_laws.specs.Checked.{FitsP, Ready, check-ready}
@@ -88,7 +88,7 @@ run-path p z R F t = record {
     b = bodyOf p (stepTime z)
 
     S : StateOk b (startOf p)
-    S = start-ok b _ _ (p .q0) _ (R .q0) (rest-ok (p .map .«wheel_count») (R .map .wheels))
+    S = start-ok b _ _ (p .q0) _ (R .q0) (R .momenta)
 
     W : Flown b (controlDim (p .map)) z (startOf p) (R .tolerance) F S (runFrom b (controlDim (p .map)) z (startOf p))
     W = run-flown b (controlDim (p .map)) z (startOf p) (R .tolerance) F S t

@@ -4,7 +4,7 @@ use mathlib.Core.List.{List, [], _∷_}
 use Prim.Native.Nat.{ℕ, zero, suc, _+_, _-_, _*_, _<_, _≤_}
 use native.Mathlib.Omega.{arith}
 use lib.Dec.{T}
-use lib.ListN.{getD, set, length, take, drop, length-set, replicate, length-replicate, getD-replicate}
+use lib.ListN.{getD, set, length, take, drop, length-set, replicate, length-replicate}
 use lib.Seq.{getD-set-same, getD-set-other, getD-drop}
 use lib.IntN.{pos}
 use lib.Ieee.{Float, nan, binary64, mul, fits, ofInt, ofBits}
@@ -83,18 +83,6 @@ pub record MomentaOk (nw : ℕ) (hw : List Float) : Type 0 where
   pub held : HeldN nw hw
   pub fine : FineN nw hw
   pub spare : Spare nw hw
-
--- wheels at +0
-pub rest-ok : (nw : ℕ) → nw ≤ 8 → MomentaOk nw (replicate 8 Vec.plusZero)
-rest-ok nw l = record {
-  long = rw (length-replicate 8 Vec.plusZero) l;
-  held = λ i h. rw (getD-replicate 8 i Vec.plusZero nan (below i h)) (held zero-fits (finite-number Vec.plusZero zero-finite));
-  fine = λ i h. rw (getD-replicate 8 i Vec.plusZero nan (below i h)) zero-finite;
-  spare = λ i h k. getD-replicate 8 i Vec.plusZero nan k;
-}
-  where
-    below : (i : ℕ) → i < nw → i < 8
-    below i h = omega (arith, l)
 
 -- the start of a run, whatever body momentum its wheels make
 pub start-ok : (b : Body) (axes : List Float) (n : ℕ) (q0 : Quat) (hw : List Float) → WithinQ 56 q0 → MomentaOk (b .rig .«wheel_count») hw → StateOk b (start axes n q0 hw)

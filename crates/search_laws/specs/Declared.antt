@@ -1,5 +1,5 @@
--- What the user declares, in document 01's words, and that a checked problem has it: controls per row, a control's limit, the attitudes normalized. Assumes nothing.
-use mathlib.Core.Path.{_≡_, refl}
+-- What the user declares, in document 01's words, and that a checked problem has it: controls per row, a control's limit, the attitudes normalized, the wheels' starts. Assumes nothing.
+use mathlib.Core.Path.{_≡_, refl, ap, _∙_}
 use mathlib.Core.Bool.{Bool, true, false, not, cond, _&&_}
 use mathlib.Core.List.{List}
 use Prim.Native.Nat.{ℕ, _+_, _-_, _<_, _≤_}
@@ -23,6 +23,8 @@ use Rattle.controls.specs.Limits.{gimbalRate, partLimit, limitOf}
 use Rattle.controls.specs.declared.Rig.{Rig}
 use Rattle.controls.specs.declared.WheelLaw.the-variants.{Once}
 use Rattle.problem.specs.Problems as Problems
+use Rattle.problem.specs.Starts.{checkStarts, placed}
+use Rattle.problem.specs.StartLaws.{starts-passed}
 use Rattle.problem.specs.declared.Problem.{Problem}
 use Rattle.problem.specs.declared.CheckedProblem.{CheckedProblem}
 use Rattle.run_laws.specs.Values.{goes, FitsQ}
@@ -59,23 +61,26 @@ pub record Given (p : Problem) : Type 0 where
   pub slew : SlewFits (p .slew)
   pub tolerance : T (fits binary64 (p .«norm_tolerance»))
   pub actuators : FitsA (p .actuators)
+  pub momenta : (i : ℕ) → T (fits binary64 (at (p .momenta .at) i))
 
 pub given-fits : (p : Problem) → Given p → FitsP p
-given-fits p G = record { q0 = G .q0; qf = G .qf; limit = G .limit; slew = G .slew; tolerance = G .tolerance; map = prepare-fits (p .actuators) (G .actuators) }
+given-fits p G = record { q0 = G .q0; qf = G .qf; limit = G .limit; slew = G .slew; tolerance = G .tolerance; map = prepare-fits (p .actuators) (G .actuators); momenta = G .momenta }
 
--- ---- a checked problem is the user's: both attitudes normalized, its actuators prepared
+-- ---- a checked problem is the user's: both attitudes normalized, its actuators prepared, one start a wheel
 module _ (p : Problem) where
   pub record Same (c : CheckedProblem) : Type 0 where
     pub q0 : normalized (p .«norm_tolerance») (p .q0) ≡ Normal.Is (c .q0)
     pub qf : normalized (p .«norm_tolerance») (p .qf) ≡ Normal.Is (c .qf)
     pub limit : c .«torque_limit» ≡ p .«torque_limit»
     pub map : Declared (p .actuators) (c .map)
+    pub count : p .momenta .count ≡ p .actuators .«wheel_count»
+    pub momenta : c .momenta ≡ placed (p .actuators .«wheel_count») (p .momenta .at)
 
-  module _ (m : ActuatorMap) (M : Declared (p .actuators) m) where
+  module _ (m : ActuatorMap) (M : Declared (p .actuators) m) (count : p .momenta .count ≡ m .«wheel_count») where
     inverted : (e : Fate) (i : List Float) (q0 qf : Quat) → normalized (p .«norm_tolerance») (p .q0) ≡ Normal.Is q0 → normalized (p .«norm_tolerance») (p .qf) ≡ Normal.Is qf
         → T (goes (Problems.invertedBy e i p m q0 qf .fate)) → Same (Problems.invertedBy e i p m q0 qf .problem)
     inverted (Refused a b) i q0 qf f g t = absurd t
-    inverted Going i q0 qf f g t = record { q0 = f; qf = g; limit = refl; map = M }
+    inverted Going i q0 qf f g t = record { q0 = f; qf = g; limit = refl; map = M; count = count ∙ M .wheels; momenta = ap (λ (n : ℕ). placed n (p .momenta .at)) (M .wheels) }
 
     final : (q0 : Quat) → normalized (p .«norm_tolerance») (p .q0) ≡ Normal.Is q0 → (x : Normal) → normalized (p .«norm_tolerance») (p .qf) ≡ x → T (goes (Problems.finalBy x p m q0 .fate)) → Same (Problems.finalBy x p m q0 .problem)
     unfolding Problems.withAttitudes
@@ -86,16 +91,21 @@ module _ (p : Problem) where
     begun Normal.Not e t = absurd t
     begun (Normal.Is q0) e t = final q0 e (normalized (p .«norm_tolerance») (p .qf)) refl t
 
-    mapped : T (goes (Problems.withMap p m .fate)) → Same (Problems.withMap p m .problem)
-    unfolding Problems.withMap
-    mapped t = go (Problems.numbersFit p) t
-      where
-        x : Normal
-        x = normalized (p .«norm_tolerance») (p .q0)
+  mapped : (m : ActuatorMap) → Declared (p .actuators) m → T (goes (Problems.withMap p m .fate)) → Same (Problems.withMap p m .problem)
+  unfolding Problems.withMap Problems.withStarts
+  mapped m M t = go (Problems.numbersFit p) (checkStarts n limits (p .momenta)) refl t
+    where
+      n : ℕ
+      n = m .«wheel_count»
 
-        go : (b : Bool) → T (goes (cond b (Problems.startBy x p m) (Problems.refused 4 0) .fate)) → Same (cond b (Problems.startBy x p m) (Problems.refused 4 0) .problem)
-        go true t = begun x refl t
-        go false t = absurd t
+      limits : List Float
+      limits = m .«wheel_momenta»
+
+      go : (b : Bool) (e : Fate) → checkStarts n limits (p .momenta) ≡ e
+          → T (goes (cond b (Problems.momentaBy e p m) (Problems.refused 4 0) .fate)) → Same (cond b (Problems.momentaBy e p m) (Problems.refused 4 0) .problem)
+      go true Going e t = begun m M (starts-passed n limits (p .momenta) e .count) (normalized (p .«norm_tolerance») (p .q0)) refl t
+      go true (Refused i j) e t = absurd t
+      go false f e t = absurd t
 
   -- CHECKED: what passed the checks is the user's
   pub check-same : T (goes (Problems.check p .fate)) → Same (Problems.check p .problem)

@@ -1,8 +1,9 @@
--- A prepared map has the numbers that the user declared: its counts, its torques and momenta, the pyramid; and f64 holds them where it holds the user's. Assumes nothing.
+-- A prepared map has the numbers that the user declared: its counts, its torques and momenta, the pyramid, and the unit vectors along its wheels' axes; and f64 holds them where it holds the
+-- user's. Assumes nothing.
 use mathlib.Core.Path.{_≡_, refl, sym, _∙_, subst}
 use mathlib.Core.Bool.{Bool, true, false, cond}
 use mathlib.Core.List.{List}
-use Prim.Native.Nat.{ℕ, zero, suc, _+_, _≤_, _<_}
+use Prim.Native.Nat.{ℕ, zero, suc, _+_, _*_, _≤_, _<_}
 use native.Mathlib.Omega.{arith}
 use borrow.Author.Tests.{ltb-false}
 use lib.Dec.{T, ltb}
@@ -36,17 +37,17 @@ record Kept (a : Actuators) (W : ℕ → ℕ → Prepared → Type 0) : Type 0 w
   no : (j l n place : ℕ) → W j l (Prepare.refused n place)
   stays : (j l i k n place : ℕ) (p : Prepared) → p .fate ≡ Refused n place → W j l p → W i k p
   start : W 0 0 (Prepare.going (Maps.unfilled (a .«wheel_count») (a .«thruster_count») (a .cmgs)))
-  wheel : (k l : ℕ) (m : ActuatorMap) (x y z : Float) → k < 8 → W k l (Prepare.going m) → W (suc k) l (Prepare.going (Prepare.withWheel m k (Maps.wheelAt (a .wheels) k) x y z))
+  wheel : (k l : ℕ) (m : ActuatorMap) (x y z : Float) → k < 8 → unit3 (Maps.wheelAt (a .wheels) k .axis) ≡ Is x y z → W k l (Prepare.going m) → W (suc k) l (Prepare.going (Prepare.withWheel m k (Maps.wheelAt (a .wheels) k) x y z))
   thruster : (j k : ℕ) (m : ActuatorMap) (x y z : Float) → k < 12 → W j k (Prepare.going m) → W j (suc k) (Prepare.going (Prepare.withThruster m k (Maps.thrusterAt (a .thrusters) k) x y z))
 
 module _ (a : Actuators) (W : ℕ → ℕ → Prepared → Type 0) (K : Kept a W) where
-  placed-keeps : (j l place : ℕ) (u : Axis) (f : Float → Float → Float → ActuatorMap) → ((x y z : Float) → W j l (Prepare.going (f x y z))) → W j l (Prepare.placed place u f)
-  placed-keeps j l place Not f h = K .no j l 3 place
-  placed-keeps j l place (Is x y z) f h = h x y z
+  placed-keeps : (j l place : ℕ) (u v : Axis) (f : Float → Float → Float → ActuatorMap) → u ≡ v → ((x y z : Float) → u ≡ Is x y z → W j l (Prepare.going (f x y z))) → W j l (Prepare.placed place v f)
+  placed-keeps j l place u Not f e h = K .no j l 3 place
+  placed-keeps j l place u (Is x y z) f e h = h x y z e
 
-  checked-keeps : (j l : ℕ) (out : Bool) (place : ℕ) (u : Axis) (f : Float → Float → Float → ActuatorMap) → ((x y z : Float) → W j l (Prepare.going (f x y z))) → W j l (Prepare.checked out place u f)
+  checked-keeps : (j l : ℕ) (out : Bool) (place : ℕ) (u : Axis) (f : Float → Float → Float → ActuatorMap) → ((x y z : Float) → u ≡ Is x y z → W j l (Prepare.going (f x y z))) → W j l (Prepare.checked out place u f)
   checked-keeps j l true place u f h = K .no j l 2 place
-  checked-keeps j l false place u f h = placed-keeps j l place u f h
+  checked-keeps j l false place u f h = placed-keeps j l place u u f refl h
 
   -- from p with j and l to the next answer with i and k
   onward-keeps : (j l i k : ℕ) (f : Fate) (p next : Prepared) → p .fate ≡ f → W j l p → (W j l (Prepare.going (p .map)) → W i k next) → W i k (Prepare.onward f p next)
@@ -60,7 +61,7 @@ module _ (a : Actuators) (W : ℕ → ℕ → Prepared → Type 0) (K : Kept a W
       let q = iter (Prepare.wheelTurn (a .wheels)) p k in
       let r = Maps.wheelAt (a .wheels) k in
       onward-keeps k 0 (suc k) 0 (q .fate) q (Prepare.wheelChecked (q .map) k r) refl (wheels-keep k p (omega arith) w)
-      (λ v. checked-keeps (suc k) 0 (Prepare.wheelOutside r) k (unit3 (r .axis)) (Prepare.withWheel (q .map) k r) (λ x y z. K .wheel k 0 (q .map) x y z (omega arith) v))
+      (λ v. checked-keeps (suc k) 0 (Prepare.wheelOutside r) k (unit3 (r .axis)) (Prepare.withWheel (q .map) k r) (λ x y z u. K .wheel k 0 (q .map) x y z (omega arith) u v))
 
   thrusters-keep : (j n : ℕ) (p : Prepared) → n ≤ 12 → W j 0 p → W j n (iter (Prepare.thrusterTurn (a .thrusters)) p n)
   unfolding iter Prepare.thrusterNext Prepare.thrusterChecked
@@ -69,7 +70,7 @@ module _ (a : Actuators) (W : ℕ → ℕ → Prepared → Type 0) (K : Kept a W
       let q = iter (Prepare.thrusterTurn (a .thrusters)) p k in
       let r = Maps.thrusterAt (a .thrusters) k in
       onward-keeps j k j (suc k) (q .fate) q (Prepare.thrusterChecked (q .map) k r) refl (thrusters-keep j k p (omega arith) w)
-      (λ v. checked-keeps j (suc k) (Prepare.outside (r .«max_torque_nm»)) (8 + k) (unit3 (r .«torque_axis»)) (Prepare.withThruster (q .map) k r) (λ x y z. K .thruster j k (q .map) x y z (omega arith) v))
+      (λ v. checked-keeps j (suc k) (Prepare.outside (r .«max_torque_nm»)) (8 + k) (unit3 (r .«torque_axis»)) (Prepare.withThruster (q .map) k r) (λ x y z u. K .thruster j k (q .map) x y z (omega arith) v))
 
   cmgs-keep : (j l : ℕ) (c : Cmgs) (m : ActuatorMap) → W j l (Prepare.going m) → W j l (Prepare.cmgsChecked c m)
   cmgs-keep j l Without m w = w
@@ -101,6 +102,7 @@ module _ (a : Actuators) (W : ℕ → ℕ → Prepared → Type 0) (K : Kept a W
 pub record FitsA (a : Actuators) : Type 0 where
   pub torque : (k : ℕ) → T (fits binary64 (Maps.wheelAt (a .wheels) k .«max_torque_nm»))
   pub momentum : (k : ℕ) → T (fits binary64 (Maps.wheelAt (a .wheels) k .«max_momentum_nms»))
+  pub axis : (k i : ℕ) → T (fits binary64 (at (Maps.wheelAt (a .wheels) k .axis) i))
   pub thrust : (k : ℕ) → T (fits binary64 (Maps.thrusterAt (a .thrusters) k .«max_torque_nm»))
   pub rate : RateFits (a .cmgs)
 
@@ -117,7 +119,7 @@ fits-kept a F = record {
   no = λ j l n place. unfilled-fits 0 0 Without tt;
   stays = λ j l i k n place p e w. w;
   start = unfilled-fits _ _ (a .cmgs) (F .rate);
-  wheel = λ k l m x y z h M. record { torque = set-all isFit (m .«wheel_torques») k _ (F .torque k) (M .torque); momentum = set-all isFit (m .«wheel_momenta») k _ (F .momentum k) (M .momentum); thrust = M .thrust; rate = M .rate };
+  wheel = λ k l m x y z h u M. record { torque = set-all isFit (m .«wheel_torques») k _ (F .torque k) (M .torque); momentum = set-all isFit (m .«wheel_momenta») k _ (F .momentum k) (M .momentum); thrust = M .thrust; rate = M .rate };
   thruster = λ j k m x y z h M. record { torque = M .torque; momentum = M .momentum; thrust = set-all isFit (m .«thruster_torques») k _ (F .thrust k) (M .thrust); rate = M .rate };
 }
 
@@ -146,19 +148,63 @@ module _ (a : Actuators) where
   abbrev thrust : ℕ → Float
   thrust k = Maps.thrusterAt (a .thrusters) k .«max_torque_nm»
 
+  -- the first j axes of a table of eight are the unit vectors along the wheels' axes
+  pub record Axes (j : ℕ) (t : List Float) : Type 0 where
+    pub long : length t ≡ 24
+    pub is : (k : ℕ) → k < j → unit3 (Maps.wheelAt (a .wheels) k .axis) ≡ Is (at t (3 * k)) (at t (3 * k + 1)) (at t (3 * k + 2))
+
+  axes-more : (k : ℕ) (t : List Float) (x y z : Float) → k < 8 → unit3 (Maps.wheelAt (a .wheels) k .axis) ≡ Is x y z → Axes k t → Axes (suc k) (Prepare.axisSet t k x y z)
+  axes-more k t x y z h u A = record {
+    long = long3 ∙ A .long;
+    is = below-next (λ i. unit3 (Maps.wheelAt (a .wheels) i .axis) ≡ Is (at t3 (3 * i)) (at t3 (3 * i + 1)) (at t3 (3 * i + 2))) k
+        (rw (here0, here1, here2) u)
+        (λ i l. rw (there (3 * i) (omega arith), there (3 * i + 1) (omega arith), there (3 * i + 2) (omega arith)) (A .is i l));
+  }
+    where
+      t1 : List Float
+      t1 = set t (3 * k) x
+
+      t2 : List Float
+      t2 = set t1 (3 * k + 1) y
+
+      t3 : List Float
+      t3 = set t2 (3 * k + 2) z
+
+      long1 : length t1 ≡ length t
+      long1 = length-set t (3 * k) x
+
+      long2 : length t2 ≡ length t
+      long2 = length-set t1 (3 * k + 1) y ∙ long1
+
+      long3 : length t3 ≡ length t
+      long3 = length-set t2 (3 * k + 2) z ∙ long2
+
+      here0 : at t3 (3 * k) ≡ x
+      here0 = getD-set-other t2 (3 * k + 2) (3 * k) z nan (λ (e : 3 * k ≡ 3 * k + 2). omega arith) ∙ getD-set-other t1 (3 * k + 1) (3 * k) y nan (λ (e : 3 * k ≡ 3 * k + 1). omega arith) ∙ getD-set-same t (3 * k) x nan (omega (arith, A .long))
+
+      here1 : at t3 (3 * k + 1) ≡ y
+      here1 = getD-set-other t2 (3 * k + 2) (3 * k + 1) z nan (λ (e : 3 * k + 1 ≡ 3 * k + 2). omega arith) ∙ getD-set-same t1 (3 * k + 1) y nan (omega (arith, A .long, long1))
+
+      here2 : at t3 (3 * k + 2) ≡ z
+      here2 = getD-set-same t2 (3 * k + 2) z nan (omega (arith, A .long, long2))
+
+      there : (i : ℕ) → i < 3 * k → at t3 i ≡ at t i
+      there i l = getD-set-other t2 (3 * k + 2) i z nan (λ (e : i ≡ 3 * k + 2). omega arith) ∙ getD-set-other t1 (3 * k + 1) i y nan (λ (e : i ≡ 3 * k + 1). omega arith) ∙ getD-set-other t (3 * k) i x nan (λ (e : i ≡ 3 * k). omega arith)
+
   pub record Tables (j l : ℕ) (m : ActuatorMap) : Type 0 where
     pub torques : Column 8 j wheelTorque (m .«wheel_torques»)
     pub momenta : Column 8 j wheelMomentum (m .«wheel_momenta»)
     pub thrusts : Column 12 l thrust (m .«thruster_torques»)
+    pub axes : Axes j (m .«wheel_axes»)
 
   tables-kept : Kept a (λ j l p. p .fate ≡ Going → Tables j l (p .map))
   unfolding Prepare.withWheel Prepare.withThruster Maps.unfilled
   tables-kept = record {
     no = λ j l n place e. absurd (refused-going e);
     stays = λ j l i k n place p f w e. absurd (refused-going (sym f ∙ e));
-    start = λ e. record { torques = record { long = refl; is = below-none _ }; momenta = record { long = refl; is = below-none _ }; thrusts = record { long = refl; is = below-none _ } };
-    wheel = λ k l m x y z h w e. let M = w refl in record { torques = column-more 8 k wheelTorque (m .«wheel_torques») h (M .torques); momenta = column-more 8 k wheelMomentum (m .«wheel_momenta») h (M .momenta); thrusts = M .thrusts };
-    thruster = λ j k m x y z h w e. let M = w refl in record { torques = M .torques; momenta = M .momenta; thrusts = column-more 12 k thrust (m .«thruster_torques») h (M .thrusts) };
+    start = λ e. record { torques = record { long = refl; is = below-none _ }; momenta = record { long = refl; is = below-none _ }; thrusts = record { long = refl; is = below-none _ }; axes = record { long = refl; is = below-none _ } };
+    wheel = λ k l m x y z h u w e. let M = w refl in record { torques = column-more 8 k wheelTorque (m .«wheel_torques») h (M .torques); momenta = column-more 8 k wheelMomentum (m .«wheel_momenta») h (M .momenta); thrusts = M .thrusts; axes = axes-more k (m .«wheel_axes») x y z h u (M .axes) };
+    thruster = λ j k m x y z h w e. let M = w refl in record { torques = M .torques; momenta = M .momenta; thrusts = column-more 12 k thrust (m .«thruster_torques») h (M .thrusts); axes = M .axes };
   }
 
   -- THE MAP of what the user declares

@@ -59,7 +59,7 @@ closes s line at least a = go (isAt s at (bytes "\n")) (isAt s at (bytes "))\n")
 
 -- after k lines of the list
 pub record Counts (c : Listing) (k : ℕ) : Type 0 where
-  pub line : c .line ≤ 10 + k
+  pub line : c .line ≤ 11 + k
   pub wheels : c .actuators .«wheel_count» ≤ k
   pub thrusters : c .actuators .«thruster_count» ≤ k
 
@@ -78,9 +78,9 @@ pub counts-first : (s : List ℕ) (at : ℕ) → Counts (firstLine s at) 0
 unfolding firstLine noActuators
 counts-first s at = go (isAt s at (bytes " (actuators"))
   where
-    go : (p : Bool) → Counts (pickListing p (closeAt s 9 (at + 11) 1 noActuators) (wrongLine 9 at 1 noActuators)) 0
+    go : (p : Bool) → Counts (pickListing p (closeAt s 10 (at + 11) 1 noActuators) (wrongLine 10 at 1 noActuators)) 0
     go true =
-        let d = closes s 9 (at + 11) 1 noActuators in
+        let d = closes s 10 (at + 11) 1 noActuators in
         record { line = omega arith; wheels = rw (d .same) (omega arith); thrusters = rw (d .same) (omega arith) }
     go false = record { line = omega arith; wheels = omega arith; thrusters = omega arith }
 

@@ -11,7 +11,7 @@ use Rattle.text.specs.declared.hex.Real.{Real}
 use Rattle.text.specs.declared.hex.Real.the-variants.{Is, Wrong}
 use Rattle.text.specs.declared.lines.Row.{Row}
 use Rattle.text.specs.declared.lines.Words.{Words}
-use Rattle.text.specs.declared.lines.Words.the-variants.{Floats, Limited}
+use Rattle.text.specs.declared.lines.Words.the-variants.{Floats, Limited, Any}
 use Rattle.text.specs.Bytes.{bytes}
 use Rattle.text.specs.Hex.{realAt, realNext}
 
@@ -81,6 +81,7 @@ limited s n r = pick (eqb (r .count) n) (withoutLimit s r) (pick (eqb (r .count)
 abbrev pub wordsBy : Words → List ℕ → Row → Row
 wordsBy (Floats n) s r = floats n r
 wordsBy (Limited n) s r = limited s n r
+wordsBy Any s r = r
 
 unfoldable pub wordsAt : List ℕ → ℕ → Words → Row
 wordsAt s at words = wordsBy words s (rowAt s at)

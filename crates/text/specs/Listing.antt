@@ -118,9 +118,9 @@ lineWith s c i =
 unfoldable pub nextLine : List ℕ → Listing → Listing
 nextLine s c = lineWith s c (itemAt s (c .at))
 
--- line 9 begins the list
+-- line 10 begins the list
 unfoldable pub firstLine : List ℕ → ℕ → Listing
-firstLine s at = pickListing (isAt s at (bytes " (actuators")) (closeAt s 9 (at + 11) 1 noActuators) (wrongLine 9 at 1 noActuators)
+firstLine s at = pickListing (isAt s at (bytes " (actuators")) (closeAt s 10 (at + 11) 1 noActuators) (wrongLine 10 at 1 noActuators)
 
 -- a list that is closed, or wrong, stays as it is
 abbrev pub turn : List ℕ → ℕ → Listing → Listing

@@ -2,7 +2,7 @@
 use Prim.Native.Nat.{ℕ, _+_, _-_}
 use mathlib.Core.Bool.{Bool, true, false}
 use mathlib.Core.List.{List, [], _∷_}
-use lib.Dec.{ltb}
+use lib.Dec.{eqb, ltb}
 use lib.ListN.{length, getD, set, replicate}
 use lib.Ieee.{Float}
 use Rattle.common.specs.Lists as Lists
@@ -14,9 +14,10 @@ use Rattle.geom.specs.declared.Quat.{Quat}
 use Rattle.actuators.specs.declared.Actuators.{Actuators}
 use Rattle.actuators.specs.Maps.{noActuators}
 use Rattle.problem.specs.declared.Weights.{Weights}
+use Rattle.problem.specs.declared.Momenta.{Momenta}
 use Rattle.problem.specs.declared.Problem.{Problem}
 use Rattle.text.specs.declared.lines.Row.{Row}
-use Rattle.text.specs.declared.lines.Words.the-variants.{Floats, Limited}
+use Rattle.text.specs.declared.lines.Words.the-variants.{Floats, Limited, Any}
 use Rattle.text.specs.declared.listing.Listing.{Listing}
 use Rattle.text.specs.declared.Found.{Found}
 use Rattle.text.specs.declared.Read.{Read}
@@ -35,13 +36,14 @@ headForms =
     ∷ form (bytes " (slew") (Limited 0) (bytes ")\n")
     ∷ form (bytes " (weights") (Floats 6) (bytes ")\n")
     ∷ form (bytes " (tolerance") (Floats 2) (bytes ")\n")
+    ∷ form (bytes " (momenta") Any (bytes ")\n")
     ∷ []
 
 -- ---- one line after another: each begins where the one before ends, and the first wrong one ends the reading
 
 -- nothing found; so it stands beside a refusal too
 abbrev pub nothing : Fate → ℕ → Found
-nothing fate at = record { fate = fate; at = at; rows = replicate 8 wrongRow; actuators = noActuators }
+nothing fate at = record { fate = fate; at = at; rows = replicate 9 wrongRow; actuators = noActuators }
 
 abbrev pub wrong : ℕ → Found
 wrong line = nothing (Refused 21 line) 0
@@ -84,11 +86,16 @@ withList c l = pickFound (l .unclosed) (wrong (l .line)) (listedBy (l .fate) c l
 unfoldable pub nextList : Found → Listing → Found
 nextList c l = goesOn (c .fate) c (withList c l)
 
--- ---- what the lines say
+-- ---- then the count of the momenta: one a wheel, or line 9 is wrong; any other wrong line comes before it
 
 -- the row of line number `line`
 abbrev row : List Row → ℕ → Row
 row rows line = getD rows (line - 1) (record { ok = false; at = 0; count = 0; v = []; limit = Nothing })
+
+unfoldable pub judgeCount : Found → Found
+judgeCount c = goesOn (c .fate) c (pickFound (eqb (row (c .rows) 9 .count) (c .actuators .«wheel_count»)) c (wrong 9))
+
+-- ---- what the lines say
 
 abbrev num : Row → ℕ → Float
 num r k = Lists.at (r .v) k
@@ -99,6 +106,10 @@ quatOf r = record { w = num r 0; x = num r 1; y = num r 2; z = num r 3 }
 -- in `Weights` order
 abbrev pub weightsOf : Row → Weights
 weightsOf r = record { time = num r 0; control = num r 1; energy = num r 2; pointing = num r 3; smoothness = num r 4; momentum = num r 5 }
+
+-- all are counted; of those past the eighth none is kept
+abbrev pub momentaOf : Row → Momenta
+momentaOf r = record { count = r .count; at = num r 0 ∷ num r 1 ∷ num r 2 ∷ num r 3 ∷ num r 4 ∷ num r 5 ∷ num r 6 ∷ num r 7 ∷ [] }
 
 unfoldable pub problemOf : List Row → Actuators → Problem
 problemOf rows a = record {
@@ -111,6 +122,7 @@ problemOf rows a = record {
   «norm_tolerance» = num (row rows 8) 0;
   «tie_tolerance» = num (row rows 8) 1;
   actuators = a;
+  momenta = momentaOf (row rows 9);
 }
 
 -- beside a refusal zeros and no actuators
@@ -118,7 +130,7 @@ abbrev pub found : Found → Read
 found c = record { fate = c .fate; problem = problemOf (c .rows) (c .actuators) }
 
 unfoldable pub readOf : Found → Listing → Read
-readOf c l = found (nextList c l)
+readOf c l = found (judgeCount (nextList c l))
 
 -- ---- the whole text: the problem, or 21 with its line
 unfoldable pub readProblem : List ℕ → Read

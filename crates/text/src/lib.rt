@@ -8,6 +8,7 @@ use actuators::Actuators;
 use actuators::no_actuators;
 use common::Fate;
 use geom::Quat;
+use problem::Momenta;
 use problem::Problem;
 use problem::Weights;
 
@@ -21,11 +22,11 @@ use lines::line_at;
 use lines::wrong_row;
 use listing::Listing;
 
-// What was found in a text so far: how the reading goes, the position after it, the rows of the first eight lines, the actuators. Beside a refusal there is nothing.
+// What was found in a text so far: how the reading goes, the position after it, the rows of the first nine lines, the actuators. Beside a refusal there is nothing.
 pub struct Found {
     pub fate: Fate,
     pub at: usize,
-    pub rows: [Row; 8],
+    pub rows: [Row; 9],
     pub actuators: Actuators,
 }
 
@@ -40,7 +41,7 @@ fn nothing(fate: Fate, at: usize) -> Found
     ensures { λ r. ⌜ r ≡ Reader.nothing fate at ⌝ }
 {
     let row = wrong_row();
-    let rows = [row; 8];
+    let rows = [row; 9];
     let actuators = no_actuators();
     Found {
         fate: fate,
@@ -51,11 +52,11 @@ fn nothing(fate: Fate, at: usize) -> Found
 }
 
 // A line's row in its place, from 0.
-fn put_row(rows: [Row; 8], k: usize, row: Row) -> [Row; 8]
+fn put_row(rows: [Row; 9], k: usize, row: Row) -> [Row; 9]
     ensures { λ r. ⌜ r ≡ set rows k row ⌝ }
 {
     let mut more = rows;
-    if k >= 8 {
+    if k >= 9 {
         return more;
     }
     more[k] = row;
@@ -93,7 +94,7 @@ fn next_line(s: &[u8], c: Found, line: usize, head: &[u8], words: Words, tail: &
     }
 }
 
-// The first eight lines from a position on.
+// The first nine lines from a position on.
 fn lines_at(s: &[u8], at: usize) -> Found
     ensures { λ r. ⌜ r ≡ Reader.linesAt (now (s .entry)) at ⌝ }
 {
@@ -105,7 +106,8 @@ fn lines_at(s: &[u8], at: usize) -> Found
     let c = next_line(s, c, 5, b" (limit", Words::Floats(3), b")\n");
     let c = next_line(s, c, 6, b" (slew", Words::Limited(0), b")\n");
     let c = next_line(s, c, 7, b" (weights", Words::Floats(6), b")\n");
-    next_line(s, c, 8, b" (tolerance", Words::Floats(2), b")\n")
+    let c = next_line(s, c, 8, b" (tolerance", Words::Floats(2), b")\n");
+    next_line(s, c, 9, b" (momenta", Words::Any, b")\n")
 }
 
 // The same, but a text of more than 4,096 bytes is refused at line 0.
@@ -118,7 +120,7 @@ pub fn head_at(s: &[u8], at: usize) -> Found
     lines_at(s, at)
 }
 
-// Where the first eight lines end.
+// Where the first nine lines end.
 pub fn head_end(s: &[u8], at: usize) -> usize
     ensures { λ r. ⌜ r ≡ Reader.headAt (now (s .entry)) at .at ⌝ }
 {
@@ -160,6 +162,26 @@ fn next_list(c: Found, list: Listing) -> Found
     }
 }
 
+// The momenta's count, judged after every line: one a wheel, or line 9 is wrong.
+fn judge_count(c: Found) -> Found
+    ensures { λ r. ⌜ r ≡ Reader.judgeCount c ⌝ }
+{
+    let fate = c.fate;
+    match fate {
+        Fate::Refused(_, _) => c,
+        Fate::Going => {
+            let rows = c.rows;
+            let row = rows[8];
+            let actuators = c.actuators;
+            if row.count == actuators.wheel_count {
+                c
+            } else {
+                nothing(Fate::Refused(21, 9), 0)
+            }
+        }
+    }
+}
+
 // Four floats as an attitude, scalar first.
 fn quat_of(row: Row) -> Quat
     ensures { λ r. ⌜ r ≡ Reader.quatOf row ⌝ }
@@ -188,8 +210,19 @@ fn weights_of(row: Row) -> Weights
     }
 }
 
-// The problem of the first eight lines and the actuators.
-fn problem_of(rows: [Row; 8], actuators: Actuators) -> Problem
+// Any number of floats as momenta: all are counted, the first eight are kept.
+fn momenta_of(row: Row) -> Momenta
+    ensures { λ r. ⌜ r ≡ Reader.momentaOf row ⌝ }
+{
+    let v = row.v;
+    Momenta {
+        count: row.count,
+        at: [v[0], v[1], v[2], v[3], v[4], v[5], v[6], v[7]],
+    }
+}
+
+// The problem of the first nine lines and the actuators.
+fn problem_of(rows: [Row; 9], actuators: Actuators) -> Problem
     ensures { λ r. ⌜ r ≡ Reader.problemOf rows actuators ⌝ }
 {
     let q0 = rows[1];
@@ -203,6 +236,7 @@ fn problem_of(rows: [Row; 8], actuators: Actuators) -> Problem
     let weights = rows[6];
     let tolerance_row = rows[7];
     let tolerance = tolerance_row.v;
+    let momenta = rows[8];
     Problem {
         q0: quat_of(q0),
         qf: quat_of(qf),
@@ -213,6 +247,7 @@ fn problem_of(rows: [Row; 8], actuators: Actuators) -> Problem
         norm_tolerance: tolerance[0],
         tie_tolerance: tolerance[1],
         actuators: actuators,
+        momenta: momenta_of(momenta),
     }
 }
 
@@ -220,7 +255,7 @@ fn problem_of(rows: [Row; 8], actuators: Actuators) -> Problem
 pub fn read_of(head: Found, list: Listing) -> Read
     ensures { λ r. ⌜ r ≡ Reader.readOf head list ⌝ }
 {
-    let c = next_list(head, list);
+    let c = judge_count(next_list(head, list));
     let fate = c.fate;
     let rows = c.rows;
     let actuators = c.actuators;

@@ -8,10 +8,11 @@ use crate::hex::byte;
 use crate::hex::real_at;
 use common::Limit;
 
-// What stands between a line's head and its tail: so many floats; or so many, and then a limit or `none`.
+// What stands between a line's head and its tail: so many floats; or so many, and then a limit or `none`; or any number of floats.
 pub enum Words {
     Floats(usize),
     Limited(usize),
+    Any,
 }
 
 // The floats of a line: how many they are, the first nine of them, the last as a limit, and the position after them.
@@ -160,6 +161,7 @@ fn words_at(s: &[u8], at: usize, words: Words) -> Row
     match words {
         Words::Floats(n) => floats(r, n),
         Words::Limited(n) => limited(s, r, n),
+        Words::Any => r,
     }
 }
 

@@ -249,18 +249,18 @@ fn next_line(s: &[u8], c: Listing) -> Listing
     close_at(s, c.line, row.at, item.next, more)
 }
 
-// Line 9, which begins the list.
+// Line 10, which begins the list.
 fn first_line(s: &[u8], at: usize) -> Listing
     ensures { λ r. ⌜ r ≡ Listings.firstLine (now (s .entry)) at ⌝ }
 {
     let none = no_actuators();
     if !is_at(s, at, b" (actuators") {
-        return wrong_line(9, at, 1, none);
+        return wrong_line(10, at, 1, none);
     }
-    close_at(s, 9, at + 11, 1, none)
+    close_at(s, 10, at + 11, 1, none)
 }
 
-// The whole list, from line 9 on: at most as many lines as there are bytes. Over 4,096 bytes there is none.
+// The whole list, from line 10 on: at most as many lines as there are bytes. Over 4,096 bytes there is none.
 pub fn list_at(s: &[u8], at: usize) -> Listing
     ensures { λ r. ⌜ r ≡ Listings.listAt (now (s .entry)) at ⌝ }
 {

@@ -25,7 +25,7 @@ pub fn new<'a>(src: &'a [u8]) -> Reader<'a>
     Reader { src, at: 0 }
 }
 
-// The first eight lines from the reader's position on.
+// The first nine lines from the reader's position on.
 pub fn head<'a>(r: Reader<'a>) -> Found
     ensures { λ f. ⌜ f ≡ Texts.headAt (now (r .entry .src)) (r .entry .at) ⌝ }
 {
@@ -47,7 +47,7 @@ pub fn list<'a>(r: Reader<'a>) -> Listing
     list_at(r.src, r.at)
 }
 
-// The first eight lines of a text.
+// The first nine lines of a text.
 pub fn read_head(s: &[u8]) -> Found
     ensures { λ f. ⌜ f ≡ Texts.headAt (now (s .entry)) 0 ⌝ }
 {

@@ -13,7 +13,7 @@ pub const fn workspace(controls: usize, residuals: usize) -> usize {
 pub struct Problem {
     pub counts: [usize; 11],
     pub actuators: [f64; 100],
-    pub body: [f64; 29],
+    pub body: [f64; 37],
     pub limited: bool,
 }
 
@@ -49,7 +49,7 @@ mod c {
         pub fn slew_plan_numbers(
             counts: &[usize; 11],
             actuators: &[f64; 100],
-            body: &[f64; 29],
+            body: &[f64; 37],
             limited: bool,
             workspace: *mut f64,
             workspace_count: usize,
@@ -62,7 +62,7 @@ mod c {
         pub safe fn slew_problem_profile(
             counts: &[usize; 11],
             actuators: &[f64; 100],
-            body: &[f64; 29],
+            body: &[f64; 37],
             limited: bool,
             profile: &mut [f64; 22],
             place: &mut usize,

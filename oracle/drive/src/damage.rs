@@ -44,15 +44,21 @@ pub const EXAMPLE: &str = concat!(
     " (slew none)\n",
     " (weights 3FF 0 0 0 0 0)\n",
     " (tolerance 3EB 3EB)\n",
+    " (momenta)\n",
     " (actuators))\n",
 );
 
 /// Its first eight lines end here.
-const HEAD: usize = EXAMPLE.len() - " (actuators))\n".len();
+const HEAD: usize = EXAMPLE.len() - " (momenta)\n (actuators))\n".len();
 
-/// The example with other actuators, as they follow `(actuators`.
+/// The example with these momenta, as they follow `(momenta`, and these actuators, as they follow `(actuators`.
+pub fn example_of(momenta: &str, actuators: &str) -> String {
+    format!("{} (momenta{momenta})\n (actuators{actuators}))\n", &EXAMPLE[..HEAD])
+}
+
+/// The example with other actuators, and a momentum of 0 a wheel.
 pub fn example_with(actuators: &str) -> String {
-    format!("{} (actuators{actuators}))\n", &EXAMPLE[..HEAD])
+    example_of(&" 0".repeat(actuators.matches("(wheel").count()), actuators)
 }
 
 /// The texts that are damaged at every byte: each form of a line stands in one of them.
@@ -60,7 +66,7 @@ pub fn bases() -> [String; 4] {
     [
         EXAMPLE.to_string(),
         EXAMPLE.replace("none", "3FC999999999999A").replace("(qf 3FF 0 0 0)", "(qf 3FE6A09E667F3BCD 0 0 BFE6A09E667F3BCC)"),
-        example_with("\n  (wheel 3FF 0 0 3FF 3FF none)\n  (wheel 0 3FF 8 3FF 3FF 401)\n  (thruster 3FF 0 BFF 3FF)\n  (cmg 3FE 3FF 3FF 3F5)"),
+        example_of(" 3FE 8", "\n  (wheel 3FF 0 0 3FF 3FF none)\n  (wheel 0 3FF 8 3FF 3FF 401)\n  (thruster 3FF 0 BFF 3FF)\n  (cmg 3FE 3FF 3FF 3F5)"),
         example_with("\n  (thruster 3FF 0 0 3FF)\n  (thruster 0 3FF 0 3FF)\n  (thruster 0 0 3FF 3FF)"),
     ]
 }
@@ -110,14 +116,16 @@ pub fn text_of(plan: &Plan) -> Vec<u8> {
     problem_text(&Problem { flat: plan.flat.clone(), body: plan.body, limited: plan.limited }).into_bytes()
 }
 
-/// Actuators' lines of any kinds, in any order or in the right one.
+/// Actuators' lines of any kinds, in any order or in the right one; one momentum a wheel, or another count.
 pub fn listed(r: &mut Random) -> Vec<u8> {
     const FORMS: [&str; 4] = ["(wheel 3FF 0 0 3FF 3FF none)", "(wheel 0 3FF 0 3FF 3FF 401)", "(thruster 0 0 3FF 3FF)", "(cmg 3FE 3FF 3FF 3F5)"];
     let mut picked: Vec<usize> = (0..pick(r, 6)).map(|_| pick(r, 4)).collect();
     if r.one_in(2) {
         picked.sort();
     }
-    example_with(&picked.iter().map(|k| format!("\n  {}", FORMS[*k])).collect::<String>()).into_bytes()
+    let wheels = picked.iter().filter(|k| **k < 2).count();
+    let count = if r.one_in(4) { (wheels + pick(r, 3)).saturating_sub(1) } else { wheels };
+    example_of(&" 8".repeat(count), &picked.iter().map(|k| format!("\n  {}", FORMS[*k])).collect::<String>()).into_bytes()
 }
 
 /// A place in a list of n.
@@ -189,8 +197,9 @@ fn form_damaged(r: &mut Random, text: &[u8]) -> Vec<u8> {
 pub fn filled(n: usize) -> Vec<u8> {
     const WHEEL: &str = "\n  (wheel 0 0 0 0 0 none)";
     let short = example_with("").len();
-    let count = n.saturating_sub(short) / WHEEL.len();
-    let missing = n.saturating_sub(short + count * WHEEL.len());
+    let each = WHEEL.len() + " 0".len();
+    let count = n.saturating_sub(short) / each;
+    let missing = n.saturating_sub(short + count * each);
     let zeros: String = (0..2).map(|k| format!(" 0{}", "1".repeat(missing.saturating_sub(15 * k).min(15)))).collect();
     let longer = WHEEL.replacen(" 0 0", &zeros, 1);
     let lines = if count == 0 { String::new() } else { WHEEL.repeat(count - 1) + &longer };

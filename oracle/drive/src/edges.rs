@@ -102,7 +102,7 @@ fn pivots(r: &mut Random, w: &mut Words) {
 }
 
 /// A problem at rest: its inertia is 1, its box wide.
-fn still(wheels: usize, thrusters: usize, cmgs: usize) -> (Flat, [f64; 29]) {
+fn still(wheels: usize, thrusters: usize, cmgs: usize) -> (Flat, [f64; 37]) {
     let mut flat = Flat { counts: [0; 11], numbers: [0.0; 100] };
     flat.counts[..3].copy_from_slice(&[wheels, thrusters, cmgs]);
     for k in 0..wheels {
@@ -111,11 +111,11 @@ fn still(wheels: usize, thrusters: usize, cmgs: usize) -> (Flat, [f64; 29]) {
         flat.numbers[32 + k] = 100.0;
     }
     flat.numbers[96..].copy_from_slice(if cmgs == 1 { &[0.95, 1.0, 10.0, 1.0e-3] } else { &[0.0; 4] });
-    let mut b = [0.0; 29];
+    let mut b = [0.0; 37];
     (b[0], b[4]) = (1.0, 1.0);
     (0..3).for_each(|k| (b[8 + 4 * k], b[17 + k]) = (1.0, 10.0));
     (b[20], b[21]) = (10.0, 1.0);
-    b[27..].copy_from_slice(&[1.0e-6, 1.0e-6]);
+    b[27..29].copy_from_slice(&[1.0e-6, 1.0e-6]);
     (flat, b)
 }
 
@@ -246,7 +246,7 @@ fn rate_after(torque: f64) -> f64 {
 /// A torque limit so small that no control moves anything.
 const TINY: f64 = 1.0e-200;
 
-fn seeded(r: &mut Random, (flat, b): (Flat, [f64; 29]), duration: f64) -> Plan {
+fn seeded(r: &mut Random, (flat, b): (Flat, [f64; 37]), duration: f64) -> Plan {
     let seed = Seed { duration, rates: vec![0.0; 51], torques: vec![0.0; 51] };
     finished(r, Plan { flat, body: b, limited: false, seed: Some(seed), lent: 0, fill: 0.0 })
 }

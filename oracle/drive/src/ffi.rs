@@ -82,7 +82,7 @@ unsafe extern "C" {
     pub safe fn slew_reconstruct(
         c: &Counts,
         v: &Numbers,
-        b: &[f64; 29],
+        b: &[f64; 37],
         limited: bool,
         z: &[f64; 193],
         nodes: &mut [[f64; 22]; 17],
@@ -93,7 +93,7 @@ unsafe extern "C" {
     pub safe fn slew_published_reconstruct(
         c: &Counts,
         v: &Numbers,
-        b: &[f64; 29],
+        b: &[f64; 37],
         limited: bool,
         z: &[f64; 193],
         nodes: &mut [[f64; 22]; 17],
@@ -104,7 +104,7 @@ unsafe extern "C" {
     pub safe fn slew_residuals(
         c: &Counts,
         v: &Numbers,
-        b: &[f64; 29],
+        b: &[f64; 37],
         limited: bool,
         z: &[f64; 193],
         out: &mut [f64; 79],
@@ -124,7 +124,7 @@ unsafe extern "C" {
         out: &mut [f64; 14],
         place: &mut usize,
     ) -> usize;
-    pub safe fn slew_problem_profile(c: &Counts, v: &Numbers, b: &[f64; 29], limited: bool, out: &mut [f64; 22], place: &mut usize) -> usize;
+    pub safe fn slew_problem_profile(c: &Counts, v: &Numbers, b: &[f64; 37], limited: bool, out: &mut [f64; 22], place: &mut usize) -> usize;
     pub safe fn slew_outcome(angle: i64, rate: i64, turns: &mut usize, choice: &mut i64) -> usize;
     pub safe fn slew_reply(angle: i64, rate: i64, left: usize, choice: i64, out: &mut i64) -> usize;
     pub safe fn slew_region(out: &mut [u8; 2193]);
@@ -211,7 +211,7 @@ mod entries {
         pub fn slew_plan_numbers(
             c: &Counts,
             v: &Numbers,
-            b: &[f64; 29],
+            b: &[f64; 37],
             limited: bool,
             ws: *mut f64,
             ws_len: usize,
@@ -224,7 +224,7 @@ mod entries {
         pub fn slew_plan_from_numbers(
             c: &Counts,
             v: &Numbers,
-            b: &[f64; 29],
+            b: &[f64; 37],
             limited: bool,
             seed_duration: f64,
             rates: *const f64,
@@ -243,14 +243,14 @@ mod entries {
 }
 
 /// Our entry's seed; the workspace is a slice.
-pub fn slew_plan_numbers(flat: &crate::maps::Flat, b: &[f64; 29], limited: bool, ws: &mut [f64], o: &mut Planned) -> usize {
+pub fn slew_plan_numbers(flat: &crate::maps::Flat, b: &[f64; 37], limited: bool, ws: &mut [f64], o: &mut Planned) -> usize {
     let (c, v) = (&flat.counts, &flat.numbers);
     let lent = (ws.as_mut_ptr(), ws.len());
     unsafe { entries::slew_plan_numbers(c, v, b, limited, lent.0, lent.1, &mut o.counts, &mut o.duration, &mut o.max_defect, &mut o.z, &mut o.nodes) }
 }
 
 /// A caller's seed: three slices that do not overlap.
-pub fn slew_plan_from_numbers(flat: &crate::maps::Flat, b: &[f64; 29], limited: bool, seed: &crate::plans::Seed, ws: &mut [f64], o: &mut Planned) -> usize {
+pub fn slew_plan_from_numbers(flat: &crate::maps::Flat, b: &[f64; 37], limited: bool, seed: &crate::plans::Seed, ws: &mut [f64], o: &mut Planned) -> usize {
     let (c, v, rates, torques) = (&flat.counts, &flat.numbers, &seed.rates, &seed.torques);
     let (r, t) = ((rates.as_ptr(), rates.len()), (torques.as_ptr(), torques.len()));
     let lent = (ws.as_mut_ptr(), ws.len());

@@ -124,6 +124,9 @@ fn count_branches(plan: &Plan, found: &Found, o: &mut Words) {
     let [wheels, thrusters, cmgs] = [0, 1, 2].map(|k| u64::from(plan.flat.counts[k] > 0));
     o.met("searches: no actuators", u64::from(plan.flat.empty()));
     o.met("wheels", wheels);
+    let turning = plan.body[29..].iter().take(plan.flat.counts[0]).any(|x| *x != 0.0);
+    o.met("wheels that turn at the start", u64::from(turning));
+    o.met("paths of these", u64::from(turning && found.path.is_some()));
     o.met("thrusters", thrusters);
     o.met("a pyramid", cmgs);
     o.met("with pointing", u64::from(plan.body[24] > 0.0));
@@ -243,8 +246,8 @@ pub const EARLY: [Entry; 3] = [
     Entry::new(303, "own seed", [60_000, 2_000_000, 0], |r, w| any(r).put(w), seed_by_port, seed_by_rust),
 ];
 
-/// Number, first and last place of what a whole plan can be refused with: 11 outside a step, 13 in step 0, 17 at node 16 and 18 and 19 at node 0 cannot be.
-pub const REACHED: [(u64, u64, u64); 19] = [
+/// Number, first and last place of what a whole plan can be refused with: 11 outside a step, 13 in step 0, 17 at node 16 and 18 and 19 at node 0 cannot be (19, since 22 comes before it).
+pub const REACHED: [(u64, u64, u64); 20] = [
     (1, 0, 1), (2, 0, 20), (3, 0, 19), (4, 0, 0), (5, 0, 2), (6, 0, 1), (7, 0, 2), (8, 0, 0), (9, 0, 0), (10, 0, 0), (11, 0, 15), (12, 0, 15), (13, 1, 15),
-    (14, 0, 0), (15, 0, 0), (16, 0, 0), (17, 0, 15), (18, 1, 16), (19, 1, 16),
+    (14, 0, 0), (15, 0, 0), (16, 0, 0), (17, 0, 15), (18, 1, 16), (19, 1, 16), (22, 0, 7),
 ];

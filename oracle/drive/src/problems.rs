@@ -18,7 +18,7 @@ pub struct Seed {
 #[derive(Clone)]
 pub struct Plan {
     pub flat: Flat,
-    pub body: [f64; 29],
+    pub body: [f64; 37],
     pub limited: bool,
     pub seed: Option<Seed>,
     pub lent: usize,
@@ -157,7 +157,7 @@ pub fn tame(r: &mut Random, f: Family) -> Plan {
     let qf = times(q0, about(axis, if r.one_in(2) { angle } else { -angle }));
     let torque = log_uniform(r, 0.01, 2.0);
     let rate = (angle * torque / j[k]).sqrt();
-    let mut b = [0.0; 29];
+    let mut b = [0.0; 37];
     b[..4].copy_from_slice(&q0);
     b[4..8].copy_from_slice(&qf);
     (0..3).for_each(|i| b[8 + 4 * i] = j[i]);
@@ -167,10 +167,24 @@ pub fn tame(r: &mut Random, f: Family) -> Plan {
     b[21] = if r.one_in(4) { r.unit() } else { 1.0 };
     (22..27).for_each(|i| b[i] = if i != 24 && r.one_in(4) { 0.1 * r.unit() } else { 0.0 });
     b[24] = if f.pointing { log_uniform(r, 0.001, 1.0) } else { 0.0 };
-    b[27..].copy_from_slice(&[1.0e-6, 1.0e-6]);
+    b[27..29].copy_from_slice(&[1.0e-6, 1.0e-6]);
     let flat = actuators(r, f, k, torque, rate, matched);
+    turning(r, &flat, k, &mut b);
     let plan = Plan { flat, body: b, limited: r.one_in(3), seed: None, lent: 0, fill: 0.0 };
     lent(r, plan)
+}
+
+/// Wheels that turn at the start, in one of two: with a small part of their momentum, so that paths are still found, or with any part of it about the slew's axis alone, which
+/// stores nothing across it.
+fn turning(r: &mut Random, flat: &Flat, k: usize, b: &mut [f64; 37]) {
+    if r.one_in(2) {
+        return;
+    }
+    let (alone, part) = (r.one_in(2), log_uniform(r, 1.0e-9, 1.0e-2));
+    for i in (0..flat.counts[0]).filter(|i| !alone || *i == k) {
+        let part = if alone { r.unit() } else { part * r.unit() };
+        b[29 + i] = flat.numbers[32 + i] * if r.one_in(2) { part } else { -part };
+    }
 }
 
 /// The room that is needed, one number less, or more; filled with zeros, NaN or anything.
@@ -270,6 +284,7 @@ fn not_served(r: &mut Random, plan: &mut Plan) {
 fn heavy(r: &mut Random, plan: &mut Plan) {
     let scale = log_uniform(r, 1.0e13, 1.0e18);
     plan.body[8..20].iter_mut().for_each(|x| *x *= scale);
+    plan.body[29..].iter_mut().for_each(|x| *x *= scale);
     for part in [24..48, 84..96, 97..98] {
         plan.flat.numbers[part].iter_mut().for_each(|x| *x *= scale);
     }
@@ -314,12 +329,12 @@ fn tight_power(r: &mut Random, plan: &mut Plan) {
 }
 
 /// What is spoilt in a problem that finds paths.
-const SPOILT: [fn(&mut Random, &mut Plan); 18] = [
+const SPOILT: [fn(&mut Random, &mut Plan); 20] = [
     |r, plan| plan.flat = maps::hostile(r),
     |r, plan| plan.body = runs::body(r),
-    |r, plan| plan.body[r.below(29) as usize] = r.hostile(),
+    |r, plan| plan.body[r.below(37) as usize] = r.hostile(),
     |r, plan| (plan.limited, plan.body[20]) = (true, log_uniform(r, 1.0e-4, 1.0)),
-    |_, plan| plan.flat.numbers[32..40].iter_mut().for_each(|x| *x *= 0.01),
+    |_, plan| [&mut plan.flat.numbers[32..40], &mut plan.body[29..]].into_iter().flatten().for_each(|x| *x *= 0.01),
     |r, plan| plan.flat.numbers[96..].copy_from_slice(&[0.1 + 1.4 * r.unit(), 0.1 + r.unit(), 0.05 + r.unit(), 1.0e-3]),
     |r, plan| plan.flat.numbers[99] = log_uniform(r, 0.1, 2.0),
     |r, plan| (21..27).for_each(|k| plan.body[k] = [0.0, -0.0, 1.0e-300, 1.0e200][r.below(4) as usize]),
@@ -333,6 +348,8 @@ const SPOILT: [fn(&mut Random, &mut Plan); 18] = [
     no_profile,
     exact_norm,
     tight_power,
+    |r, plan| runs::starts(r, &plan.flat.clone(), &mut plan.body),
+    |r, plan| plan.body[29..].iter_mut().for_each(|x| *x = [0.0, -0.0][r.below(2) as usize]),
 ];
 
 /// A plan of any sort: such as find paths, one of two with something spoilt; with a caller's seed in one of three.

@@ -35,13 +35,13 @@ fn strong(r: &mut Random, f: Family) -> Flat {
 /// first round. The inertia and the step are powers of two, so that rates and momenta of a pulse are exact.
 fn still(r: &mut Random, f: Family) -> Plan {
     let q0 = if r.one_in(2) { [1.0, 0.0, 0.0, 0.0] } else { about(std::array::from_fn(|_| r.tame()), 3.0 * r.unit()) };
-    let mut b = [0.0; 29];
+    let mut b = [0.0; 37];
     b[..4].copy_from_slice(&q0);
     b[4..8].copy_from_slice(&q0);
     (0..3).for_each(|k| b[8 + 4 * k] = INERTIA);
     b[17..21].fill(50.0);
     b[24] = if f.pointing { 1.0e-6 } else { 0.0 };
-    b[27..].fill(1.0e-6);
+    b[27..29].fill(1.0e-6);
     let seed = Seed { duration: 16.0 * STEP, rates: vec![0.0; 51], torques: vec![0.0; 51] };
     let mut plan = Plan { flat: strong(r, f), body: b, limited: false, seed: Some(seed), lent: 0, fill: f64::NAN };
     plan.lent = plan.room();

@@ -82,21 +82,42 @@ fn by_map(i: &[u64], o: &mut Words, of: impl FnOnce(&Map, &mut Reader<'_>) -> Re
     true
 }
 
-/// A problem's other numbers: q0, qf, inertia, limits, slew, weights, tolerances.
-pub fn body(r: &mut Random) -> [f64; 29] {
-    let mut b = [0.0; 29];
+/// A problem's other numbers: q0, qf, inertia, limits, slew, weights, tolerances; the wheels' starts are zeros.
+pub fn body(r: &mut Random) -> [f64; 37] {
+    let mut b = [0.0; 37];
     b[..4].copy_from_slice(&r.attitude());
     b[4..8].copy_from_slice(&r.attitude());
     let tensor = if r.one_in(4) { r.tensor() } else { [2.0 + r.unit(), 0.1, -0.2, 0.1, 3.0 + r.unit(), 0.05, -0.2, 0.05, 4.0 + r.unit()] };
     b[8..17].copy_from_slice(&tensor);
     b[17..21].copy_from_slice(&[0.1 + r.unit(), 0.1 + r.unit(), 0.1 + r.unit(), 0.1 + r.unit()]);
     (21..27).for_each(|k| b[k] = r.unit());
-    b[27..].copy_from_slice(if r.one_in(4) { &[1.0e-12, 1.0e-9] } else { &[1.0e-5, 1.0e-6] });
+    b[27..29].copy_from_slice(if r.one_in(4) { &[1.0e-12, 1.0e-9] } else { &[1.0e-5, 1.0e-6] });
     if r.one_in(12) {
         let at = 17 + r.below(12) as usize;
         b[at] = r.hostile();
     }
     b
+}
+
+/// Start momenta beside the wheels' limits: zeros of either sign, a part of the limit, the limit and its neighbours, numbers of any kind. Past the wheels stands
+/// anything, since nothing reads it.
+pub fn starts(r: &mut Random, flat: &Flat, b: &mut [f64; 37]) {
+    let (kind, wheels) = (r.below(8), flat.counts[0]);
+    for k in 0..8 {
+        let limit = flat.numbers[32 + k];
+        let near = f64::from_bits(limit.to_bits().wrapping_add(r.below(3)).wrapping_sub(1));
+        let size = match kind {
+            _ if k >= wheels => r.hostile(),
+            0..=2 => 0.0,
+            3 => limit * [1.0e-9, 1.0e-3, 0.1][r.below(3) as usize] * r.unit(),
+            4 => limit * r.unit(),
+            5 => near,
+            6 if r.one_in(8) => [f64::NAN, f64::INFINITY, 2.0 * limit][r.below(3) as usize],
+            6 => limit * 1.0e-6,
+            _ => r.hostile(),
+        };
+        b[29 + k] = if r.one_in(2) { -size } else { size };
+    }
 }
 
 /// A packed decision: a plain duration or a hostile one, 16 rows.
@@ -129,18 +150,27 @@ fn narrow(r: &mut Random) -> Flat {
 }
 
 /// Check 4: limits finite and above 0, weights finite and not below 0, tolerances inside 0 to 1. The Rust has none of it.
-fn numbers_fit(b: &[f64; 29], limited: bool) -> bool {
+fn numbers_fit(b: &[f64; 37], limited: bool) -> bool {
     let limits = b[17..20].iter().chain(limited.then_some(&b[20])).all(|x| x.is_finite() && *x > 0.0);
     let weights = b[21..27].iter().all(|x| x.is_finite() && *x >= 0.0);
-    limits && weights && b[27..].iter().all(|x| *x > 0.0 && *x < 1.0)
+    limits && weights && b[27..29].iter().all(|x| *x > 0.0 && *x < 1.0)
 }
 
-/// Checks 1 to 6 in document 01's order.
-pub fn checked(flat: &Flat, b: &[f64; 29], limited: bool) -> Result<Task, (u64, u64)> {
+/// Check 22: the first wheel whose start is not finite or larger in size than its limit. The Rust has none of it.
+fn start_outside(map: &Map, starts: &[f64]) -> Option<u64> {
+    let wheels = map.given().wheels;
+    wheels.iter().zip(starts).position(|(wheel, x)| !x.is_finite() || x.abs() > wheel.2).map(|k| k as u64)
+}
+
+/// Checks 1 to 6 in document 01's order, and 22 after 4.
+pub fn checked(flat: &Flat, b: &[f64; 37], limited: bool) -> Result<Task, (u64, u64)> {
     quatopsy_schema::set_tolerances(b[27], b[28]);
     let map = prepared(flat)?;
     if !numbers_fit(b, limited) {
         return Err((4, 0));
+    }
+    if let Some(wheel) = start_outside(&map, &b[29..]) {
+        return Err((22, wheel));
     }
     let (mut start, mut end) = ([0.0; 4], [0.0; 4]);
     start.copy_from_slice(&b[..4]);
@@ -150,11 +180,11 @@ pub fn checked(flat: &Flat, b: &[f64; 29], limited: bool) -> Result<Task, (u64, 
     let inertia = std::array::from_fn(|i| std::array::from_fn(|k| b[8 + 3 * i + k]));
     rust::invert_spd(inertia).map_err(|_| (6, 0))?;
     let weights = std::array::from_fn(|k| b[21 + k]);
-    Ok(Task { q0, qf, inertia, limit: [b[17], b[18], b[19]], slew: limited.then_some(b[20]), weights, map })
+    Ok(Task { q0, qf, inertia, limit: [b[17], b[18], b[19]], slew: limited.then_some(b[20]), weights, starts: b[29..29 + map.given().wheels.len()].to_vec(), map })
 }
 
 /// The same, then 8 for a row of more than 12.
-fn admitted(flat: &Flat, b: &[f64; 29], limited: bool) -> Result<Task, (u64, u64)> {
+fn admitted(flat: &Flat, b: &[f64; 37], limited: bool) -> Result<Task, (u64, u64)> {
     let task = checked(flat, b, limited)?;
     if task.map.control_dim() > 12 { Err((8, 0)) } else { Ok(task) }
 }
@@ -165,7 +195,7 @@ type Both<T> = [fn(&Task, &[f64]) -> Result<T, PlanError>; 2];
 /// The Rust's answer on a checked task: number, place and runs, then what was given. Where it stopped, the copy that counts tells.
 fn told<T>(i: &[u64], o: &mut Words, [published, copy]: Both<T>, put: fn(&Task, T, &mut Words)) -> bool {
     let mut r = Reader(i);
-    let (flat, b, limited, z) = (Flat::take(&mut r), r.a::<29>(), r.n() != 0, r.a::<193>());
+    let (flat, b, limited, z) = (Flat::take(&mut r), r.a::<37>(), r.n() != 0, r.a::<193>());
     let task = match admitted(&flat, &b, limited) {
         Ok(task) => task,
         Err((number, place)) => {
@@ -240,7 +270,7 @@ fn residuals_by_rust(i: &[u64], o: &mut Words) -> bool {
 macro_rules! run_words {
     ($run:ident, $i:ident, $o:ident) => {{
         let mut r = Reader($i);
-        let (flat, b, limited, z) = (Flat::take(&mut r), r.a::<29>(), r.n() != 0, r.a::<193>());
+        let (flat, b, limited, z) = (Flat::take(&mut r), r.a::<37>(), r.n() != 0, r.a::<193>());
         let (mut nodes, mut defect, mut place, mut runs) = ([[1.0; 22]; 17], 1.0, 77, 77);
         let number = $run(&flat.counts, &flat.numbers, &b, limited, &z, &mut nodes, &mut defect, &mut place, &mut runs);
         [number, place, runs].iter().for_each(|n| $o.n(*n as u64));
@@ -267,7 +297,7 @@ fn published_run_by_rust(i: &[u64], o: &mut Words) -> bool {
 
 fn residuals_by_port(i: &[u64], o: &mut Words) {
     let mut r = Reader(i);
-    let (flat, b, limited, z) = (Flat::take(&mut r), r.a::<29>(), r.n() != 0, r.a::<193>());
+    let (flat, b, limited, z) = (Flat::take(&mut r), r.a::<37>(), r.n() != 0, r.a::<193>());
     let (mut out, mut count, mut place, mut runs) = ([1.0; 79], 77, 77, 77);
     let number = slew_residuals(&flat.counts, &flat.numbers, &b, limited, &z, &mut out, &mut count, &mut place, &mut runs);
     [number, place, runs].iter().for_each(|n| o.n(*n as u64));
@@ -282,8 +312,10 @@ fn residuals_by_port(i: &[u64], o: &mut Words) {
 
 /// A problem and a decision. One in two has no pointing weight.
 fn task(r: &mut Random, w: &mut Words) {
-    narrow(r).put(w);
+    let flat = narrow(r);
+    flat.put(w);
     let mut b = body(r);
+    starts(r, &flat, &mut b);
     if r.one_in(2) {
         b[24] = [0.0, -0.0][r.below(2) as usize];
     }
@@ -526,7 +558,7 @@ pub const RUNS: [Entry; 13] = [
     ),
     Entry::new(
         202,
-        "reconstruct, unaltered Rust",
+        "reconstruct, published law",
         [100_000, 2_000_000, 0],
         task,
         published_run_by_port,

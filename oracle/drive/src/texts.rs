@@ -16,15 +16,15 @@ pub const LONGEST: usize = 4_096;
 /// The fewest bytes of a buffer that an answer is written to.
 pub const BUFFER: usize = 16_384;
 
-/// A problem as a text tells it: actuators, then the body's numbers in the text's order, and whether the slew is limited.
+/// A problem as a text tells it: actuators, then the body's numbers in the text's order, the wheels' start momenta last, and whether the slew is limited.
 #[derive(Clone)]
 pub struct Problem {
     pub flat: Flat,
-    pub body: [f64; 29],
+    pub body: [f64; 37],
     pub limited: bool,
 }
 
-/// The lines after `(problem`, each with how many floats it has; the body's numbers stand in this order.
+/// The lines after `(problem`, each with how many floats it has; the body's numbers stand in this order. Then comes the line of the start momenta, one a wheel.
 const FIELDS: [(&str, usize); 7] = [("q0", 4), ("qf", 4), ("inertia", 9), ("limit", 3), ("slew", 1), ("weights", 6), ("tolerance", 2)];
 
 // ---- the reader
@@ -71,6 +71,14 @@ fn field(line: &[u8], name: &str, count: usize) -> Option<(Vec<f64>, bool)> {
     Some((floats(&words, count)?, true))
 }
 
+/// The line of the start momenta: any number of floats.
+fn momenta(line: &[u8]) -> Option<Vec<f64>> {
+    if line == b" (momenta)\n" {
+        return Some(Vec::new());
+    }
+    words_of(line, " (momenta", ")\n")?.iter().map(|word| float(word)).collect()
+}
+
 /// An actuator's line, put to the others; whether it is the last.
 fn actuator(line: &[u8], given: &mut Given) -> Option<bool> {
     let (line, last) = match line.strip_suffix(b")))\n") {
@@ -113,6 +121,9 @@ pub fn read(text: &[u8]) -> Result<Problem, u64> {
         body.extend(numbers);
     }
     let (line, at) = next();
+    let starts = momenta(line).ok_or(at)?;
+    body.extend((0..8).map(|k| starts.get(k).copied().unwrap_or(0.0)));
+    let (line, at) = next();
     let mut given = Given::default();
     let mut last = line == b" (actuators))\n";
     if !last && line != b" (actuators\n" {
@@ -126,7 +137,11 @@ pub fn read(text: &[u8]) -> Result<Problem, u64> {
     if !line.is_empty() {
         return Err(at);
     }
-    Ok(Problem { flat: Flat::of(&given), body: body.try_into().expect("29 numbers"), limited })
+    // the count is judged last
+    if starts.len() != given.wheels.len() {
+        return Err(9);
+    }
+    Ok(Problem { flat: Flat::of(&given), body: body.try_into().expect("37 numbers"), limited })
 }
 
 // ---- the writer
@@ -162,6 +177,8 @@ pub fn problem_text(p: &Problem) -> String {
         forms.push(format!("({name} {values})"));
     }
     let given = p.flat.given();
+    let starts: String = (0..given.wheels.len()).map(|k| format!(" {}", float_text(rest.get(k).copied().unwrap_or(0.0)))).collect();
+    forms.push(format!("(momenta{starts})"));
     let wheels = given.wheels.iter().map(|w| format!("(wheel {} {} {})", floats_text(&w.0), floats_text(&[w.1, w.2]), optional_text(w.3)));
     let thrusters = given.thrusters.iter().map(|t| format!("(thruster {} {})", floats_text(&t.0), float_text(t.1)));
     let cmgs = given.cmgs.iter().map(|c| format!("(cmg {})", floats_text(c)));

@@ -10,4 +10,5 @@ pub mod faults;
 pub mod mutations;
 pub mod law;
 pub mod probe;
+pub mod starts;
 pub mod tally;

@@ -253,7 +253,7 @@ pub fn switch_times(theta: f64, alpha: f64, slew: Option<f64>) -> Result<(f64, f
     crate::switch_times(theta, alpha, slew)
 }
 
-/// A problem for the step law: attitudes as they are used (normalized by the caller), inertia, limits, weights, actuators.
+/// A problem for the step law: attitudes as they are used (normalized by the caller), inertia, limits, weights, actuators, the momenta that the wheels start with.
 pub struct Task {
     pub q0: [f64; 4],
     pub qf: [f64; 4],
@@ -262,6 +262,7 @@ pub struct Task {
     pub slew: Option<f64>,
     pub weights: [f64; 6],
     pub map: Map,
+    pub starts: Vec<f64>,
 }
 
 /// The nodes of a run: time, attitude, rate, torque, body momentum, wheel momenta; and the defect.

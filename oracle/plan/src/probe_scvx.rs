@@ -7,7 +7,7 @@ use crate::probe::{Nodes, Task, nodes_of};
 fn with<T>(task: &Task, of: impl FnOnce(&SolverProblem<'_>) -> T) -> T {
     let weights = task.weights;
     let quat = |q: [f64; 4]| Quat::new(q[0], q[1], q[2], q[3]);
-    of(&SolverProblem {
+    let problem = SolverProblem {
         q0: quat(task.q0),
         qf: quat(task.qf),
         inertia: task.inertia,
@@ -23,7 +23,8 @@ fn with<T>(task: &Task, of: impl FnOnce(&SolverProblem<'_>) -> T) -> T {
         },
         actuators: &task.map.0,
         keep_out: &[],
-    })
+    };
+    crate::starts::with(&task.starts, || of(&problem))
 }
 
 fn decision(task: &Task, packed: &[f64]) -> Decision {

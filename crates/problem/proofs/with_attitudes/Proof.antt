@@ -28,11 +28,15 @@ returns c =
     let e : c .before .before .before .invert-spd .result ≡ invertSpd (tensor (c .before .before .before .before .before .before .args .p .inertia)) = c .before .before .before .invert-spd .ensures ∙ ap invertSpd (c .before .before .before .before .tensor .ensures) in
     rw (← e, c .before .enum-told .given .1) (c .refused .ensures)
 
+placed-requires : tie.Need-placed-requires
+placed-requires c κs = search needs
+
 returns-2 : tie.Need-returns-2
 unfolding Problems.withAttitudes
 returns-2 c =
-    let e : c .before .before .before .before .before .invert-spd .result ≡ invertSpd (tensor (c .before .before .before .before .before .before .before .before .args .p .inertia)) = c .before .before .before .before .before .invert-spd .ensures ∙ ap invertSpd (c .before .before .before .before .before .before .tensor .ensures) in
-    rw (← e, c .before .before .before .enum-told2 .given .1)
+    let v = c .before .before .before .before .before .before .before .before in
+    let e : v .invert-spd .result ≡ invertSpd (tensor (v .before .before .before .args .p .inertia)) = v .invert-spd .ensures ∙ ap invertSpd (v .before .tensor .ensures) in
+    rw (← e, c .before .before .before .before .before .before .enum-told2 .given .1, c .placed .ensures)
 
 pub with-attitudes-spec : {M : Type 1} → statement M
 with-attitudes-spec =
@@ -43,5 +47,6 @@ with-attitudes-spec =
     enum-told
     refused-requires
     enum-told-2
+    placed-requires
     returns
     returns-2)

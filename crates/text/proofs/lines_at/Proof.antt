@@ -5,7 +5,8 @@ use Rattle.text.proofs.lines_at.Statement.{statement}
 use Rattle.text.proofs.lines_at.Tie as tie
 
 returns : tie.Need-returns
-returns l8 =
+returns l9 =
+    let l8 = l9 .before .before .before in
     let l7 = l8 .before .before .before in
     let l6 = l7 .before .before .before in
     let l5 = l6 .before .before .before in
@@ -22,7 +23,8 @@ returns l8 =
     (lines-more _ _ _ _ _ _ _ (l6 .next-line6 .ensures)
     (lines-more _ _ _ _ _ _ _ (l7 .next-line7 .ensures)
     (lines-more _ _ _ _ _ _ _ (l8 .next-line8 .ensures)
-    (lines-end _ _ _)))))))))
+    (lines-more _ _ _ _ _ _ _ (l9 .next-line9 .ensures)
+    (lines-end _ _ _))))))))))
 
 pub lines-at-spec : {M : Type 1} → statement M
-lines-at-spec = tie.close (tie.spec (λ c κs. search needs) (λ c. search needs) (λ c. search needs) (λ c κs. search needs) (λ c. search needs) (λ c. search needs) (λ c κs. search needs) (λ c. search needs) (λ c. search needs) (λ c κs. search needs) (λ c. search needs) (λ c. search needs) (λ c κs. search needs) (λ c. search needs) (λ c. search needs) (λ c κs. search needs) (λ c. search needs) (λ c. search needs) (λ c κs. search needs) (λ c. search needs) (λ c. search needs) (λ c κs. search needs) (λ c. search needs) (λ c. search needs) (λ c κs. search needs) returns)
+lines-at-spec = tie.close (tie.spec (λ c κs. search needs) (λ c. search needs) (λ c. search needs) (λ c κs. search needs) (λ c. search needs) (λ c. search needs) (λ c κs. search needs) (λ c. search needs) (λ c. search needs) (λ c κs. search needs) (λ c. search needs) (λ c. search needs) (λ c κs. search needs) (λ c. search needs) (λ c. search needs) (λ c κs. search needs) (λ c. search needs) (λ c. search needs) (λ c κs. search needs) (λ c. search needs) (λ c. search needs) (λ c κs. search needs) (λ c. search needs) (λ c. search needs) (λ c κs. search needs) (λ c. search needs) (λ c. search needs) (λ c κs. search needs) returns)

@@ -6,7 +6,7 @@ use Rattle.text.proofs.read_of.Tie as tie
 
 returns : tie.Need-returns
 unfolding readOf
-returns c = rw (c .problem-of .ensures, ← c .before .before .before .next-list .ensures)
+returns c = rw (c .problem-of .ensures, ← c .before .before .before .before .next-list .ensures, ← c .before .before .before .judge-count .ensures)
 
 pub read-of-spec : {M : Type 1} → statement M
-read-of-spec = tie.close (tie.spec (λ c κs. search needs) (λ c κs. search needs) returns)
+read-of-spec = tie.close (tie.spec (λ c κs. search needs) (λ c κs. search needs) (λ c κs. search needs) returns)

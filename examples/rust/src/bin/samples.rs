@@ -13,6 +13,7 @@ const PROBLEM: Problem = Problem {
         0.0, // slew limit: none
         1.0, 0.0, 0.0, 0.0, 0.0, 0.0, // weights: time alone
         9.5367431640625e-07, 9.5367431640625e-07, // norm and tie tolerance, 2^-20
+        0.0, 0.0, 0.0, 0.0, 0.0, 0.0, 0.0, 0.0, // start momenta: there are no wheels
     ],
     limited: false,
 };

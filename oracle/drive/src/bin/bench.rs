@@ -174,21 +174,21 @@ fn problem(family: Family) -> (Plan, [f64; 193]) {
     flat.counts[..3].copy_from_slice(&[family.wheels, family.thrusters, family.cmgs]);
     flat.numbers.iter_mut().for_each(|x| *x = 0.2 + random.unit());
     flat.numbers[96..].copy_from_slice(&[0.95, 1.0, 0.5, 1.0e-9]);
-    let mut b = [0.0; 29];
+    let mut b = [0.0; 37];
     b[..8].copy_from_slice(&[1.0, 0.0, 0.0, 0.0, 0.8, 0.6, 0.0, 0.0]);
     b[8..17].copy_from_slice(&[2.0, 0.1, -0.2, 0.1, 3.0, 0.05, -0.2, 0.05, 4.0]);
-    b[17..].copy_from_slice(&[0.5, 0.5, 0.5, 0.5, 1.0, 0.1, 0.1, if family.pointing { 0.1 } else { 0.0 }, 0.1, 0.1, 1.0e-5, 1.0e-6]);
+    b[17..29].copy_from_slice(&[0.5, 0.5, 0.5, 0.5, 1.0, 0.1, 0.1, if family.pointing { 0.1 } else { 0.0 }, 0.1, 0.1, 1.0e-5, 1.0e-6]);
     let mut z: [f64; 193] = std::array::from_fn(|_| 0.02 * random.tame());
     z[0] = 20.0;
     (Plan { flat, body: b, limited: false, seed: None, lent: 0, fill: 0.0 }, z)
 }
 
 /// One call of ours over the numbers of a body: a refusal's number.
-type Call<'a> = &'a mut dyn FnMut(&[f64; 29]) -> usize;
+type Call<'a> = &'a mut dyn FnMut(&[f64; 37]) -> usize;
 
 /// Two lines: ours as a user calls it (it takes the declared problem, checks and prepares it, runs, and writes its numbers), and without what the call costs
 /// with an inertia that check 6 refuses, the last one before a run. The Rust has its problem prepared and its decision in place.
-fn beside(turns: u32, name: &str, alone: &str, body: &[f64; 29], ours: Call<'_>, rust: &mut dyn FnMut()) {
+fn beside(turns: u32, name: &str, alone: &str, body: &[f64; 37], ours: Call<'_>, rust: &mut dyn FnMut()) {
     let mut bent = *body;
     bent[16] = -1.0;
     assert_eq!((ours(body), ours(&bent)), (0, 6), "{name} runs to its end");
@@ -220,7 +220,7 @@ fn runs(turns: u32) {
         let (plan, z) = problem(family);
         let (task, kept) = prepared(&plan, &z);
         let (mut nodes, mut defect, mut place, mut begun) = ([[0.0; 22]; 17], 0.0, 0, 0);
-        let mut ours = |body: &[f64; 29]| {
+        let mut ours = |body: &[f64; 37]| {
             let flat = &plan.flat;
             let number = slew_reconstruct(&flat.counts, &flat.numbers, body, false, black_box(&z), &mut nodes, &mut defect, &mut place, &mut begun);
             black_box(&nodes);
@@ -236,7 +236,7 @@ fn residuals(turns: u32) {
         let (plan, z) = problem(family);
         let (task, kept) = prepared(&plan, &z);
         let (mut out, mut count, mut place, mut begun) = ([0.0; 79], 0, 0, 0);
-        let mut ours = |body: &[f64; 29]| {
+        let mut ours = |body: &[f64; 37]| {
             let flat = &plan.flat;
             let number = slew_residuals(&flat.counts, &flat.numbers, body, false, black_box(&z), &mut out, &mut count, &mut place, &mut begun);
             black_box(&out);

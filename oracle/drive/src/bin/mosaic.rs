@@ -125,7 +125,7 @@ const LARGEST: usize = 193 * (193 + 79 + 6) + 4 * 79;
 #[derive(Default)]
 struct Seen {
     plans: u64,
-    numbers: [u64; 22],
+    numbers: [u64; 32],
     widths: [u64; 13],
     resized: u64,
     runs: u64,
@@ -161,7 +161,7 @@ fn one(plan: &Plan, b: &mut Bench, seen: &mut Seen) {
     let mut fresh = blank();
     plan_into(plan, &mut vec![0.0; lent], &mut fresh);
     seen.plans += 1;
-    seen.numbers[answer.number.min(21)] += 1;
+    seen.numbers[answer.number.min(31)] += 1;
     seen.runs += answer.out.counts[1] as u64;
     seen.widths[plan.flat.width().min(12)] += u64::from(answer.out.counts[1] > 0);
     seen.other_answers += u64::from(!same(&answer, &fresh));

@@ -7,7 +7,7 @@ use quatopsy_plan::tally::Tally;
 /// Sums over the plans of a family.
 #[derive(Default)]
 struct Sums {
-    refusals: [u64; 22],
+    refusals: [u64; 32],
     searched: u64,
     /// Searches that ended before round 40.
     short: u64,
@@ -16,7 +16,7 @@ struct Sums {
 
 impl Sums {
     fn add(&mut self, number: u64, t: &Tally) {
-        self.refusals[number as usize % 22] += 1;
+        self.refusals[number as usize % 32] += 1;
         if t.runs == 0 {
             return;
         }
@@ -75,7 +75,7 @@ fn main() {
     let count: u64 = std::env::args().nth(1).map_or(300, |n| n.parse().expect("a number"));
     for family in FAMILIES {
         let sums = Sums::of(family, count);
-        let told: Vec<String> = (0..22).filter(|n| sums.refusals[*n] > 0).map(|n| format!("{n}: {}", sums.refusals[n])).collect();
+        let told: Vec<String> = (0..32).filter(|n| sums.refusals[*n] > 0).map(|n| format!("{n}: {}", sums.refusals[n])).collect();
         println!("{}: {count} plans, by refusal number (0: a path): {}", family.name, told.join(", "));
         sums.tell_rounds();
         sums.tell_times();

@@ -3,7 +3,7 @@
 //! A case: a line of the kind (1 a plan, 2 from a caller's seed, 3 a dense sample; 16 more: the answer is wrong on purpose), the text's bytes, the words, the
 //! answer's bytes; a line of the words; the text; the answer; a line feed. Numbers are hexadecimal. No case crosses a multiple of 65,536 bytes: empty lines fill up.
 
-use drive::damage::{self, EXAMPLE, example_with, filled, text_of};
+use drive::damage::{self, EXAMPLE, example_of, example_with, filled, text_of};
 use drive::plans::begun;
 use drive::problems::{self, FAMILIES, Family, Plan, family};
 use drive::pulses::pulse;
@@ -212,6 +212,17 @@ fn actuator_places(store: &mut Store) {
         for spoilt in ["wheel 3FF 0 0 3FF 0 none", "wheel 0 0 0 3FF 3FF none", "wheel 3FF 0 0 3FF 3FF 7FF"] {
             store.plan(example_with(&lines("wheel 3FF 0 0 3FF 3FF none", 8, at, spoilt)).as_bytes(), 2);
         }
+    }
+    // a start at its limit, then one that is over it by its last place, infinite or no number, at every wheel; and other counts of starts than of wheels
+    let eight = lines("wheel 3FF 0 0 3FF 3FF none", 8, 99, "");
+    for at in 0..8 {
+        for over in ["BFF0000000000001", "7FF", "7FF8"] {
+            let starts: String = (0..8).map(|k| format!(" {}", if k == at { over } else { "BFF" })).collect();
+            store.plan(example_of(&starts, &eight).as_bytes(), 3);
+        }
+    }
+    for count in [0, 7, 8, 9, 40] {
+        store.plan(example_of(&" 8".repeat(count), &eight).as_bytes(), 9);
     }
     for at in 0..12 {
         for spoilt in ["thruster 3FF 0 0 8", "thruster 0 0 0 3FF"] {

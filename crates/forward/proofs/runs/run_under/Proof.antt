@@ -35,13 +35,13 @@ enum-told-2 : tie.Need-enum-told-2
 enum-told-2 c = search needs
 
 start-requires : tie.Need-start-requires
-start-requires c κs = dim-sized Once _ (c .before .before .before .before .before .before .before .before .before .before .before .before .before .before .before .pre .0) .wheels
+start-requires c κs = dim-sized Once _ (c .before .before .before .before .before .before .before .before .before .before .before .before .before .before .before .before .pre .0) .wheels
 
 run-from-requires : tie.Need-run-from-requires
 unfolding Runs.start
 run-from-requires c κs = (
-  rw (c .before .before .before .before .before .before .before .before .before .before .before .before .before .rig-under .ensures, c .before .before .before .before .before .before .before .before .before .before .before .before .before .before .control-dim .ensures) (dim-sized _ _ (c .before .before .before .before .before .before .before .before .before .before .before .before .before .before .before .before .pre .0)),
-  (rw (c .before .before .before .before .before .before .before .before .before .before .before .before .before .before .control-dim .ensures) (c .before .before .before .before .before .before .before .before .before .before .before .before .before .before .before .before .pre .1), rw (c .before .before .before .before .before .before .before .before .before .before .before .before .before .rig-under .ensures, c .start .ensures) (launch-goes _ (c .before .before .before .before .before .before .before .before .launch .ensures) (c .before .before .before .before .before .before .enum-told2 .given .1))),
+  rw (c .before .before .before .before .before .before .before .before .before .before .before .before .before .before .rig-under .ensures, c .before .before .before .before .before .before .before .before .before .before .before .before .before .before .before .control-dim .ensures) (dim-sized _ _ (c .before .before .before .before .before .before .before .before .before .before .before .before .before .before .before .before .before .pre .0)),
+  (rw (c .before .before .before .before .before .before .before .before .before .before .before .before .before .before .before .control-dim .ensures) (c .before .before .before .before .before .before .before .before .before .before .before .before .before .before .before .before .before .pre .1), rw (c .before .before .before .before .before .before .before .before .before .before .before .before .before .before .rig-under .ensures, c .start .ensures) (launch-goes _ (c .before .before .before .before .before .before .before .before .before .launch .ensures) (c .before .before .before .before .before .before .before .enum-told2 .given .1))),
 )
 
 returns : tie.Need-returns
@@ -50,7 +50,7 @@ returns c = c .refused-run .ensures ∙ launch-refused _ _ _ _ refl (c .before .
 
 returns-2 : tie.Need-returns-2
 unfolding Runs.runUnder Ieee.ofBits
-returns-2 c = rw (c .run-from .ensures, c .before .before .before .before .before .before .before .before .before .before .before .before .before .before .rig-under .ensures, c .before .before .before .before .before .before .before .before .before .before .before .before .before .before .before .control-dim .ensures, c .before .before .before .before .before .before .before .before .before .before .frame-of .ensures, c .before .start .ensures)
+returns-2 c = rw (c .run-from .ensures, c .before .before .before .before .before .before .before .before .before .before .before .before .before .before .before .rig-under .ensures, c .before .before .before .before .before .before .before .before .before .before .before .before .before .before .before .before .control-dim .ensures, c .before .before .before .before .before .before .before .before .before .before .before .frame-of .ensures, c .before .start .ensures)
 
 pub run-under-spec : {M : Type 1} → statement M
 run-under-spec =

@@ -12,5 +12,9 @@ returns-2 : tie.Need-returns-2
 unfolding wordsAt
 returns-2 c = simp (c .before .before .words2 .given .1, ← c .before .before .before .before .row-at .ensures) (c .limited .ensures)
 
+returns-3 : tie.Need-returns-3
+unfolding wordsAt
+returns-3 c = simp (c .enum-told .given .1) (c .before .before .row-at .ensures)
+
 pub words-at-spec : {M : Type 1} → statement M
-words-at-spec = tie.close (tie.spec (λ c κs. search needs) (λ c. search needs) (λ c κs. search needs) (λ c. search needs) (λ c κs. search needs) returns returns-2)
+words-at-spec = tie.close (tie.spec (λ c κs. search needs) (λ c. search needs) (λ c κs. search needs) (λ c. search needs) (λ c κs. search needs) (λ c. search needs) returns returns-2 returns-3)
