@@ -76,17 +76,21 @@ uint64_t slew_sample(const uint8_t *text, size_t text_count,
  * duration, max_defect, decision, nodes: the path: its duration; the largest defect of its run; the duration and 16 rows of controls, one row after
  *   another, zeros behind them; 17 nodes of 22 numbers, one after another: time, attitude, rate, torque, body momentum, eight wheel momenta. Beside a
  *   refusal all of them are zeros. In a path every number is finite but the body momentum of the last node, which can be a NaN or an infinity.
+ * held: which controls saturate: for each place of a row how many of its 16 controls were larger in size than their limit, and were held to it, in the projection
+ *   that made the decision: of the seed's allocated rows, or of the trial that the search took last. At most 16; 0 behind the controls and beside a refusal.
  * The workspace is untouched where no forward run began, and all +0.0 otherwise. */
 size_t slew_plan_numbers(const size_t counts[11], const double actuators[100], const double body[37], bool limited,
                          double *workspace, size_t workspace_count,
-                         size_t told[5], double *duration, double *max_defect, double decision[193], double nodes[374]);
+                         size_t told[5], double *duration, double *max_defect, double decision[193], double nodes[374],
+                         size_t held[12]);
 
 /* The same with a caller's seed: a duration, 17 rates and 17 torques of three numbers (51 each; other counts are refusal 10).
  * Of the rates only the count matters, and the last torque is not read. */
 size_t slew_plan_from_numbers(const size_t counts[11], const double actuators[100], const double body[37], bool limited,
                               double seed_duration, const double *rates, size_t rates_count, const double *torques, size_t torques_count,
                               double *workspace, size_t workspace_count,
-                              size_t told[5], double *duration, double *max_defect, double decision[193], double nodes[374]);
+                              size_t told[5], double *duration, double *max_defect, double decision[193], double nodes[374],
+                              size_t held[12]);
 
 /* The bang-coast-bang profile from which the planner's own seed is taken. Returns 0 and the 22 numbers: angle, acceleration, time of acceleration, time of
  * coast, duration, peak rate (0 to 5), axis (6 to 8), inertia by rows (9 to 17), q0 (18 to 21). Or a refusal's number (1 to 7, 11), and leaves `profile`

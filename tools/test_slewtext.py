@@ -30,9 +30,9 @@ QUARTER = {
 }
 
 
-def path_text(wheels=2):
+def path_text(wheels=2, row="3FE BFE"):
     node = " ".join(["0", "3FF"] + ["0"] * (12 + wheels))
-    lines = ["(path", " (runs 3)", " (iterations 1)", " (duration 3FF)"] + [" (row 3FE BFE)"] * 16 + [f" (node {node})"] * 17
+    lines = ["(path", " (runs 3)", " (iterations 1)", " (duration 3FF)"] + [f" (row {row})"] * 16 + [f" (node {node})"] * 17
     return "\n".join(lines) + ")\n"
 
 
@@ -348,9 +348,23 @@ class Drawings(unittest.TestCase):
     def test_panels(self):
         problem = slewtext.read_problem(slewtext.problem_text(QUARTER | {"slew_limit_deg_s": 5, "wheel": [{"axis": [1, 0, 0], "torque_nm": 0.5, "momentum_nms": 4}] * 3}))
         self.assertEqual(problem["wheels"], [4.0, 4.0, 4.0])
-        svg = slewtext.drawing(slewtext.read_path(path_text(3)), problem)
+        svg = slewtext.drawing(slewtext.read_path(path_text(3, "3FE BFE 3FDFFFFFFFFFFFFF")), problem)
         root = xml.etree.ElementTree.fromstring(svg)
-        self.assertEqual(len([e for e in root if e.tag.endswith("polyline")]), 1 + 3 + 3 + 3)
+        self.assertEqual(len([e for e in root if e.tag.endswith("polyline")]), 1 + 3 + 3 + 3 + 3)
+        self.assertEqual(len([e for e in root if e.tag.endswith("circle")]), 2 * 16)
+        self.assertRaises(slewtext.Fault, slewtext.drawing, slewtext.read_path(path_text(3)), problem)
+
+    def test_controls_at_their_limits(self):
+        wheel = {"axis": [1, 0, 0], "torque_nm": 0.5, "momentum_nms": 4}
+        thruster = {"axis": [0, 1, 0], "torque_nm": 1}
+        pyramid = {"skew_deg": 54.74, "momentum_nms": 1, "rate_deg_s": 60, "singularity_eps": 0.5}
+        problem = lambda **more: slewtext.read_problem(slewtext.problem_text(QUARTER | more))
+        told = lambda row, **more: slewtext.stops(slewtext.read_path(path_text(0, row)), problem(**more)).splitlines()
+        above, below = "3FE0000000000001", "3FDFFFFFFFFFFFFF"
+        self.assertEqual(told(f"3FE {above} {below}"), [f"torque about {axis}: {n} of 16 controls at its limit of 0.5 N m." for axis, n in (("x", 16), ("y", 0), ("z", 0))])
+        self.assertEqual(told("BFE 3FF", wheel=[wheel], thruster=[thruster]), ["wheel 0: 16 of 16 controls at its limit of 0.5 N m.", "thruster 0: 16 of 16 controls at its limit of 1 N m."])
+        self.assertEqual(told("0 0 8 0", pyramid=pyramid)[3], "gimbal 3: 0 of 16 controls at its limit of 1.0472 rad/s.")
+        self.assertRaises(slewtext.Fault, told, "3FE BFE")
 
     def test_angle_left(self):
         half = math.sqrt(0.5)

@@ -65,9 +65,10 @@ static int print_each(size_t count, double alpha)
 int main(int argc, char **argv)
 {
     (void)argv;
-    size_t told[5], place, count;
+    size_t told[5], held[12], place, count;
     double max_defect, profile[22];
-    size_t number = slew_plan_numbers(counts, actuators, body, false, workspace, SLEW_WORKSPACE(3, 28), told, &duration, &max_defect, decision, nodes);
+    size_t number = slew_plan_numbers(counts, actuators, body, false, workspace, SLEW_WORKSPACE(3, 28), told, &duration, &max_defect, decision, nodes,
+                                      held);
     if (number)
         return refused("plan", number, told[0]);
     number = slew_problem_profile(counts, actuators, body, false, profile, &place);

@@ -1,4 +1,5 @@
-/* Plans the slew of examples/quarter-turn.toml, declared in numbers, and prints its dense samples as CSV. */
+/* Plans the slew of examples/quarter-turn.toml, declared in numbers, and prints its dense samples as CSV; on standard error how many of the 16 controls about
+ * each axis were held to their limit. */
 #include <stdio.h>
 
 #include "quarter_turn.h"
@@ -14,9 +15,10 @@ static int refused(const char *what, size_t number, size_t place)
 
 int main(void)
 {
-    size_t told[5], place, count;
+    size_t told[5], held[12], place, count;
     double duration, max_defect, profile[22], sample[14];
-    size_t number = slew_plan_numbers(counts, actuators, body, false, workspace, SLEW_WORKSPACE(3, 28), told, &duration, &max_defect, decision, nodes);
+    size_t number = slew_plan_numbers(counts, actuators, body, false, workspace, SLEW_WORKSPACE(3, 28), told, &duration, &max_defect, decision, nodes,
+                                      held);
     if (number)
         return refused("plan", number, told[0]);
     number = slew_problem_profile(counts, actuators, body, false, profile, &place);
@@ -26,6 +28,7 @@ int main(void)
     if (number)
         return refused("count", number, 0);
 
+    fprintf(stderr, "held to the limit: %zu, %zu, %zu of 16\n", held[0], held[1], held[2]);
     puts("t,qw,qx,qy,qz,wx,wy,wz,tx,ty,tz,hx,hy,hz");
     for (size_t index = 0; index < count; index++) {
         number = slew_sample_path(body + 8, body[27], duration, nodes, 17, profile[1], index, sample, &place);

@@ -22,13 +22,17 @@ const PARTS: [(usize, &str, usize, &str); 6] = [
 ];
 
 /// A text that stands once in scvx.rs, and the line added before it.
-const COUNTED: [(&str, &str); 17] = [
+const COUNTED: [(&str, &str); 21] = [
+    ("        problem\n            .actuators\n            .project_controls(&mut row", "crate::tally::allocated(&row);"),
+    ("        u_rows.push(row);", "crate::tally::seed_row(&row);"),
     ("        let r = residuals(problem, &z)?;\n        let mag", "crate::tally::round();"),
     ("        if mag <= DEFECT_TOL {", "crate::tally::length(mag);"),
     ("        let mut a = vec![vec![0.0; n_z]; n_z];", "crate::tally::phase(crate::tally::NORMAL);"),
     ("        if solve_dense(&mut a, &mut g).is_err() {", "crate::tally::phase(crate::tally::ELIMINATION);"),
     ("            lambda = (lambda * 8.0)", "crate::tally::singular();"),
     ("        let mut trial = apply_step", "crate::tally::phase(crate::tally::OTHER);"),
+    ("        project_decision(problem, &mut trial);", "crate::tally::moved(&trial.u);"),
+    ("        let trial_norm = ", "crate::tally::projected(&trial.u);"),
     ("        if trial_norm < best {", "crate::tally::trial(trial_norm, best);"),
     ("            z = trial;", "crate::tally::accepted();"),
     ("            lambda = (lambda * 4.0)", "crate::tally::rejected();"),

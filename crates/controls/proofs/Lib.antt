@@ -1,3 +1,3 @@
 -- Laws that several proofs cite.
 pub mod Room
-pub mod Held
+pub mod PartLimits

@@ -4,7 +4,7 @@ use mathlib.Core.Bool.{Bool, cond}
 use mathlib.Core.List.{List}
 use lib.Dec.{ltb}
 use lib.ListN.{getD, length}
-use lib.Ieee.{Float, nan, binary64, mul, sub, neg}
+use lib.Ieee.{Float, nan, binary64, mul, sub, neg, lt}
 use Rattle.common.specs.Iter.{iter}
 use Rattle.common.specs.Lists.{at}
 use Rattle.common.specs.declared.Limit.{Limit}
@@ -17,6 +17,7 @@ use Rattle.actuators.specs.declared.Cmgs.{Cmgs}
 use Rattle.actuators.specs.declared.Cmgs.the-variants.{Without, With}
 use Rattle.controls.specs.Stored.{stored}
 use Rattle.controls.specs.Parts.{bare, width}
+use Rattle.controls.specs.declared.Held.{Held}
 use Rattle.controls.specs.declared.Rig.{Rig}
 
 -- ---- projection
@@ -24,6 +25,14 @@ use Rattle.controls.specs.declared.Rig.{Rig}
 -- One control held to its limit. The Rust panics at a limit that is NaN or below 0: there the answer is free.
 unfoldable pub hold : Float → Float → Float
 hold limit x = clamp (neg limit) limit x
+
+-- Whether that changes it: it is larger in size than its limit. An infinity is; a NaN, and a control equal to its limit, are not.
+abbrev pub changed : Float → Float → Bool
+changed limit x = lt limit (abs x)
+
+-- the number, and whether it was changed
+abbrev pub holding : Float → Float → Held
+holding limit x = record { x = hold limit x; changed = changed limit x }
 
 -- control k held to its limit
 abbrev pub held : (ℕ → Float) → ℕ → Float → Float

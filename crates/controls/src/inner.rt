@@ -8,6 +8,7 @@ ghost use Rattle.actuators.specs.Maps as Maps;
 ghost use Rattle.controls.specs.Parts as Parts;
 ghost use Rattle.controls.specs.Limits as Limits;
 ghost use Rattle.controls.specs.Stored as Stored;
+use crate::Held;
 use crate::Rig;
 use crate::WheelLaw;
 use actuators::Cmgs;
@@ -175,11 +176,14 @@ pub fn momenta_next(n: usize, hw: [f64; 8], u: &[f64], dt: f64) -> [f64; 8]
     out
 }
 
-// One control held to its limit: the seed, the trials and the columns all come through here.
-pub fn hold(x: f64, limit: f64) -> f64
-    ensures { λ r. ⌜ r ≡ Limits.hold limit x ⌝ }
+// One control held to its limit, and whether that changed it: the seed, the trials and the columns all come through here.
+pub fn hold(x: f64, limit: f64) -> Held
+    ensures { λ r. ⌜ r ≡ Limits.holding limit x ⌝ }
 {
-    float::clamp(x, -limit, limit)
+    Held {
+        x: float::clamp(x, -limit, limit),
+        changed: limit < float::abs(x),
+    }
 }
 
 // The first n controls of a part, each held to its limit.
@@ -189,7 +193,8 @@ pub fn hold_part(limits: &[f64], n: usize, u: &mut [f64])
 {
     let mut i: usize = 0;
     while i < n {
-        u[i] = hold(u[i], limits[i]);
+        let h = hold(u[i], limits[i]);
+        u[i] = h.x;
         i += 1;
     }
 }

@@ -26,6 +26,12 @@ pub struct Rig {
     pub law: WheelLaw,
 }
 
+// A control held to its limit: the number, and whether holding changed it.
+pub struct Held {
+    pub x: f64,
+    pub changed: bool,
+}
+
 // The torque of a row, or the refusal of the pyramid's matrix and zeros.
 pub struct Torque {
     pub fate: Fate,

@@ -1,7 +1,8 @@
 // planner: both entries on a problem as declared and a lent workspace.
 //
 // `counts` gets a refusal's place, the forward runs begun, and of a path its controls in a row, its wheels and its iterations; `max_defect` the largest defect
-// of its run. Beside a refusal the path is zeros. The workspace is untouched where no forward run began, and all +0 otherwise.
+// of its run; `held` for each place of a row how many of its 16 controls were held to their limit in the projection that made the decision. Beside a refusal the
+// path is zeros. The workspace is untouched where no forward run began, and all +0 otherwise.
 ghost use mathlib.Core.Path.{_≡_};
 ghost use lib.ListN.{length};
 ghost use Rattle.planner.specs.Plans as Plans;
@@ -22,6 +23,7 @@ fn put_planned(
     max_defect: &mut f64,
     z: &mut [f64; 193],
     nodes: &mut [[f64; 22]; 17],
+    held: &mut [usize; 12],
 ) -> usize
     ensures { λ n. ⌜ n ≡ Outcomes.number (Plans.answer r) ⌝ }
     ensures { λ _. ⌜ now (counts .exit) ≡ Entries.counts r ⌝ }
@@ -29,17 +31,20 @@ fn put_planned(
     ensures { λ _. ⌜ now («max_defect» .exit) ≡ r .path .«max_defect» ⌝ }
     ensures { λ _. ⌜ now (z .exit) ≡ r .path .z ⌝ }
     ensures { λ _. ⌜ now (nodes .exit) ≡ Rows.rows (r .path .nodes) ⌝ }
+    ensures { λ _. ⌜ now (held .exit) ≡ r .path .held ⌝ }
 {
     let fate = r.fate;
     let path = r.path;
     let decision = path.z;
     let visited = path.nodes;
+    let stops = path.held;
     let place = place_of(fate);
     *counts = [place, r.runs, path.controls, path.wheels, path.iterations];
     *duration = path.duration;
     *max_defect = path.max_defect;
     *z = decision;
     *nodes = rows(visited);
+    *held = stops;
     number_of(fate)
 }
 
@@ -56,6 +61,7 @@ pub extern "C" fn slew_plan_numbers(
     max_defect: &mut f64,
     z: &mut [f64; 193],
     nodes: &mut [[f64; 22]; 17],
+    held: &mut [usize; 12],
 ) -> usize
     ensures { λ r. ⌜ r ≡ Outcomes.number (Plans.answer (Entries.own (now (c .entry)) (now (v .entry)) (now (b .entry)) limited (length (now (ws .entry))))) ⌝ }
     ensures { λ _. ⌜ now (counts .exit) ≡ Entries.counts (Entries.own (now (c .entry)) (now (v .entry)) (now (b .entry)) limited (length (now (ws .entry)))) ⌝ }
@@ -63,11 +69,12 @@ pub extern "C" fn slew_plan_numbers(
     ensures { λ _. ⌜ now («max_defect» .exit) ≡ Entries.own (now (c .entry)) (now (v .entry)) (now (b .entry)) limited (length (now (ws .entry))) .path .«max_defect» ⌝ }
     ensures { λ _. ⌜ now (z .exit) ≡ Entries.own (now (c .entry)) (now (v .entry)) (now (b .entry)) limited (length (now (ws .entry))) .path .z ⌝ }
     ensures { λ _. ⌜ now (nodes .exit) ≡ Rows.rows (Entries.own (now (c .entry)) (now (v .entry)) (now (b .entry)) limited (length (now (ws .entry))) .path .nodes) ⌝ }
+    ensures { λ _. ⌜ now (held .exit) ≡ Entries.own (now (c .entry)) (now (v .entry)) (now (b .entry)) limited (length (now (ws .entry))) .path .held ⌝ }
     ensures { λ _. ⌜ now (ws .exit) ≡ Plans.leaves (Entries.own (now (c .entry)) (now (v .entry)) (now (b .entry)) limited (length (now (ws .entry))) .runs) (now (ws .entry)) ⌝ }
 {
     let p = problem_of(c, v, b, limited);
     let planned = planner::plan(p, ws);
-    put_planned(planned, counts, duration, max_defect, z, nodes)
+    put_planned(planned, counts, duration, max_defect, z, nodes, held)
 }
 
 // A caller's seed: a duration, 17 rates and 17 torques, three numbers a node.
@@ -86,6 +93,7 @@ pub extern "C" fn slew_plan_from_numbers(
     max_defect: &mut f64,
     z: &mut [f64; 193],
     nodes: &mut [[f64; 22]; 17],
+    held: &mut [usize; 12],
 ) -> usize
     ensures { λ r. ⌜ r ≡ Outcomes.number (Plans.answer (Entries.seeded (now (c .entry)) (now (v .entry)) (now (b .entry)) limited «seed_duration» (now (rates .entry)) (now (torques .entry)) (length (now (ws .entry))))) ⌝ }
     ensures { λ _. ⌜ now (counts .exit) ≡ Entries.counts (Entries.seeded (now (c .entry)) (now (v .entry)) (now (b .entry)) limited «seed_duration» (now (rates .entry)) (now (torques .entry)) (length (now (ws .entry)))) ⌝ }
@@ -93,9 +101,10 @@ pub extern "C" fn slew_plan_from_numbers(
     ensures { λ _. ⌜ now («max_defect» .exit) ≡ Entries.seeded (now (c .entry)) (now (v .entry)) (now (b .entry)) limited «seed_duration» (now (rates .entry)) (now (torques .entry)) (length (now (ws .entry))) .path .«max_defect» ⌝ }
     ensures { λ _. ⌜ now (z .exit) ≡ Entries.seeded (now (c .entry)) (now (v .entry)) (now (b .entry)) limited «seed_duration» (now (rates .entry)) (now (torques .entry)) (length (now (ws .entry))) .path .z ⌝ }
     ensures { λ _. ⌜ now (nodes .exit) ≡ Rows.rows (Entries.seeded (now (c .entry)) (now (v .entry)) (now (b .entry)) limited «seed_duration» (now (rates .entry)) (now (torques .entry)) (length (now (ws .entry))) .path .nodes) ⌝ }
+    ensures { λ _. ⌜ now (held .exit) ≡ Entries.seeded (now (c .entry)) (now (v .entry)) (now (b .entry)) limited «seed_duration» (now (rates .entry)) (now (torques .entry)) (length (now (ws .entry))) .path .held ⌝ }
     ensures { λ _. ⌜ now (ws .exit) ≡ Plans.leaves (Entries.seeded (now (c .entry)) (now (v .entry)) (now (b .entry)) limited «seed_duration» (now (rates .entry)) (now (torques .entry)) (length (now (ws .entry))) .runs) (now (ws .entry)) ⌝ }
 {
     let p = problem_of(c, v, b, limited);
     let planned = planner::plan_from(p, seed_duration, rates, torques, ws);
-    put_planned(planned, counts, duration, max_defect, z, nodes)
+    put_planned(planned, counts, duration, max_defect, z, nodes, held)
 }

@@ -1,4 +1,4 @@
--- `hold l x`, the control x held between -l and l: done twice, to two limits, of -x, and in order. Assumes nothing.
+-- `hold l x`, the control x held between -l and l: done twice, to two limits, of -x, in order, and where it changes x. Assumes nothing.
 -- A limit is any f64 above 0, infinity too. A control is any f64 but a NaN, so each finite one.
 use mathlib.Core.Path.{_≡_, refl, sym, ap, _∙_}
 use Prim.Native.Nat.{_≤_}
@@ -10,14 +10,14 @@ use lib.Ieee.Scale.{finite}
 use lib.Ieee.Bits.{is-true, is-false}
 use Rattle.float.specs.Ops as Ops
 use Rattle.float.specs.Ops.{number, abs}
-use Rattle.laws.specs.Numbers.{lt-r}
+use Rattle.laws.specs.Numbers.{lt-r, clamp-n}
 use Rattle.laws.specs.Finite.{finite-number}
 use Rattle.laws.specs.Limits as Limits
 use Rattle.laws.specs.Place.{mid, place}
 use Rattle.laws.specs.Order.{Held, held, lt-up, nlt-up, le-up, neg-held, abs-held, place-neg, place-abs, le-trans, lt-le, not-above}
 use Rattle.laws.specs.Signs.{place-plus, above-zero-plus}
-use Rattle.laws.specs.Clamp.{test, clamp-same, sym-idem, sym-neg, clamp-mono, clamp-wider, clamp-narrower}
-use Rattle.controls.specs.Limits.{hold}
+use Rattle.laws.specs.Clamp.{test, clamp-same, sym-abs, sym-idem, sym-neg, clamp-mono, clamp-wider, clamp-narrower}
+use Rattle.controls.specs.Limits.{hold, changed}
 
 -- a limit: an f64 above 0
 pub record Limit (l : Float) : Type 0 where
@@ -76,6 +76,39 @@ module _ {l : Float} (L : Limit l) where
       let b = le-up binary64 (abs x) l (abs-held (at p)) top h in
       let n = place-neg binary64 l top in
       clamp-same binary64 (neg l) l (neg-held top) top x (at p) (omega arith) (omega arith)
+
+-- ---- where a control is changed: exactly where the number differs
+not-number : (y : Float) → (T (number y) → ⊥) → y ≡ nan
+not-number nan h = refl
+not-number (inf s) h = absurd (h tt)
+not-number (fin s m e) h = absurd (h tt)
+
+module _ {l : Float} (L : Limit l) where
+  nan-same : hold l nan ≡ nan
+  unfolding hold
+  nan-same = not-number _ (clamp-n (neg l) l nan)
+
+  within-same : {x : Float} → Number x → T (not (changed l x)) → hold l x ≡ x
+  within-same {x} p h = hold-within L p (not-above binary64 (abs x) l (abs-held (at p)) (top L) h)
+
+  beyond-differs : {x : Float} → Number x → T (changed l x) → hold l x ≡ x → ⊥
+  unfolding hold
+  beyond-differs {x} p t e =
+      let s : T (le (abs x) l) = rw e at (sym-abs binary64 l (top L) (up L) x (at p)) in
+      omega (arith, le-up binary64 (abs x) l (abs-held (at p)) (top L) s, lt-up binary64 l (abs x) (top L) (abs-held (at p)) t)
+
+  -- A CONTROL THAT IS NOT CHANGED is the number that it was, a NaN too
+  pub unchanged-same : (x : Float) → T (fits binary64 x) → T (not (changed l x)) → hold l x ≡ x
+  unchanged-same nan f h = nan-same
+  unchanged-same (inf s) f h = within-same (record { fit = f; real = tt }) h
+  unchanged-same (fin s m e) f h = within-same (record { fit = f; real = tt }) h
+
+  -- ONE THAT IS CHANGED is another number
+  pub changed-differs : (x : Float) → T (fits binary64 x) → T (changed l x) → hold l x ≡ x → ⊥
+  unfolding abs
+  changed-differs nan f t e = absurd (lt-r l nan t)
+  changed-differs (inf s) f t e = beyond-differs (record { fit = f; real = tt }) t e
+  changed-differs (fin s m x) f t e = beyond-differs (record { fit = f; real = tt }) t e
 
 -- an infinite limit changes nothing
 endless-same : (x : Float) → T (number x) → hold (inf false) x ≡ x

@@ -3,5 +3,6 @@ pub mod Plans
 pub mod PlanLaws
 pub mod Promises
 pub mod Outcomes
+pub mod HeldKept
 pub mod PromisesKept
 pub mod Refusals

@@ -38,13 +38,13 @@ pub outcome-as : {was is : Planned} {ws z : List Float} {r : Planned} {exit : Li
 outcome-as o e = record { same = o .same ∙ e; left = o .left; held = o .held }
 
 -- after a search from the seed's decision: the workspace was cleared
-pub solved : (p : CheckedProblem) {is : Planned} (ws : List Float) {z seed : List Float} {r : Planned} {exit : List Float} → seed ≡ z → r ≡ Plans.answered p (search p seed) → exit ≡ replicate (length ws) plusZero → Fit seed
-    → Plans.answered p (search p z) ≡ is → Outcome is ws z r exit
-solved p ws {z} e f g h i =
-    let j = rw e at f in
+pub solved : (p : CheckedProblem) {is : Planned} (ws : List Float) {z seed : List Float} {was held : List ℕ} {r : Planned} {exit : List Float} → seed ≡ z → was ≡ held → r ≡ Plans.answered p (search p seed) was → exit ≡ replicate (length ws) plusZero → Fit seed
+    → Plans.answered p (search p z) held ≡ is → Outcome is ws z r exit
+solved p ws {z} {held = held} e w f g h i =
+    let j = rw (e, w) at f in
     record {
       same = j ∙ i;
-      left = g ∙ rw (j, answered-runs p (search p z)) (leaves-begun (search p z .runs) ws (runs-least p z));
+      left = g ∙ rw (j, answered-runs p (search p z) held) (leaves-begun (search p z .runs) ws (runs-least p z));
       held = λ _. subst Fit e h;
     }
 

@@ -57,22 +57,22 @@ module _ (p : CheckedProblem) (duration : Float) (torques : List Float) (size : 
       unfolding Plans.seeded
       seeded-short h = rw (c, ← d, t, ← s, lt-ltb size n h) refl
 
-      pub seeded-search : n ≤ size → Plans.answered p (search p (Plans.seedOf p duration torques)) ≡ Plans.seeded p counted duration torques size
+      pub seeded-search : n ≤ size → Plans.answered p (search p (Plans.seedOf p duration torques)) (Plans.seedHeldOf p duration torques) ≡ Plans.seeded p counted duration torques size
       unfolding Plans.seeded
       seeded-search h = rw (c, ← d, t, ← s, le-ltb size n h) refl
 
 -- ---- every answer after the search carries its runs
-runs-ended : (e : Fate) (p : CheckedProblem) (f : Found) → Plans.endedBy e p f .runs ≡ f .runs
-runs-ended Going p f = refl
-runs-ended (Refused n k) p f = refl
+runs-ended : (e : Fate) (p : CheckedProblem) (f : Found) (held : List ℕ) → Plans.endedBy e p f held .runs ≡ f .runs
+runs-ended Going p f held = refl
+runs-ended (Refused n k) p f held = refl
 
-runs-found : (e : Fate) (p : CheckedProblem) (f : Found) → Plans.foundBy e p f .runs ≡ f .runs
-runs-found Going p f = runs-ended (endFate p (f .run)) p f
-runs-found (Refused n k) p f = refl
+runs-found : (e : Fate) (p : CheckedProblem) (f : Found) (held : List ℕ) → Plans.foundBy e p f held .runs ≡ f .runs
+runs-found Going p f held = runs-ended (endFate p (f .run)) p f held
+runs-found (Refused n k) p f held = refl
 
-pub answered-runs : (p : CheckedProblem) (f : Found) → Plans.answered p f .runs ≡ f .runs
+pub answered-runs : (p : CheckedProblem) (f : Found) (held : List ℕ) → Plans.answered p f held .runs ≡ f .runs
 unfolding Plans.answered
-answered-runs p f = runs-found (f .fate) p f
+answered-runs p f held = runs-found (f .fate) p f held
 
 -- ---- the workspace
 pub leaves-none : (ws : List Float) → ws ≡ Plans.leaves 0 ws

@@ -21,7 +21,8 @@ use Rattle.problem.specs.Problems.{isPositive, check}
 use Rattle.problem.specs.declared.Problem.{Problem}
 use Rattle.problem.specs.declared.CheckedProblem.{CheckedProblem}
 use Rattle.forward.specs.Runs.{blankNode}
-use Rattle.seeds.specs.Seeds.{served, seedDecision}
+use Rattle.held_counts.specs.Counts.{noneHeld}
+use Rattle.seeds.specs.Seeds.{served, seedDecision, seedHeld}
 use Rattle.scvx.specs.Search.{search, room}
 use Rattle.scvx.specs.declared.Found.{Found}
 use Rattle.ends.specs.Ends.{endFate}
@@ -32,14 +33,18 @@ use Rattle.planner.specs.declared.Planned.{Planned}
 
 -- no path: zeros
 abbrev pub blankPath : Path
-blankPath = record { duration = plusZero; controls = 0; wheels = 0; iterations = 0; «max_defect» = plusZero; z = replicate 193 plusZero; nodes = replicate 17 blankNode }
+blankPath = record { duration = plusZero; controls = 0; wheels = 0; iterations = 0; «max_defect» = plusZero; z = replicate 193 plusZero; nodes = replicate 17 blankNode; held = noneHeld }
 
 abbrev pub refused : ℕ → ℕ → ℕ → Planned
 refused number place runs = record { fate = Refused number place; runs = runs; path = blankPath }
 
+-- how many controls were held, place by place in a row, in the projection that made the decision: the trial's, or the seed's, whose counts are `held`
+abbrev pub heldOf : Found → List ℕ → List ℕ
+heldOf f held = cond (f .tried) (f .held) held
+
 -- the path of what was found
-abbrev pub pathOf : CheckedProblem → Found → Path
-pathOf p f = record {
+abbrev pub pathOf : CheckedProblem → Found → List ℕ → Path
+pathOf p f held = record {
   duration = at (f .z) 0;
   controls = controlDim (p .map);
   wheels = p .map .«wheel_count»;
@@ -47,32 +52,37 @@ pathOf p f = record {
   «max_defect» = f .run .defect;
   z = f .z;
   nodes = f .run .nodes;
+  held = heldOf f held;
 }
 
 -- ---- the stages, last first
 
 -- the end checks
-abbrev pub endedBy : Fate → CheckedProblem → Found → Planned
-endedBy (Refused number place) p f = refused number place (f .runs)
-endedBy Going p f = record { fate = Going; runs = f .runs; path = pathOf p f }
+abbrev pub endedBy : Fate → CheckedProblem → Found → List ℕ → Planned
+endedBy (Refused number place) p f held = refused number place (f .runs)
+endedBy Going p f held = record { fate = Going; runs = f .runs; path = pathOf p f held }
 
 -- a run of the search was refused, or it found a decision
-abbrev pub foundBy : Fate → CheckedProblem → Found → Planned
-foundBy (Refused number place) p f = refused number place (f .runs)
-foundBy Going p f = endedBy (endFate p (f .run)) p f
+abbrev pub foundBy : Fate → CheckedProblem → Found → List ℕ → Planned
+foundBy (Refused number place) p f held = refused number place (f .runs)
+foundBy Going p f held = endedBy (endFate p (f .run)) p f held
 
-unfoldable pub answered : CheckedProblem → Found → Planned
-answered p f = foundBy (f .fate) p f
+unfoldable pub answered : CheckedProblem → Found → List ℕ → Planned
+answered p f held = foundBy (f .fate) p f held
 
 -- the seed's decision of a checked problem
 abbrev pub seedOf : CheckedProblem → Float → List Float → List Float
 seedOf p duration torques = seedDecision (p .map) (p .«torque_limit») duration torques
 
+-- how many of its allocated controls were held
+abbrev pub seedHeldOf : CheckedProblem → Float → List Float → List ℕ
+seedHeldOf p duration torques = seedHeld (p .map) (p .«torque_limit») duration torques
+
 -- 10: the seed has 17 nodes and a duration that is finite and above 0; then 9: the lent workspace holds `size` numbers
 unfoldable pub seeded : CheckedProblem → Bool → Float → List Float → ℕ → Planned
 seeded p counted duration torques size =
     cond (counted && isPositive duration)
-    (cond (ltb size (room p)) (refused 9 0 0) (answered p (search p (seedOf p duration torques))))
+    (cond (ltb size (room p)) (refused 9 0 0) (answered p (search p (seedOf p duration torques)) (seedHeldOf p duration torques)))
     (refused 10 0 0)
 
 -- 8, and 6 at place 1

@@ -1,5 +1,6 @@
 -- Demand 3, whole: what holds of an answered path, for every problem, every seed and every workspace. The words are document 01's. Assumes nothing.
 use mathlib.Core.Path.{_≡_}
+use mathlib.Core.Bool.{false}
 use mathlib.Core.List.{List, [], _∷_}
 use Prim.Native.Nat.{ℕ, _+_, _*_, _<_, _≤_}
 use lib.Dec.{T}
@@ -19,6 +20,7 @@ use Rattle.geom.specs.declared.Quat.{Quat}
 use Rattle.geom.specs.declared.Normal.the-variants as Normal
 use Rattle.geom.specs.declared.Rotation.the-variants as Rotation
 use Rattle.controls.specs.Parts.{bodyMomentum}
+use Rattle.held_counts.specs.Counts.{countAt}
 use Rattle.profile.specs.Seeds.{sampleSeed}
 use Rattle.problem.specs.Problems.{check}
 use Rattle.problem.specs.declared.Problem.{Problem}
@@ -30,10 +32,12 @@ use Rattle.residuals.specs.Sums.{nodeAt, normSlice}
 use Rattle.residuals.specs.Residuals.{errorOf}
 use Rattle.residuals.specs.Operations.{residuals}
 use Rattle.scvx.specs.Search.{search}
+use Rattle.scvx.specs.declared.Candidate.{Candidate}
 use Rattle.ends.specs.Ends.{tolerance}
 use Rattle.run_laws.specs.Values.{Fine3, FineN}
 use Rattle.run_laws.specs.Paths.{control}
 use Rattle.search_laws.specs.Better.{Better}
+use Rattle.search_laws.specs.Made.{LastTaken}
 use Rattle.search_laws.specs.Declared.{controlsOf, controlLimit, momentumLimit}
 use Rattle.planner.specs.Plans as Plans
 use Rattle.planner.specs.declared.Path.{Path}
@@ -73,6 +77,17 @@ pub record FiniteNode (n : Node) : Type 0 where
   pub tau : Fine3 (n .tau)
   pub hw : FineN 8 (n .hw)
 
+-- How many controls were held in the projection that made the path's decision. The search stayed at the seed's decision, whose counts are those of its allocated
+-- rows (`PromisesKept.plan-held`); or the decision is the last trial that the search took, from the decision at which it stood and by the step that solves the
+-- normal equations there, and the counts are those of that decision moved by that step, before it was projected (`Search.trialHeld`).
+pub data HeldBy (c : CheckedProblem) (seed : List Float) (path : Path) : Type 0 where
+  as-seed : path .z ≡ seed → search c seed .tried ≡ false → HeldBy c seed path
+  as-trial : (t : Candidate) → LastTaken c seed 40 t → path .z ≡ t .z → path .held ≡ t .held → HeldBy c seed path
+
+-- our own seed's counts: of its allocated rows
+abbrev pub ownHeld : CheckedProblem → List ℕ
+ownHeld c = Plans.seedHeldOf c (sampleSeed (Plans.profiled c .profile) .duration) (sampleSeed (Plans.profiled c .profile) .torques)
+
 -- ---- DEMAND 3 of the problem p, the seed's decision, the answered path and the forward runs reported
 pub record Promised (p : Problem) (seed : List Float) (path : Path) (reported : ℕ) : Type 0 where
   -- the path's duration and counts
@@ -103,6 +118,10 @@ pub record Promised (p : Problem) (seed : List Float) (path : Path) (reported : 
   -- the forward runs reported are the number that the search definition begins on that problem and seed
   pub runs : reported ≡ search (check p .problem) seed .runs
   pub bound : reported ≤ 40 * (16 * controlsOf (p .actuators) + 3) + 2
+  -- how many of the 16 controls at each place of a row were held in the projection that made the decision: at most 16, and 0 past the controls
+  pub held : HeldBy (check p .problem) seed path
+  pub held-most : (i : ℕ) → i < 12 → countAt (path .held) i ≤ 16
+  pub held-past : (i : ℕ) → controlsOf (p .actuators) ≤ i → i < 12 → countAt (path .held) i ≡ 0
   -- besides: past the numbers of the decision, and past the wheels of each node, stands +0
   pub past : (i : ℕ) → packedLen (controlsOf (p .actuators)) ≤ i → i < 193 → at (path .z) i ≡ plusZero
   pub spare : (k : ℕ) → k < 17 → (i : ℕ) → p .actuators .«wheel_count» ≤ i → i < 8 → at (nodeAt (path .nodes) k .hw) i ≡ plusZero

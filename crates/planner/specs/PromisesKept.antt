@@ -54,7 +54,8 @@ use Rattle.search_laws.specs.Decisions.{Fit}
 use Rattle.search_laws.specs.OwnSeed.{duration-fits, torques-fit}
 use Rattle.search_laws.specs.Seeds.{seed-long, seed-past, seed-fits, seed-projected}
 use Rattle.planner.specs.Plans as Plans
-use Rattle.planner.specs.Promises.{PassesByLess, residualLength, Promised, Answers, ownSeed}
+use Rattle.planner.specs.HeldKept.{path-held, counts-most, counts-past}
+use Rattle.planner.specs.Promises.{PassesByLess, residualLength, Promised, Answers, ownSeed, ownHeld}
 use Rattle.planner.specs.Refusals.{Blank, plan-blank, plan-from-blank}
 use Rattle.planner.specs.declared.Path.{Path}
 use Rattle.planner.specs.declared.Planned.{Planned}
@@ -83,9 +84,9 @@ going : (e : Fate) → T (goes e) → e ≡ Going
 going Going t = refl
 going (Refused n k) t = absurd t
 
--- what is promised of an answer with a path
-abbrev Held : Problem → List Float → Planned → Type 0
-Held p seed r = Promised p seed (r .path) (r .runs)
+-- what is promised of an answer with a path, and where its search stays at the seed its counts are the seed's
+abbrev Held : Problem → List Float → List ℕ → Planned → Type 0
+Held p seed counts r = Promised p seed (r .path) (r .runs) × (search (check p .problem) seed .tried ≡ false → r .path .held ≡ counts)
 
 -- ---- a problem that passed the checks, with actuators that are served
 module _ (p : Problem) (F : FitsP p) (passed : check p .fate ≡ Going) (serves : served (check p .problem .map) ≡ Going) where
@@ -126,6 +127,9 @@ module _ (p : Problem) (F : FitsP p) (passed : check p .fate ≡ Going) (serves 
     abbrev seed : List Float
     seed = Plans.seedOf c duration torques
 
+    abbrev counts : List ℕ
+    counts = Plans.seedHeldOf c duration torques
+
     wide : packedLen (controlDim (c .map)) ≤ length seed
     wide = omega (arith, narrow, seed-long (c .map) narrow duration torques (ready .map) (c .«torque_limit») (ready .limits))
 
@@ -133,7 +137,7 @@ module _ (p : Problem) (F : FitsP p) (passed : check p .fate ≡ Going) (serves 
     fitted = seed-fits (c .map) narrow duration torques (ready .map) (c .«torque_limit») (ready .limits)
 
     module _ (G : Fit seed) where
-      found : T (goes (search c seed .fate)) → T (goes (endFate c (search c seed .run))) → Promised p seed (Plans.pathOf c (search c seed)) (search c seed .runs)
+      found : T (goes (search c seed .fate)) → T (goes (endFate c (search c seed .run))) → Promised p seed (Plans.pathOf c (search c seed) counts) (search c seed .runs)
       found t e = record {
         duration = refl;
         width = row;
@@ -155,6 +159,9 @@ module _ (p : Problem) (F : FitsP p) (passed : check p .fate ≡ Going) (serves 
         seed-measured = measured-goes seed (A .seed-measured);
         runs = refl;
         bound = rw (← row) (runs-most c seed);
+        held = path-held c seed counts t;
+        held-most = counts-most c narrow seed duration torques t;
+        held-past = λ i h k. counts-past c narrow seed duration torques t i (rw row h) k;
         past = λ i h k. let n : packedLen (controlDim (c .map)) ≤ i = rw row h in A .sound .tail .past i n ∙ seed-past (c .map) narrow duration torques (ready .map) (c .«torque_limit») (ready .limits) i n k;
         spare = λ k h i l m. A .spare k h i (rw (same .map .wheels) l) m;
         finite-defect = A .defect;
@@ -179,22 +186,22 @@ module _ (p : Problem) (F : FitsP p) (passed : check p .fate ≡ Going) (serves 
           starts : (nodeAt (search c seed .run .nodes) 0 .hw ≡ c .momenta) × (nodeAt (search c seed .run .nodes) 0 .h ≡ bodyMomentum (c .map .«wheel_axes») (c .map .«wheel_count») (c .momenta))
           starts = unfold nodeOf start in (ap (λ (n : Node). n .hw) (A .path .first), ap (λ (n : Node). n .h) (A .path .first))
 
-      ends : (b : Fate) → endFate c (search c seed .run) ≡ b → T (goes (search c seed .fate)) → Plans.endedBy b c (search c seed) .fate ≡ Going → Held p seed (Plans.endedBy b c (search c seed))
-      ends Going e t g = found t (rw e tt)
+      ends : (b : Fate) → endFate c (search c seed .run) ≡ b → T (goes (search c seed .fate)) → Plans.endedBy b c (search c seed) counts .fate ≡ Going → Held p seed counts (Plans.endedBy b c (search c seed) counts)
+      ends Going e t g = (found t (rw e tt), λ h. rw h refl)
       ends (Refused n k) e t g = absurd (refused-going g)
 
-      finds : (a : Fate) → search c seed .fate ≡ a → Plans.foundBy a c (search c seed) .fate ≡ Going → Held p seed (Plans.foundBy a c (search c seed))
+      finds : (a : Fate) → search c seed .fate ≡ a → Plans.foundBy a c (search c seed) counts .fate ≡ Going → Held p seed counts (Plans.foundBy a c (search c seed) counts)
       finds Going e g = ends (endFate c (search c seed .run)) refl (rw e tt) g
       finds (Refused n k) e g = absurd (refused-going g)
 
-      searched : (a b : Bool) → cond a (cond b (Plans.refused 9 0 0) (Plans.answered c (search c seed))) (Plans.refused 10 0 0) .fate ≡ Going
-          → Held p seed (cond a (cond b (Plans.refused 9 0 0) (Plans.answered c (search c seed))) (Plans.refused 10 0 0))
+      searched : (a b : Bool) → cond a (cond b (Plans.refused 9 0 0) (Plans.answered c (search c seed) counts)) (Plans.refused 10 0 0) .fate ≡ Going
+          → Held p seed counts (cond a (cond b (Plans.refused 9 0 0) (Plans.answered c (search c seed) counts)) (Plans.refused 10 0 0))
       unfolding Plans.answered
       searched true true g = absurd (refused-going g)
       searched true false g = finds (search c seed .fate) refl g
       searched false b g = absurd (refused-going g)
 
-      seeds : (counted : Bool) (size : ℕ) → Plans.seeded c counted duration torques size .fate ≡ Going → Held p seed (Plans.seeded c counted duration torques size)
+      seeds : (counted : Bool) (size : ℕ) → Plans.seeded c counted duration torques size .fate ≡ Going → Held p seed counts (Plans.seeded c counted duration torques size)
       unfolding Plans.seeded
       seeds counted size g = searched (counted && isPositive duration) (ltb size (room c)) g
 
@@ -204,34 +211,43 @@ module _ (p : Problem) (F : FitsP p) (passed : check p .fate ≡ Going) (duratio
   q = check p .problem
 
   with-seed : (counted : Bool) (size : ℕ) → (served (q .map) ≡ Going → Fit (Plans.seedOf q duration torques)) → Plans.withSeed q counted duration torques size .fate ≡ Going
-      → Held p (Plans.seedOf q duration torques) (Plans.withSeed q counted duration torques size)
+      → Held p (Plans.seedOf q duration torques) (Plans.seedHeldOf q duration torques) (Plans.withSeed q counted duration torques size)
   unfolding Plans.withSeed
   with-seed counted size G g = go (served (q .map)) refl g
     where
-      go : (e : Fate) → served (q .map) ≡ e → Plans.servedBy e q counted duration torques size .fate ≡ Going → Held p (Plans.seedOf q duration torques) (Plans.servedBy e q counted duration torques size)
+      go : (e : Fate) → served (q .map) ≡ e → Plans.servedBy e q counted duration torques size .fate ≡ Going → Held p (Plans.seedOf q duration torques) (Plans.seedHeldOf q duration torques) (Plans.servedBy e q counted duration torques size)
       go Going h g = seeds p F passed h duration torques (G h) counted size g
       go (Refused n k) h g = absurd (refused-going g)
 
 -- ---- DEMAND 3 of the entry with a caller's seed: f64 holds the problem's numbers and those of the seed's decision
 module _ (p : Problem) (F : FitsP p) where
-  pub plan-from-promised : (duration : Float) (rates torques : List Float) (size : ℕ) → Fit (Plans.seedOf (check p .problem) duration torques) → Plans.planFrom p duration rates torques size .fate ≡ Going
-      → Held p (Plans.seedOf (check p .problem) duration torques) (Plans.planFrom p duration rates torques size)
+  from-whole : (duration : Float) (rates torques : List Float) (size : ℕ) → Fit (Plans.seedOf (check p .problem) duration torques) → Plans.planFrom p duration rates torques size .fate ≡ Going
+      → Held p (Plans.seedOf (check p .problem) duration torques) (Plans.seedHeldOf (check p .problem) duration torques) (Plans.planFrom p duration rates torques size)
   unfolding Plans.planFrom
-  plan-from-promised duration rates torques size G g = go (check p .fate) refl g
+  from-whole duration rates torques size G g = go (check p .fate) refl g
     where
       go : (e : Fate) → check p .fate ≡ e → Plans.planFromBy e (check p .problem) duration rates torques size .fate ≡ Going
-          → Held p (Plans.seedOf (check p .problem) duration torques) (Plans.planFromBy e (check p .problem) duration rates torques size)
+          → Held p (Plans.seedOf (check p .problem) duration torques) (Plans.seedHeldOf (check p .problem) duration torques) (Plans.planFromBy e (check p .problem) duration rates torques size)
       go Going h g = with-seed p F h duration torques (Plans.counted rates torques) size (λ s. G) g
       go (Refused n k) h g = absurd (refused-going g)
+
+  pub plan-from-promised : (duration : Float) (rates torques : List Float) (size : ℕ) → Fit (Plans.seedOf (check p .problem) duration torques) → Plans.planFrom p duration rates torques size .fate ≡ Going
+      → Promised p (Plans.seedOf (check p .problem) duration torques) (Plans.planFrom p duration rates torques size .path) (Plans.planFrom p duration rates torques size .runs)
+  plan-from-promised duration rates torques size G g = from-whole duration rates torques size G g .0
+
+  -- a path whose search stays at the caller's seed has the counts of the seed's allocated rows
+  pub plan-from-held : (duration : Float) (rates torques : List Float) (size : ℕ) → Fit (Plans.seedOf (check p .problem) duration torques) → Plans.planFrom p duration rates torques size .fate ≡ Going
+      → search (check p .problem) (Plans.seedOf (check p .problem) duration torques) .tried ≡ false → Plans.planFrom p duration rates torques size .path .held ≡ Plans.seedHeldOf (check p .problem) duration torques
+  plan-from-held duration rates torques size G g = from-whole duration rates torques size G g .1
 
   -- where f64 holds the caller's numbers, it holds those of the decision
   pub caller-fits : (duration : Float) (torques : List Float) → check p .fate ≡ Going → served (check p .problem .map) ≡ Going → T (fits binary64 duration) → Fit torques → Fit (Plans.seedOf (check p .problem) duration torques)
   caller-fits duration torques h s = fitted p F h s duration torques
 
   -- ---- DEMAND 3 of our own entry: f64 holds the problem's numbers
-  pub plan-promised : (size : ℕ) → Plans.plan p size .fate ≡ Going → Held p (ownSeed (check p .problem)) (Plans.plan p size)
+  own-whole : (size : ℕ) → Plans.plan p size .fate ≡ Going → Held p (ownSeed (check p .problem)) (ownHeld (check p .problem)) (Plans.plan p size)
   unfolding Plans.plan Plans.withProfile
-  plan-promised size g = go (check p .fate) refl g
+  own-whole size g = go (check p .fate) refl g
     where
       c : CheckedProblem
       c = check p .problem
@@ -242,13 +258,20 @@ module _ (p : Problem) (F : FitsP p) where
       own : check p .fate ≡ Going → served (c .map) ≡ Going → Fit (ownSeed c)
       own h k = caller-fits (s .duration) (s .torques) h k (unfold Plans.profiled in duration-fits (c .q0) (tensor (c .inertia)) (c .«torque_limit») (c .slew) (c .qf) (c .«tie_tolerance»)) (torques-fit (Plans.profiled c .profile) 17)
 
-      profile : (e : Fate) → check p .fate ≡ Going → Plans.profiledBy e c (Plans.profiled c .profile) size .fate ≡ Going → Held p (ownSeed c) (Plans.profiledBy e c (Plans.profiled c .profile) size)
+      profile : (e : Fate) → check p .fate ≡ Going → Plans.profiledBy e c (Plans.profiled c .profile) size .fate ≡ Going → Held p (ownSeed c) (ownHeld c) (Plans.profiledBy e c (Plans.profiled c .profile) size)
       profile Going h g = with-seed p F h (s .duration) (s .torques) true size (own h) g
       profile (Refused n k) h g = absurd (refused-going g)
 
-      go : (e : Fate) → check p .fate ≡ e → Plans.planBy e c size .fate ≡ Going → Held p (ownSeed c) (Plans.planBy e c size)
+      go : (e : Fate) → check p .fate ≡ e → Plans.planBy e c size .fate ≡ Going → Held p (ownSeed c) (ownHeld c) (Plans.planBy e c size)
       go Going h g = profile (Plans.profiled c .fate) h g
       go (Refused n k) h g = absurd (refused-going g)
+
+  pub plan-promised : (size : ℕ) → Plans.plan p size .fate ≡ Going → Promised p (ownSeed (check p .problem)) (Plans.plan p size .path) (Plans.plan p size .runs)
+  plan-promised size g = own-whole size g .0
+
+  -- a path whose search stays at our own seed has the counts of the seed's allocated rows
+  pub plan-held : (size : ℕ) → Plans.plan p size .fate ≡ Going → search (check p .problem) (ownSeed (check p .problem)) .tried ≡ false → Plans.plan p size .path .held ≡ ownHeld (check p .problem)
+  plan-held size g = own-whole size g .1
 
 -- ---- what the entries answer, in document 01's numbers
 module _ (r : Planned) where
@@ -259,7 +282,7 @@ module _ (r : Planned) where
       go Going e = let g : Given (r .path) ≡ Given path = rw e at h in (e, cc)
       go (Refused n k) e = let g : Answers.Refused n k (r .runs) ≡ Given path = rw e at h in let z : _≡_ {A = ℕ} 0 1 = cc in absurd (omega arith)
 
-  answers : (p : Problem) (seed : List Float) → (r .fate ≡ Going → Held p seed r) → Blank r → Answers p seed r
+  answers : (p : Problem) (seed : List Float) → (r .fate ≡ Going → Promised p seed (r .path) (r .runs)) → Blank r → Answers p seed r
   answers p seed h b = record {
     given = λ path e. let g = given-path path e in subst (λ (x : Path). Promised p seed x (r .runs)) (g .1) (h (g .0));
     refused = b;

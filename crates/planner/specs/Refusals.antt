@@ -24,14 +24,14 @@ use Rattle.planner.specs.declared.Path.{Path}
 use Rattle.planner.specs.declared.Planned.{Planned}
 
 -- ---- what holds of every refusal and of every path holds of every answer
-module _ (Q : Planned → Type 0) (no : (number place runs : ℕ) → Q (Plans.refused number place runs)) (yes : (c : CheckedProblem) (f : Found) → Q (record { fate = Going; runs = f .runs; path = Plans.pathOf c f })) where
-  ended : (e : Fate) (c : CheckedProblem) (f : Found) → Q (Plans.endedBy e c f)
-  ended Going c f = yes c f
-  ended (Refused n k) c f = no n k (f .runs)
+module _ (Q : Planned → Type 0) (no : (number place runs : ℕ) → Q (Plans.refused number place runs)) (yes : (c : CheckedProblem) (f : Found) (held : List ℕ) → Q (record { fate = Going; runs = f .runs; path = Plans.pathOf c f held })) where
+  ended : (e : Fate) (c : CheckedProblem) (f : Found) (held : List ℕ) → Q (Plans.endedBy e c f held)
+  ended Going c f held = yes c f held
+  ended (Refused n k) c f held = no n k (f .runs)
 
-  found : (e : Fate) (c : CheckedProblem) (f : Found) → Q (Plans.foundBy e c f)
-  found Going c f = ended (endFate c (f .run)) c f
-  found (Refused n k) c f = no n k (f .runs)
+  found : (e : Fate) (c : CheckedProblem) (f : Found) (held : List ℕ) → Q (Plans.foundBy e c f held)
+  found Going c f held = ended (endFate c (f .run)) c f held
+  found (Refused n k) c f held = no n k (f .runs)
 
   seeded : (c : CheckedProblem) (counted : Bool) (duration : Float) (torques : List Float) (size : ℕ) → Q (Plans.seeded c counted duration torques size)
   unfolding Plans.seeded Plans.answered
@@ -40,9 +40,12 @@ module _ (Q : Planned → Type 0) (no : (number place runs : ℕ) → Q (Plans.r
       f : Found
       f = search c (Plans.seedOf c duration torques)
 
-      go : (a b : Bool) → Q (cond a (cond b (Plans.refused 9 0 0) (Plans.answered c f)) (Plans.refused 10 0 0))
+      held : List ℕ
+      held = Plans.seedHeldOf c duration torques
+
+      go : (a b : Bool) → Q (cond a (cond b (Plans.refused 9 0 0) (Plans.answered c f held)) (Plans.refused 10 0 0))
       go true true = no 9 0 0
-      go true false = found (f .fate) c f
+      go true false = found (f .fate) c f held
       go false b = no 10 0 0
 
   with-seed : (c : CheckedProblem) (counted : Bool) (duration : Float) (torques : List Float) (size : ℕ) → Q (Plans.withSeed c counted duration torques size)
@@ -88,7 +91,7 @@ given-refused : {A : Type 0} {x : Path} {n k j : ℕ} → Given x ≡ Answers.Re
 given-refused h = let z : _≡_ {A = ℕ} 0 1 = cc in absurd (omega arith)
 
 pub plan-blank : (p : Problem) (size : ℕ) → Blank (Plans.plan p size)
-plan-blank = plan-is Blank refused-blank (λ c f n k j e. given-refused e)
+plan-blank = plan-is Blank refused-blank (λ c f held n k j e. given-refused e)
 
 pub plan-from-blank : (p : Problem) (duration : Float) (rates torques : List Float) (size : ℕ) → Blank (Plans.planFrom p duration rates torques size)
-plan-from-blank = plan-from-is Blank refused-blank (λ c f n k j e. given-refused e)
+plan-from-blank = plan-from-is Blank refused-blank (λ c f held n k j e. given-refused e)

@@ -33,8 +33,9 @@ use scvx::search;
 use seeds::seed_decision;
 use seeds::served;
 
-// An answered path: its duration, controls of a row, wheels, iterations, the largest defect of its run, the decision (past its numbers stands +0) and the 17
-// nodes. All zeros beside a refusal.
+// An answered path: its duration, controls of a row, wheels, iterations, the largest defect of its run, the decision (past its numbers stands +0), the 17
+// nodes, and for each place of a row how many of its 16 controls were held to their limit in the projection that made the decision (0 past the controls). All
+// zeros beside a refusal.
 pub struct Path {
     pub duration: f64,
     pub controls: usize,
@@ -43,6 +44,7 @@ pub struct Path {
     pub max_defect: f64,
     pub z: [f64; 193],
     pub nodes: [Node; 17],
+    pub held: [usize; 12],
 }
 
 // What an entry answers: how it ended, the forward runs begun, the path.
@@ -59,6 +61,7 @@ fn refused(number: usize, place: usize, runs: usize) -> Planned
     let z = [0.0; 193];
     let blank = blank_node();
     let nodes = [blank; 17];
+    let held: [usize; 12] = [0; 12];
     let path = Path {
         duration: 0.0,
         controls: 0,
@@ -67,6 +70,7 @@ fn refused(number: usize, place: usize, runs: usize) -> Planned
         max_defect: 0.0,
         z: z,
         nodes: nodes,
+        held: held,
     };
     Planned {
         fate: Fate::Refused(number, place),
@@ -75,10 +79,22 @@ fn refused(number: usize, place: usize, runs: usize) -> Planned
     }
 }
 
-// The path of what was found.
-fn path_of(p: CheckedProblem, found: Found) -> Path
-    ensures { λ r. ⌜ r ≡ Plans.pathOf p found ⌝ }
+// The counts of held controls: those of the trial that made the decision, or the seed's.
+fn held_of(found: Found, held: [usize; 12]) -> [usize; 12]
+    ensures { λ r. ⌜ r ≡ Plans.heldOf found held ⌝ }
 {
+    if found.tried {
+        let counts = found.held;
+        return counts;
+    }
+    held
+}
+
+// The path of what was found from a seed with these counts of held controls.
+fn path_of(p: CheckedProblem, found: Found, held: [usize; 12]) -> Path
+    ensures { λ r. ⌜ r ≡ Plans.pathOf p found held ⌝ }
+{
+    let counts = held_of(found, held);
     let map = p.map;
     let z = found.z;
     let run = found.run;
@@ -91,13 +107,14 @@ fn path_of(p: CheckedProblem, found: Found) -> Path
         max_defect: run.defect,
         z: z,
         nodes: nodes,
+        held: counts,
     }
 }
 
 // The end checks of a decision that was found.
-fn ended(p: CheckedProblem, found: Found) -> Planned
+fn ended(p: CheckedProblem, found: Found, held: [usize; 12]) -> Planned
     requires { ⌜ isSized (p .map) ≡ true ⌝ }
-    ensures { λ r. ⌜ r ≡ Plans.foundBy Going p found ⌝ }
+    ensures { λ r. ⌜ r ≡ Plans.foundBy Going p found held ⌝ }
 {
     let run = found.run;
     let fate = end_checks(p, run);
@@ -106,31 +123,31 @@ fn ended(p: CheckedProblem, found: Found) -> Planned
         Fate::Going => Planned {
             fate: Fate::Going,
             runs: found.runs,
-            path: path_of(p, found),
+            path: path_of(p, found, held),
         },
     }
 }
 
 // The answer to what the search found.
-fn answered(p: CheckedProblem, found: Found) -> Planned
+fn answered(p: CheckedProblem, found: Found, held: [usize; 12]) -> Planned
     requires { ⌜ isSized (p .map) ≡ true ⌝ }
-    ensures { λ r. ⌜ r ≡ Plans.answered p found ⌝ }
+    ensures { λ r. ⌜ r ≡ Plans.answered p found held ⌝ }
 {
     let fate = found.fate;
     match fate {
         Fate::Refused(number, place) => refused(number, place, found.runs),
-        Fate::Going => ended(p, found),
+        Fate::Going => ended(p, found, held),
     }
 }
 
 // The search from a seed's decision, the workspace cleared after it, and the answer.
-fn solve(p: CheckedProblem, seed: [f64; 193], ws: &mut [f64]) -> Planned
+fn solve(p: CheckedProblem, seed: [f64; 193], held: [usize; 12], ws: &mut [f64]) -> Planned
     requires { ⌜ (isSized (p .map) ≡ true) × ((controlDim (p .map) ≤ 12) × (Search.room p ≤ length (now ws))) ⌝ }
-    ensures { λ r. ⌜ (r ≡ Plans.answered p (Search.search p seed)) × ((now (ws .exit) ≡ replicate (length (now (ws .entry))) plusZero) × Fit seed) ⌝ }
+    ensures { λ r. ⌜ (r ≡ Plans.answered p (Search.search p seed) held) × ((now (ws .exit) ≡ replicate (length (now (ws .entry))) plusZero) × Fit seed) ⌝ }
 {
     let found = search(p, seed, ws);
     clear(ws);
-    answered(p, found)
+    answered(p, found, held)
 }
 
 // The seed's count and duration and the workspace's size, then the seed's decision.
@@ -156,7 +173,9 @@ fn seeded(
     let map = p.map;
     let limit = p.torque_limit;
     let seed = seed_decision(map, limit, duration, torques);
-    solve(p, seed, ws)
+    let z = seed.z;
+    let held = seed.held;
+    solve(p, z, held, ws)
 }
 
 // Whether the actuators are served, then the seed.

@@ -17,7 +17,7 @@ use Rattle.scvx.specs.declared.Status.{Status}
 use Rattle.scvx.specs.declared.Status.the-variants.{Going, Ended, Refused}
 use Rattle.scvx.specs.declared.Candidate.{Candidate}
 use Rattle.scvx.specs.declared.State.{State}
-use Rattle.scvx.specs.Search.{numbers, width, lengthOf, measured, Columns, Formed, Broken, columnBy, columnTurn, nudged, jacobian, ran, ended, moved, damped, judged, weaker, stronger, triedBy, trialOf, tried, stepOf, steppedBy, stepped, linearBy, linear, goal, improved, goingBy, begun, going, turnBy, turn}
+use Rattle.scvx.specs.Search.{numbers, width, lengthOf, weighed, Columns, Formed, Broken, columnBy, columnTurn, nudged, jacobian, ran, ended, moved, damped, judged, weaker, stronger, triedBy, trialOf, trialHeld, tried, stepOf, steppedBy, stepped, linearBy, linear, goal, improved, goingBy, begun, going, turnBy, turn}
 
 either : (b : Bool) (x y : State) {n : ℕ} → x .runs ≤ n → y .runs ≤ n → cond b x y .runs ≤ n
 either true x y h k = h
@@ -27,13 +27,13 @@ judged-le : (s : State) (t : Candidate) → judged s t .runs ≤ s .runs
 unfolding judged
 judged-le s t = either (lt (t .residual) (s .candidate .residual)) (moved s t (weaker (s .lambda))) (damped s (stronger (s .lambda))) (le-refl (s .runs)) (le-refl (s .runs))
 
-tried-by : (p : CheckedProblem) (s : State) (t : List Float) (e : ResidualVector) (f : Fate) → triedBy p s t e f .runs ≤ s .runs
-tried-by p s t e Fate.Going = judged-le s (measured t (e .r) (width p))
-tried-by p s t e (Fate.Refused number place) = le-refl (s .runs)
+tried-by : (p : CheckedProblem) (s : State) (t : List Float) (held : List ℕ) (e : ResidualVector) (f : Fate) → triedBy p s t held e f .runs ≤ s .runs
+tried-by p s t held e Fate.Going = judged-le s (weighed t (e .r) (width p) held)
+tried-by p s t held e (Fate.Refused number place) = le-refl (s .runs)
 
 stepped-by : (p : CheckedProblem) (s : State) (x : Solution) → steppedBy p s x .runs ≤ s .runs + 1
 unfolding tried
-stepped-by p s (Solved d) = tried-by p (ran s 1) (trialOf p (s .candidate .z) d) (residualsOf p (trialOf p (s .candidate .z) d)) (residualsOf p (trialOf p (s .candidate .z) d) .fate)
+stepped-by p s (Solved d) = tried-by p (ran s 1) (trialOf p (s .candidate .z) d) (trialHeld p (s .candidate .z) d) (residualsOf p (trialOf p (s .candidate .z) d)) (residualsOf p (trialOf p (s .candidate .z) d) .fate)
 stepped-by p s Singular = omega arith
 
 -- the runs that a refusal in the Jacobian names

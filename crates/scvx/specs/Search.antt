@@ -1,6 +1,6 @@
 -- The search, as `solve` and `jacobian` of scvx.rs have it: a decision, a damping factor and the counts, from iteration to iteration. Definitions only.
 use Prim.Native.Nat.{ℕ, _+_, _*_}
-use mathlib.Core.Bool.{Bool, cond}
+use mathlib.Core.Bool.{Bool, true, false, cond}
 use mathlib.Core.List.{List, [], _∷_, _++_}
 use lib.ListN.{set, replicate}
 use lib.Ieee.{Float, binary64, add, mul, lt, le, ofBits}
@@ -12,6 +12,7 @@ use Rattle.float.specs.Ops.{min, max}
 use Rattle.actuators.specs.Maps.{controlDim}
 use Rattle.problem.specs.Problems.{plusZero}
 use Rattle.problem.specs.declared.CheckedProblem.{CheckedProblem}
+use Rattle.held_counts.specs.Counts.{heldCounts, noneHeld}
 use Rattle.forward.specs.Decisions.{packedLen, unpack, projectDecision}
 use Rattle.forward.specs.Runs.{runOf, refusedRun}
 use Rattle.forward.specs.declared.Run.{Run}
@@ -42,13 +43,13 @@ lengthOf p e = normSlice (e .r) (width p)
 abbrev pub residualLength : CheckedProblem → List Float → Float
 residualLength p z = lengthOf p (residualsOf p z)
 
--- the decision z with its residual length, r being its residuals, of which m count
+-- the seed's decision z with its residual length, r being its residuals, of which m count
 abbrev pub measured : List Float → List Float → ℕ → Candidate
-measured z r m = record { z = z; residual = normSlice r m }
+measured z r m = record { z = z; residual = normSlice r m; tried = false; held = noneHeld }
 
--- a decision as a candidate: one run
-abbrev pub candidateOf : CheckedProblem → List Float → Candidate
-candidateOf p z = measured z (residualsOf p z .r) (width p)
+-- a trial's decision with its residual length and with how many controls its projection held, place by place in a row
+abbrev pub weighed : List Float → List Float → ℕ → List ℕ → Candidate
+weighed z r m held = record { z = z; residual = normSlice r m; tried = true; held = held }
 
 -- every decision but the seed's: the duration at least 1e-6, then within 0.001..10,000, each control held to its limit
 abbrev pub held : CheckedProblem → List Float → List Float
@@ -128,24 +129,36 @@ stronger x = min (mul binary64 x (ofBits binary64 0x4010_0000_0000_0000)) strong
 unfoldable pub judged : State → Candidate → State
 judged s t = cond (lt (t .residual) (s .candidate .residual)) (moved s t (weaker (s .lambda))) (damped s (stronger (s .lambda)))
 
-abbrev pub triedBy : CheckedProblem → State → List Float → ResidualVector → Fate → State
-triedBy p s t e Fate.Going = judged s (measured t (e .r) (width p))
-triedBy p s t e (Fate.Refused number place) = ended s (Refused number place)
+abbrev pub triedBy : CheckedProblem → State → List Float → List ℕ → ResidualVector → Fate → State
+triedBy p s t held e Fate.Going = judged s (weighed t (e .r) (width p) held)
+triedBy p s t held e (Fate.Refused number place) = ended s (Refused number place)
 
-abbrev pub triedOf : CheckedProblem → State → List Float → ResidualVector → State
-triedOf p s t e = triedBy p s t e (e .fate)
+abbrev pub triedOf : CheckedProblem → State → List Float → List ℕ → ResidualVector → State
+triedOf p s t held e = triedBy p s t held e (e .fate)
 
 -- number i of the decision, moved by the step d
 abbrev pub addTurn : List Float → ℕ → List Float → List Float
 addTurn d i z = set z i (add binary64 (at z i) (at d i))
 
+-- the decision z moved by the step d
+abbrev pub applied : CheckedProblem → List Float → List Float → List Float
+applied p z d = iter (addTurn d) z (numbers p)
+
 -- the decision of a trial
 unfoldable pub trialOf : CheckedProblem → List Float → List Float → List Float
-trialOf p z d = held p (iter (addTurn d) z (numbers p))
+trialOf p z d = held p (applied p z d)
+
+-- how many controls its projection holds, place by place in a row
+unfoldable pub trialHeld : CheckedProblem → List Float → List Float → List ℕ
+trialHeld p z d = heldCounts (p .map) (p .«torque_limit») (applied p z d)
+
+-- a trial as a candidate: one run
+abbrev pub candidateOf : CheckedProblem → List Float → List Float → Candidate
+candidateOf p z d = weighed (trialOf p z d) (residualsOf p (trialOf p z d) .r) (width p) (trialHeld p z d)
 
 -- the trial of a step d: one run
 unfoldable pub tried : CheckedProblem → State → List Float → State
-tried p s d = triedOf p (ran s 1) (trialOf p (s .candidate .z) d) (residualsOf p (trialOf p (s .candidate .z) d))
+tried p s d = triedOf p (ran s 1) (trialOf p (s .candidate .z) d) (trialHeld p (s .candidate .z) d) (residualsOf p (trialOf p (s .candidate .z) d))
 
 abbrev pub steppedBy : CheckedProblem → State → Solution → State
 steppedBy p s (Solved d) = tried p s d
@@ -216,10 +229,10 @@ searched p seed = iter (turn p) (start p seed) 40
 
 -- a refusal: no decision
 abbrev pub none : ℕ → ℕ → ℕ → Found
-none number place runs = record { fate = Fate.Refused number place; runs = runs; iterations = 0; z = replicate 193 plusZero; run = refusedRun number place }
+none number place runs = record { fate = Fate.Refused number place; runs = runs; iterations = 0; z = replicate 193 plusZero; run = refusedRun number place; tried = false; held = noneHeld }
 
 abbrev pub lastBy : State → Run → Fate → Found
-lastBy s run Fate.Going = record { fate = Fate.Going; runs = s .runs + 1; iterations = s .iterations; z = s .candidate .z; run = run }
+lastBy s run Fate.Going = record { fate = Fate.Going; runs = s .runs + 1; iterations = s .iterations; z = s .candidate .z; run = run; tried = s .candidate .tried; held = s .candidate .held }
 lastBy s run (Fate.Refused number place) = none number place (s .runs + 1)
 
 -- the run of the decision that is handed out, the last that is counted

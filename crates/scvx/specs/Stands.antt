@@ -119,8 +119,8 @@ start m seed r = record { state = record { candidate = measured seed r m; lambda
 
 -- ---- how it comes about and stays
 
-pub known-of : {p : CheckedProblem} {z : List Float} {e : ResidualVector} {m : ℕ} → e ≡ residualsOf p z → e .fate ≡ Fate.Going → m ≡ width p → Known p (measured z (e .r) m) (e .r)
-known-of {p} {z} {e} q g em = record { goes = rw (← q) g; are = rw (← q) refl; long = ap (λ x. normSlice (e .r) x) em }
+pub known-of : {p : CheckedProblem} (c : Candidate) {e : ResidualVector} {m : ℕ} → e ≡ residualsOf p (c .z) → e .fate ≡ Fate.Going → m ≡ width p → c .residual ≡ normSlice (e .r) m → Known p c (e .r)
+known-of {p} c {e} q g em l = record { goes = rw (← q) g; are = rw (← q) refl; long = l ∙ ap (λ x. normSlice (e .r) x) em }
 
 -- a decision that was let in: its columns are not there
 pub stands-new : {p : CheckedProblem} {c : Candidate} {r : List Float} {j : List (List Float)} → Known p c r → Standing p c r false j

@@ -31,10 +31,13 @@ pub enum Status {
     Refused(usize, usize),
 }
 
-// A decision with its residual length.
+// A decision with its residual length, and the projection that made it: the seed's, or a trial's with how many of its 16 controls it held at each place of a row
+// (zeros for the seed's, whose counts stand beside it).
 pub struct Candidate {
     pub z: [f64; 193],
     pub residual: f64,
+    pub tried: bool,
+    pub held: [usize; 12],
 }
 
 // The search after some iterations: the decision that it stands at, the damping factor, the iterations and the forward runs begun.
@@ -59,19 +62,28 @@ pub enum Slopes {
     Broken(usize, usize, usize),
 }
 
+// A trial's decision, and how many of its 16 controls at each place of a row were held to their limits.
+pub struct Trial {
+    pub z: [f64; 193],
+    pub held: [usize; 12],
+}
+
 // A step of the normal equations: the first numbers of d, where they could be solved.
 pub struct Step {
     pub solved: bool,
     pub d: [f64; 193],
 }
 
-// What the search answers: how it ended, the forward runs begun, and of a decision that was found its iterations, the decision and its run (blank where refused).
+// What the search answers: how it ended, the forward runs begun, and of a decision that was found its iterations, the decision and its run (blank where refused),
+// whether a trial made it, and then that trial's counts of held controls.
 pub struct Found {
     pub fate: Fate,
     pub runs: usize,
     pub iterations: usize,
     pub z: [f64; 193],
     pub run: Run,
+    pub tried: bool,
+    pub held: [usize; 12],
 }
 
 // The numbers that the lent workspace needs.

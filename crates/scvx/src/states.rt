@@ -7,16 +7,35 @@ use super::Candidate;
 use super::Progress;
 use super::State;
 use super::Status;
+use super::Trial;
 use residuals::sums::norm_slice;
 
-// The decision z, whose residuals are r, of which m count.
+// The seed's decision z, whose residuals are r, of which m count.
 pub fn measured(z: [f64; 193], r: [f64; 79], m: usize) -> Candidate
     requires { ⌜ m ≤ 79 ⌝ }
     ensures { λ x. ⌜ x ≡ Search.measured z r m ⌝ }
 {
+    let held: [usize; 12] = [0; 12];
     Candidate {
         z: z,
         residual: norm_slice(&r, m),
+        tried: false,
+        held: held,
+    }
+}
+
+// A trial's decision as a candidate.
+pub fn weighed(t: Trial, r: [f64; 79], m: usize) -> Candidate
+    requires { ⌜ m ≤ 79 ⌝ }
+    ensures { λ x. ⌜ x ≡ Search.weighed (t .z) r m (t .held) ⌝ }
+{
+    let z = t.z;
+    let held = t.held;
+    Candidate {
+        z: z,
+        residual: norm_slice(&r, m),
+        tried: true,
+        held: held,
     }
 }
 

@@ -15,19 +15,21 @@ use super::Progress;
 use super::Slopes;
 use super::Status;
 use super::Step;
+use super::Trial;
 use super::columns::held;
 use super::columns::jacobian;
 use super::states::begun;
 use super::states::damped;
 use super::states::ended;
-use super::states::measured;
 use super::states::moved;
 use super::states::over;
 use super::states::ran;
+use super::states::weighed;
 use common::Fate;
 use elimination::damped_step;
 use float::max;
 use float::min;
+use held_counts::held_counts;
 use problem::CheckedProblem;
 use residuals::terms::residuals_of;
 
@@ -45,12 +47,20 @@ fn apply_step(z: [f64; 193], d: &[f64]) -> [f64; 193]
     out
 }
 
-// The decision of a trial.
-fn trial_of(p: CheckedProblem, z: [f64; 193], d: &[f64]) -> [f64; 193]
+// The decision of a trial, and how many of its controls were held.
+fn trial_of(p: CheckedProblem, z: [f64; 193], d: &[f64]) -> Trial
     requires { ⌜ (controlDim (p .map) ≤ 12) × ((length (now d) ≤ 193) × (length (now d) ≡ Search.numbers p)) ⌝ }
-    ensures { λ r. ⌜ r ≡ Search.trialOf p z (now (d .entry)) ⌝ }
+    ensures { λ r. ⌜ (r .z ≡ Search.trialOf p z (now (d .entry))) × (r .held ≡ Search.trialHeld p z (now (d .entry))) ⌝ }
 {
-    held(p, apply_step(z, d))
+    let moved = apply_step(z, d);
+    let map = p.map;
+    let limit = p.torque_limit;
+    let counts = held_counts(map, limit, &moved);
+    let projected = held(p, moved);
+    Trial {
+        z: projected,
+        held: counts,
+    }
 }
 
 // A trial t with the residuals r: it is taken where it is strictly shorter.
@@ -79,14 +89,15 @@ fn tried(p: CheckedProblem, g: Progress, d: &[f64], m: usize) -> Progress
     let c = s.candidate;
     let z = c.z;
     let t = trial_of(p, z, d);
-    let e = residuals_of(p, t);
+    let moved = t.z;
+    let e = residuals_of(p, moved);
     let s1 = ran(s, 1);
     let fate = e.fate;
     match fate {
         Fate::Refused(number, place) => over(g, ended(s1, Status::Refused(number, place))),
         Fate::Going => {
             let r = e.r;
-            judged(over(g, s1), measured(t, r, m), r)
+            judged(over(g, s1), weighed(t, r, m), r)
         }
     }
 }

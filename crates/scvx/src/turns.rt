@@ -68,12 +68,15 @@ pub fn none(number: usize, place: usize, runs: usize) -> Found
     ensures { λ r. ⌜ r ≡ Search.none number place runs ⌝ }
 {
     let z = [0.0; 193];
+    let held: [usize; 12] = [0; 12];
     Found {
         fate: Fate::Refused(number, place),
         runs: runs,
         iterations: 0,
         z: z,
         run: refused_run(number, place),
+        tried: false,
+        held: held,
     }
 }
 
@@ -84,6 +87,7 @@ fn last(p: CheckedProblem, s: State) -> Found
 {
     let c = s.candidate;
     let z = c.z;
+    let held = c.held;
     let run = run_of(p, z);
     let fate = run.fate;
     match fate {
@@ -94,6 +98,8 @@ fn last(p: CheckedProblem, s: State) -> Found
             iterations: s.iterations,
             z: z,
             run: run,
+            tried: c.tried,
+            held: held,
         },
     }
 }

@@ -28,19 +28,19 @@ pub record Kept (p : CheckedProblem) (Q : State → Type 0) : Type 0 where
   pub damped : (s : State) (x : Float) → Q s → Q (Search.damped s x)
   pub begun : (k : ℕ) (s : State) → Q s → Q (Search.begun k s)
   pub moved : (s : State) (d : List Float) (y : Float) → Q s → T (lt (Search.residualLength p (Search.trialOf p (s .candidate .z) d)) (s .candidate .residual))
-      → Q (Search.moved s (Search.candidateOf p (Search.trialOf p (s .candidate .z) d)) y)
+      → Q (Search.moved s (Search.candidateOf p (s .candidate .z) d) y)
 
 module _ (p : CheckedProblem) (Q : State → Type 0) (K : Kept p Q) where
   judge : (s : State) (d : List Float) (y u : Float) (b : Bool) → (T b → T (lt (Search.residualLength p (Search.trialOf p (s .candidate .z) d)) (s .candidate .residual))) → Q s
-      → Q (cond b (Search.moved s (Search.candidateOf p (Search.trialOf p (s .candidate .z) d)) y) (Search.damped s u))
+      → Q (cond b (Search.moved s (Search.candidateOf p (s .candidate .z) d) y) (Search.damped s u))
   judge s d y u true h q = K .moved s d y q (h tt)
   judge s d y u false h q = K .damped s u q
 
-  judged-keeps : (s : State) (d : List Float) → Q s → Q (Search.judged s (Search.candidateOf p (Search.trialOf p (s .candidate .z) d)))
+  judged-keeps : (s : State) (d : List Float) → Q s → Q (Search.judged s (Search.candidateOf p (s .candidate .z) d))
   unfolding Search.judged
   judged-keeps s d q = judge s d _ _ (lt (Search.residualLength p (Search.trialOf p (s .candidate .z) d)) (s .candidate .residual)) (λ h. h) q
 
-  triedBy-keeps : (s : State) (d : List Float) (f : Fate) → Q s → Q (Search.triedBy p s (Search.trialOf p (s .candidate .z) d) (residualsOf p (Search.trialOf p (s .candidate .z) d)) f)
+  triedBy-keeps : (s : State) (d : List Float) (f : Fate) → Q s → Q (Search.triedBy p s (Search.trialOf p (s .candidate .z) d) (Search.trialHeld p (s .candidate .z) d) (residualsOf p (Search.trialOf p (s .candidate .z) d)) f)
   triedBy-keeps s d Fate.Going q = judged-keeps s d q
   triedBy-keeps s d (Fate.Refused number place) q = K .ended s (Refused number place) q
 
@@ -97,11 +97,13 @@ pub record Gone (p : CheckedProblem) (s : State) (f : Found) : Type 0 where
   pub z : f .z ≡ s .candidate .z
   pub runs : f .runs ≡ s .runs + 1
   pub run : f .run ≡ runOf p (s .candidate .z)
+  pub tried : f .tried ≡ s .candidate .tried
+  pub held : f .held ≡ s .candidate .held
   pub went : T (goes (runOf p (s .candidate .z) .fate))
 
 module _ (p : CheckedProblem) (s : State) where
   last-gone : (e : Fate) → runOf p (s .candidate .z) .fate ≡ e → T (goes (Search.lastBy s (runOf p (s .candidate .z)) e .fate)) → Gone p s (Search.lastBy s (runOf p (s .candidate .z)) e)
-  last-gone Fate.Going h t = record { z = refl; runs = refl; run = refl; went = rw h tt }
+  last-gone Fate.Going h t = record { z = refl; runs = refl; run = refl; tried = refl; held = refl; went = rw h tt }
   last-gone (Fate.Refused number place) h t = absurd t
 
   closed-gone : (f : Status) → T (goes (Search.closedBy p s f .fate)) → Gone p s (Search.closedBy p s f)

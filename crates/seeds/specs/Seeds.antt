@@ -10,6 +10,7 @@ use Rattle.geom.specs.Vec as Vec
 use Rattle.actuators.specs.Maps.{controlDim}
 use Rattle.actuators.specs.Allocate.{allocate}
 use Rattle.actuators.specs.declared.ActuatorMap.{ActuatorMap}
+use Rattle.held_counts.specs.Counts.{heldCounts}
 use Rattle.forward.specs.Decisions.{projectTurn}
 
 -- 8, and 6 at place 1: `allocate_body_torque` refuses the actuators. It does so whatever the torque is (SeedLaws), so that this is asked once, of no torque.
@@ -35,3 +36,7 @@ allocated m duration torques = iter (allocateTurn m torques) (set (replicate 193
 -- each control of the rows held to its limit
 unfoldable pub seedDecision : ActuatorMap → List Float → Float → List Float → List Float
 seedDecision m limit duration torques = iter (projectTurn m limit) (allocated m duration torques) 16
+
+-- how many of the allocated controls were held, place by place in a row
+unfoldable pub seedHeld : ActuatorMap → List Float → Float → List Float → List ℕ
+seedHeld m limit duration torques = heldCounts m limit (allocated m duration torques)

@@ -11,6 +11,13 @@ use actuators::allocate_body_torque;
 use actuators::control_dim;
 use common::Fate;
 use forward::decisions::project_rows;
+use held_counts::held_counts;
+
+// The seed's decision, and how many of its 16 controls at each place of a row were held to their limits.
+pub struct SeedDecision {
+    pub z: [f64; 193],
+    pub held: [usize; 12],
+}
 
 // Whether the actuators are served: 8, or 6 at place 1, where they are not.
 pub fn served(map: ActuatorMap) -> Fate
@@ -61,19 +68,24 @@ fn allocate_rows(map: ActuatorMap, n: usize, torques: &[f64], z: [f64; 193]) -> 
     out
 }
 
-// The seed's duration as it stands, with its 16 rows allocated and held to their limits.
+// The seed's duration as it stands, with its 16 rows allocated and held to their limits; and how many were held.
 pub fn seed_decision(
     map: ActuatorMap,
     torque_limit: [f64; 3],
     duration: f64,
     torques: &[f64],
-) -> [f64; 193]
+) -> SeedDecision
     requires { ⌜ (controlDim map ≤ 12) × (48 ≤ length (now torques)) ⌝ }
-    ensures { λ r. ⌜ r ≡ Seeds.seedDecision map «torque_limit» duration (now (torques .entry)) ⌝ }
+    ensures { λ r. ⌜ (r .z ≡ Seeds.seedDecision map «torque_limit» duration (now (torques .entry))) × (r .held ≡ Seeds.seedHeld map «torque_limit» duration (now (torques .entry))) ⌝ }
 {
     let n = control_dim(map);
     let mut z = [0.0; 193];
     z[0] = duration;
     let rows = allocate_rows(map, n, torques, z);
-    project_rows(map, n, torque_limit, rows)
+    let projected = project_rows(map, n, torque_limit, rows);
+    let held = held_counts(map, torque_limit, &rows);
+    SeedDecision {
+        z: projected,
+        held: held,
+    }
 }

@@ -17,12 +17,14 @@ pub struct Problem {
     pub limited: bool,
 }
 
-/// A path: its duration, the largest defect of its run, its decision, its 17 nodes of 22 numbers.
+/// A path: its duration, the largest defect of its run, its decision, its 17 nodes of 22 numbers, and for each place of a row how many of its 16 controls were held
+/// to their limit.
 pub struct Path {
     pub duration: f64,
     pub max_defect: f64,
     pub decision: [f64; 193],
     pub nodes: [f64; 374],
+    pub held: [usize; 12],
 }
 
 /// A refusal's number and place.
@@ -58,6 +60,7 @@ mod c {
             max_defect: &mut f64,
             decision: &mut [f64; 193],
             nodes: &mut [f64; 374],
+            held: &mut [usize; 12],
         ) -> usize;
         pub safe fn slew_problem_profile(
             counts: &[usize; 11],
@@ -102,7 +105,7 @@ pub fn sample_text(text: &[u8], workspace: &mut [f64], requested: usize, index: 
 
 /// The path of a problem in numbers.
 pub fn plan_numbers(p: &Problem, workspace: &mut [f64]) -> Result<Path, Refusal> {
-    let (mut told, mut path) = ([0; 5], Path { duration: 0.0, max_defect: 0.0, decision: [0.0; 193], nodes: [0.0; 374] });
+    let (mut told, mut path) = ([0; 5], Path { duration: 0.0, max_defect: 0.0, decision: [0.0; 193], nodes: [0.0; 374], held: [0; 12] });
     let number = unsafe {
         c::slew_plan_numbers(
             &p.counts,
@@ -116,6 +119,7 @@ pub fn plan_numbers(p: &Problem, workspace: &mut [f64]) -> Result<Path, Refusal>
             &mut path.max_defect,
             &mut path.decision,
             &mut path.nodes,
+            &mut path.held,
         )
     };
     answered(number, told[0], path)

@@ -196,13 +196,14 @@ pub fn slew_damped_step(v: &mut [f64], m: usize, r: &[f64], lambda: f64, g: &mut
     unsafe { slices::slew_damped_step(v.as_mut_ptr(), v.len(), m, r.as_ptr(), r.len(), lambda, g.as_mut_ptr(), g.len()) }
 }
 
-/// What an entry of the planner fills: place, runs, controls, wheels, iterations; duration; largest defect; decision; nodes.
+/// What an entry of the planner fills: place, runs, controls, wheels, iterations; duration; largest defect; decision; nodes; held controls.
 pub struct Planned {
     pub counts: [usize; 5],
     pub duration: f64,
     pub max_defect: f64,
     pub z: [f64; 193],
     pub nodes: [[f64; 22]; 17],
+    pub held: [usize; 12],
 }
 
 mod entries {
@@ -220,6 +221,7 @@ mod entries {
             max_defect: &mut f64,
             z: &mut [f64; 193],
             nodes: &mut [[f64; 22]; 17],
+            held: &mut [usize; 12],
         ) -> usize;
         pub fn slew_plan_from_numbers(
             c: &Counts,
@@ -238,6 +240,7 @@ mod entries {
             max_defect: &mut f64,
             z: &mut [f64; 193],
             nodes: &mut [[f64; 22]; 17],
+            held: &mut [usize; 12],
         ) -> usize;
     }
 }
@@ -246,7 +249,7 @@ mod entries {
 pub fn slew_plan_numbers(flat: &crate::maps::Flat, b: &[f64; 37], limited: bool, ws: &mut [f64], o: &mut Planned) -> usize {
     let (c, v) = (&flat.counts, &flat.numbers);
     let lent = (ws.as_mut_ptr(), ws.len());
-    unsafe { entries::slew_plan_numbers(c, v, b, limited, lent.0, lent.1, &mut o.counts, &mut o.duration, &mut o.max_defect, &mut o.z, &mut o.nodes) }
+    unsafe { entries::slew_plan_numbers(c, v, b, limited, lent.0, lent.1, &mut o.counts, &mut o.duration, &mut o.max_defect, &mut o.z, &mut o.nodes, &mut o.held) }
 }
 
 /// A caller's seed: three slices that do not overlap.
@@ -256,7 +259,7 @@ pub fn slew_plan_from_numbers(flat: &crate::maps::Flat, b: &[f64; 37], limited: 
     let lent = (ws.as_mut_ptr(), ws.len());
     unsafe {
         entries::slew_plan_from_numbers(
-            c, v, b, limited, seed.duration, r.0, r.1, t.0, t.1, lent.0, lent.1, &mut o.counts, &mut o.duration, &mut o.max_defect, &mut o.z, &mut o.nodes,
+            c, v, b, limited, seed.duration, r.0, r.1, t.0, t.1, lent.0, lent.1, &mut o.counts, &mut o.duration, &mut o.max_defect, &mut o.z, &mut o.nodes, &mut o.held,
         )
     }
 }

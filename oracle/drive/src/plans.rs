@@ -140,6 +140,11 @@ fn count_branches(plan: &Plan, found: &Found, o: &mut Words) {
     o.met("rounds with a small pivot", t.singular);
     o.met("rounds of NaN length", t.nan);
     o.met("paths found before round 40", u64::from(found.path.is_some() && t.rounds < 40));
+    let held = found.path.is_some() && t.held.iter().any(|n| *n > 0);
+    o.met("paths of the seed's own decision", u64::from(found.path.is_some() && t.accepted == 0));
+    o.met("of these with a held control", u64::from(held && t.accepted == 0));
+    o.met("paths of a trial", u64::from(found.path.is_some() && t.accepted > 0));
+    o.met("of these with one", u64::from(held && t.accepted > 0));
     o.met("paths with a control at its stop", u64::from(found.path.as_ref().is_some_and(|(_, z)| at_stop(plan, &z[1..]))));
 }
 
@@ -156,7 +161,7 @@ fn at_stop(plan: &Plan, controls: &[f64]) -> bool {
 }
 
 /// Number, place, runs, then 1 for a workspace that is untouched before the first run and all +0 after it; of a path also the controls, wheels, iterations,
-/// duration, largest defect, decision and nodes.
+/// duration, largest defect, decision, nodes and held controls.
 fn plan_by_rust(i: &[u64], o: &mut Words) -> bool {
     let plan = Plan::take(&mut Reader(i));
     let found = by_rust(&plan, false);
@@ -170,6 +175,7 @@ fn plan_by_rust(i: &[u64], o: &mut Words) -> bool {
         o.all(decision);
         (decision.len()..193).for_each(|_| o.f(0.0));
         put_nodes(nodes, o);
+        found.tally.held[..12].iter().for_each(|n| o.n(*n));
     }
     count_branches(&plan, &found, o);
     true
@@ -178,7 +184,7 @@ fn plan_by_rust(i: &[u64], o: &mut Words) -> bool {
 fn plan_by_port(i: &[u64], o: &mut Words) {
     let plan = Plan::take(&mut Reader(i));
     let mut ws = vec![plan.fill; plan.lent];
-    let mut out = Planned { counts: [77; 5], duration: 1.0, max_defect: 1.0, z: [1.0; 193], nodes: [[1.0; 22]; 17] };
+    let mut out = Planned { counts: [77; 5], duration: 1.0, max_defect: 1.0, z: [1.0; 193], nodes: [[1.0; 22]; 17], held: [77; 12] };
     let number = match &plan.seed {
         None => slew_plan_numbers(&plan.flat, &plan.body, plan.limited, &mut ws, &mut out),
         Some(seed) => slew_plan_from_numbers(&plan.flat, &plan.body, plan.limited, seed, &mut ws, &mut out),
@@ -195,9 +201,10 @@ fn plan_by_port(i: &[u64], o: &mut Words) {
         o.f(out.max_defect);
         o.all(&out.z);
         out.nodes.iter().for_each(|node| o.all(node));
+        out.held.iter().for_each(|n| o.n(*n as u64));
     } else {
         let zeros = out.z.iter().chain(out.nodes.iter().flatten()).chain([&out.duration, &out.max_defect]).all(|x| x.to_bits() == 0);
-        assert!(zeros && [controls, wheels, iterations] == [0; 3], "the path beside a refusal is blank");
+        assert!(zeros && [controls, wheels, iterations] == [0; 3] && out.held == [0; 12], "the path beside a refusal is blank");
     }
 }
 

@@ -1,4 +1,5 @@
-//! What the counting copy of scvx.rs counts, on this thread: forward runs begun, where the search stands, how its rounds ended, where the time goes.
+//! What the counting copy of scvx.rs counts, on this thread: forward runs begun, where the search stands, how its rounds ended, which controls a projection
+//! changed, where the time goes.
 
 use std::cell::RefCell;
 use std::time::Instant;
@@ -31,6 +32,12 @@ pub struct Tally {
     pub nan: u64,
     /// The decision that the search ends with.
     pub decision: Vec<f64>,
+    /// For each place of a row how many of the decision's 16 controls its projection changed: the seed's rows, then each trial taken.
+    pub held: [u64; 20],
+    /// The same of the trial that stands last.
+    trial_held: [u64; 20],
+    /// The rows that are to be projected.
+    before: Vec<Vec<f64>>,
     /// Nanoseconds by phase, if they are asked for.
     pub spent: [u64; 5],
     clock: Option<(usize, Instant)>,
@@ -98,7 +105,37 @@ pub fn trial(length: f64, best: f64) {
 }
 
 pub fn accepted() {
-    with(|t| t.accepted += 1);
+    with(|t| (t.accepted, t.held) = (t.accepted + 1, t.trial_held));
+}
+
+/// One more at each place whose number is another one now; a NaN is like any NaN.
+fn add_changed(held: &mut [u64; 20], before: &[f64], after: &[f64]) {
+    for (count, (x, y)) in held.iter_mut().zip(before.iter().zip(after)) {
+        *count += u64::from(x.to_bits() != y.to_bits() && !(x.is_nan() && y.is_nan()));
+    }
+}
+
+/// A row of the seed before its projection.
+pub fn allocated(row: &[f64]) {
+    with(|t| t.before = vec![row.to_vec()]);
+}
+
+/// And after it.
+pub fn seed_row(row: &[f64]) {
+    with(|t| add_changed(&mut t.held, &t.before[0], row));
+}
+
+/// A trial's rows before its projection.
+pub fn moved(rows: &[Vec<f64>]) {
+    with(|t| t.before = rows.to_vec());
+}
+
+/// And after it.
+pub fn projected(rows: &[Vec<f64>]) {
+    with(|t| {
+        t.trial_held = [0; 20];
+        t.before.iter().zip(rows).for_each(|(before, after)| add_changed(&mut t.trial_held, before, after));
+    });
 }
 
 pub fn rejected() {

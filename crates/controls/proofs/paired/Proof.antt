@@ -1,7 +1,7 @@
 -- `controls::paired` meets its contract. Assumes nothing.
 use borrow.Author.Tests.{le-leb, lt-leb}
 use Rattle.controls.specs.Operations as Operations
-use Rattle.controls.proofs.Held.{fewer-most}
+use Rattle.controls.proofs.PartLimits.{fewer-most}
 use native.Mathlib.Omega.{arith}
 use borrow.Author.Needs.{needs}
 use Rattle.controls.proofs.paired.Statement.{statement}

@@ -4,15 +4,15 @@ use borrow.Author.Needs.{needs}
 use Rattle.planner.proofs.path_of.Statement.{statement}
 use Rattle.planner.proofs.path_of.Tie as tie
 
-array-read-t9 : tie.Need-array-read-t9
-array-read-t9 c = search needs
+held-of-requires : tie.Need-held-of-requires
+held-of-requires c κs = search needs
 
 control-dim-requires : tie.Need-control-dim-requires
 control-dim-requires c κs = search needs
 
 returns : tie.Need-returns
 unfolding Ieee.ofBits
-returns c = rw (c .control-dim .ensures)
+returns c = rw (c .control-dim .ensures, c .before .before .before .before .before .held-of .ensures)
 
 pub path-of-spec : {M : Type 1} → statement M
-path-of-spec = tie.close (tie.spec array-read-t9 control-dim-requires returns)
+path-of-spec = tie.close (tie.spec held-of-requires (λ c. search needs) control-dim-requires returns)

@@ -40,7 +40,7 @@ same-length : tie.Need-same-length
 same-length c = search needs
 
 returns-4 : tie.Need-returns-4
-returns-4 c = solved _ _ (c .before .before .before .before .seed-decision .ensures) (c .before .before .solve .ensures .0) (c .before .before .solve .ensures .1 .0) (c .before .before .solve .ensures .1 .1) (seeded-search _ _ _ _ (not-false _ (c .before .before .before .before .before .before .before .before .before .before .before .if1 .left)) (c .before .before .before .before .before .before .before .before .before .before .is-positive .ensures) (not-false _ (c .before .before .before .before .before .before .before .before .before .if2 .left)) (c .before .before .before .before .before .before .before .before .room .ensures) (c .before .before .before .before .before .before .before .if3 .left))
+returns-4 c = solved _ _ (c .before .before .before .before .before .before .seed-decision .ensures .0) (c .before .before .before .before .before .before .seed-decision .ensures .1) (c .before .before .solve .ensures .0) (c .before .before .solve .ensures .1 .0) (c .before .before .solve .ensures .1 .1) (seeded-search _ _ _ _ (not-false _ (c .before .before .before .before .before .before .before .before .before .before .before .before .before .if1 .left)) (c .before .before .before .before .before .before .before .before .before .before .before .before .is-positive .ensures) (not-false _ (c .before .before .before .before .before .before .before .before .before .before .before .if2 .left)) (c .before .before .before .before .before .before .before .before .before .before .room .ensures) (c .before .before .before .before .before .before .before .before .before .if3 .left))
 
 pub seeded-spec : {M : Type 1} → statement M
 seeded-spec =

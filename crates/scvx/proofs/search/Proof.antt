@@ -18,7 +18,7 @@ start-requires c κs = let w = width-most (c .before .before .before .before .be
 turns-requires : tie.Need-turns-requires
 turns-requires c κs = (
   sizes-of (c .before .before .before .before .before .before .before .before .before .args .p) _ _ _ (c .before .before .before .before .before .before .before .before .before .pre .0) (c .before .before .before .before .before .before .before .before .before .pre .1) (c .before .before .before .before .numbers .ensures) (c .before .before .before .width .ensures) (c .before .before .before .before .before .before .before .before .before .pre .2),
-  (rw (c .start .ensures) refl, (rw (c .start .ensures) refl, rw (c .start .ensures) (stands-new (known-of (c .before .before .before .before .before .before .before .residuals-of .ensures) (c .before .before .before .before .before .enum-told .given .1) (c .before .before .before .width .ensures))))),
+  (rw (c .start .ensures) refl, (rw (c .start .ensures) refl, rw (c .start .ensures) (stands-new (known-of _ (c .before .before .before .before .before .before .before .residuals-of .ensures) (c .before .before .before .before .before .enum-told .given .1) (c .before .before .before .width .ensures) refl)))),
 )
 
 closed-requires : tie.Need-closed-requires

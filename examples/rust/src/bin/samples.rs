@@ -1,4 +1,5 @@
-//! Plans the slew of examples/quarter-turn.toml, declared in numbers, and prints its dense samples as CSV.
+//! Plans the slew of examples/quarter-turn.toml, declared in numbers, and prints its dense samples as CSV; on standard error how many of the 16 controls about
+//! each axis were held to their limit.
 use slew_examples::{Problem, Refusal, acceleration, line, plan_numbers, sample, sample_count, workspace};
 
 /// No wheels, no thrusters, no pyramid: three body torques.
@@ -23,6 +24,7 @@ fn main() -> Result<(), Refusal> {
     let alpha = acceleration(&PROBLEM)?;
     let count = sample_count(&path, 17, alpha)?;
 
+    eprintln!("held to the limit: {}, {}, {} of 16", path.held[0], path.held[1], path.held[2]);
     println!("t,qw,qx,qy,qz,wx,wy,wz,tx,ty,tz,hx,hy,hz");
     for index in 0..count {
         println!("{}", line(sample(&PROBLEM, &path, 17, alpha, index)?));

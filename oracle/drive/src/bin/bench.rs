@@ -267,7 +267,7 @@ fn plans(turns: u32) {
         for plan in found(family) {
             let (task, duration, rates, torques) = begun(&plan).unwrap_or_else(|_| panic!("a problem that was planned"));
             let mut ws = vec![0.0; plan.lent];
-            let mut out = Planned { counts: [0; 5], duration: 0.0, max_defect: 0.0, z: [0.0; 193], nodes: [[0.0; 22]; 17] };
+            let mut out = Planned { counts: [0; 5], duration: 0.0, max_defect: 0.0, z: [0.0; 193], nodes: [[0.0; 22]; 17], held: [0; 12] };
             let solve = || drop(black_box(scvx::seeded(&task, duration, &rates, &torques)));
             let mut ours = || assert_eq!(slew_plan_numbers(&plan.flat, &plan.body, plan.limited, &mut ws, black_box(&mut out)), 0);
             let spans = measured(turns, [&mut { solve }, &mut || unaltered(&mut { solve }), &mut ours]);

@@ -34,7 +34,7 @@ struct Answer {
 }
 
 fn blank() -> Answer {
-    Answer { number: 77, out: Planned { counts: [77; 5], duration: 1.0, max_defect: 1.0, z: [1.0; 193], nodes: [[1.0; 22]; 17] } }
+    Answer { number: 77, out: Planned { counts: [77; 5], duration: 1.0, max_defect: 1.0, z: [1.0; 193], nodes: [[1.0; 22]; 17], held: [77; 12] } }
 }
 
 fn plan_into(plan: &Plan, ws: &mut [f64], answer: &mut Answer) {
@@ -47,7 +47,7 @@ fn plan_into(plan: &Plan, ws: &mut [f64], answer: &mut Answer) {
 fn same(a: &Answer, b: &Answer) -> bool {
     let bits = |x: &Answer| -> Vec<u64> {
         let floats = x.out.z.iter().chain(x.out.nodes.iter().flatten()).chain([&x.out.duration, &x.out.max_defect]);
-        floats.map(|f| f.to_bits()).chain(x.out.counts.iter().map(|n| *n as u64)).chain([x.number as u64]).collect()
+        floats.map(|f| f.to_bits()).chain(x.out.counts.iter().chain(&x.out.held).map(|n| *n as u64)).chain([x.number as u64]).collect()
     };
     bits(a) == bits(b)
 }

@@ -4,12 +4,9 @@ use borrow.Author.Needs.{needs}
 use Rattle.controls.proofs.inner.hold.Statement.{statement}
 use Rattle.controls.proofs.inner.hold.Tie as tie
 
-clamp-requires : tie.Need-clamp-requires
-clamp-requires c κs = search needs
-
 returns : tie.Need-returns
 unfolding Limits.hold
-returns c = c .clamp .ensures
+returns c = rw (c .before .clamp .ensures, c .abs .ensures)
 
 pub hold-spec : {M : Type 1} → statement M
-hold-spec = tie.close (tie.spec clamp-requires returns)
+hold-spec = tie.close (tie.spec (λ c κs. search needs) (λ c κs. search needs) returns)

@@ -2,7 +2,7 @@
 use Prim.Native.Nat.{_+_, _-_}
 use lib.ListN.{length}
 use Rattle.actuators.specs.Sizes.{gimbals-most}
-use Rattle.controls.proofs.Held.{fewer-most, parts-held}
+use Rattle.controls.proofs.PartLimits.{fewer-most, parts-held}
 use native.Mathlib.Omega.{arith}
 use borrow.Author.Needs.{needs}
 use Rattle.controls.proofs.inner.project_parts.Statement.{statement}

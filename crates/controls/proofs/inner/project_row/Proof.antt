@@ -3,7 +3,7 @@ use mathlib.Core.Path.{sym, _∙_}
 use Rattle.controls.specs.Parts as Parts
 use Rattle.controls.specs.Limits as Limits
 use Rattle.controls.proofs.Room.{bare-room, parts-room}
-use Rattle.controls.proofs.Held.{fewer-left}
+use Rattle.controls.proofs.PartLimits.{fewer-left}
 use borrow.Author.Needs.{needs}
 use Rattle.controls.proofs.inner.project_row.Statement.{statement}
 use Rattle.controls.proofs.inner.project_row.Tie as tie

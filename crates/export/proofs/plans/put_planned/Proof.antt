@@ -16,7 +16,7 @@ number-of-requires c κs = search needs
 
 returns : tie.Need-returns
 returns c =
-    let t = of-plan (c .before .before .before .before .before .before .before .args .r) in (
+    let t = of-plan (c .before .before .before .before .before .before .before .before .args .r) in (
       c .number-of .ensures ∙ t .number,
       (
         rw (c .before .before .before .place-of .ensures, t .place, ← t .runs),
@@ -26,7 +26,10 @@ returns c =
             search needs,
             (
               search needs,
-              rw (c .before .rows .ensures),
+              (
+                rw (c .before .rows .ensures),
+                search needs,
+              ),
             ),
           ),
         ),

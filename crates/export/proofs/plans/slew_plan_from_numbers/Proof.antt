@@ -17,18 +17,21 @@ same-length c = search needs
 
 returns : tie.Need-returns
 returns c = (
-  rw (c .put-planned .ensures .0, c .before .before .before .before .before .before .before .before .plan-from .ensures .0, c .before .before .before .before .before .before .before .before .before .before .problem-of .ensures),
+  rw (c .put-planned .ensures .0, c .before .before .before .before .before .before .before .before .before .plan-from .ensures .0, c .before .before .before .before .before .before .before .before .before .before .before .problem-of .ensures),
   (
-    rw (c .put-planned .ensures .1 .0, c .before .before .before .before .before .before .before .before .plan-from .ensures .0, c .before .before .before .before .before .before .before .before .before .before .problem-of .ensures),
+    rw (c .put-planned .ensures .1 .0, c .before .before .before .before .before .before .before .before .before .plan-from .ensures .0, c .before .before .before .before .before .before .before .before .before .before .before .problem-of .ensures),
     (
-      rw (c .put-planned .ensures .1 .1 .0, c .before .before .before .before .before .before .before .before .plan-from .ensures .0, c .before .before .before .before .before .before .before .before .before .before .problem-of .ensures),
+      rw (c .put-planned .ensures .1 .1 .0, c .before .before .before .before .before .before .before .before .before .plan-from .ensures .0, c .before .before .before .before .before .before .before .before .before .before .before .problem-of .ensures),
       (
-        rw (c .put-planned .ensures .1 .1 .1 .0, c .before .before .before .before .before .before .before .before .plan-from .ensures .0, c .before .before .before .before .before .before .before .before .before .before .problem-of .ensures),
+        rw (c .put-planned .ensures .1 .1 .1 .0, c .before .before .before .before .before .before .before .before .before .plan-from .ensures .0, c .before .before .before .before .before .before .before .before .before .before .before .problem-of .ensures),
         (
-          rw (c .put-planned .ensures .1 .1 .1 .1 .0, c .before .before .before .before .before .before .before .before .plan-from .ensures .0, c .before .before .before .before .before .before .before .before .before .before .problem-of .ensures),
+          rw (c .put-planned .ensures .1 .1 .1 .1 .0, c .before .before .before .before .before .before .before .before .before .plan-from .ensures .0, c .before .before .before .before .before .before .before .before .before .before .before .problem-of .ensures),
           (
-            rw (c .put-planned .ensures .1 .1 .1 .1 .1, c .before .before .before .before .before .before .before .before .plan-from .ensures .0, c .before .before .before .before .before .before .before .before .before .before .problem-of .ensures),
-            rw (c .before .before .before .before .before .before .before .before .plan-from .ensures .1 .0, c .before .before .before .before .before .before .before .before .plan-from .ensures .0, c .before .before .before .before .before .before .before .before .before .before .problem-of .ensures),
+            rw (c .put-planned .ensures .1 .1 .1 .1 .1 .0, c .before .before .before .before .before .before .before .before .before .plan-from .ensures .0, c .before .before .before .before .before .before .before .before .before .before .before .problem-of .ensures),
+            (
+              rw (c .put-planned .ensures .1 .1 .1 .1 .1 .1, c .before .before .before .before .before .before .before .before .before .plan-from .ensures .0, c .before .before .before .before .before .before .before .before .before .before .before .problem-of .ensures),
+              rw (c .before .before .before .before .before .before .before .before .before .plan-from .ensures .1 .0, c .before .before .before .before .before .before .before .before .before .plan-from .ensures .0, c .before .before .before .before .before .before .before .before .before .before .before .problem-of .ensures),
+            ),
           ),
         ),
       ),

@@ -5,13 +5,16 @@ use Rattle.scvx.proofs.steps.trial_of.Statement.{statement}
 use Rattle.scvx.proofs.steps.trial_of.Tie as tie
 
 returns : tie.Need-returns
-unfolding Search.trialOf
-returns c = rw (c .held .ensures, c .before .apply-step .ensures, c .before .before .before .pre .1 .1)
+unfolding Search.trialOf Search.trialHeld
+returns c =
+    let n = c .before .before .before .before .before .before .before .pre .1 .1 in
+    (rw (c .held .ensures, c .before .before .before .before .before .apply-step .ensures, n), rw (c .before .held-counts .ensures, c .before .before .before .before .before .apply-step .ensures, n))
 
 pub trial-of-spec : {M : Type 1} → statement M
 trial-of-spec =
     tie.close
     (tie.spec
+    (λ c κs. search needs)
     (λ c κs. search needs)
     (λ c κs. search needs)
     returns)

@@ -6,10 +6,10 @@ use Rattle.scvx.proofs.turns.last.Statement.{statement}
 use Rattle.scvx.proofs.turns.last.Tie as tie
 
 returns : tie.Need-returns
-returns c = c .none .ensures ∙ last-by (c .before .before .before .before .before .before .before .before .args .p) (c .before .before .before .before .before .before .before .before .args .s) (c .before .before .before .before .before .run-of .ensures) (c .before .before .before .fate .given .1)
+returns c = c .none .ensures ∙ last-by (c .before .before .before .before .before .before .before .before .before .args .p) (c .before .before .before .before .before .before .before .before .before .args .s) (c .before .before .before .before .before .run-of .ensures) (c .before .before .before .fate .given .1)
 
 returns-2 : tie.Need-returns-2
-returns-2 c = last-by (c .before .before .before .before .before .before .args .p) (c .before .before .before .before .before .before .args .s) (c .before .before .before .run-of .ensures) (c .before .enum-told .given .1)
+returns-2 c = last-by (c .before .before .before .before .before .before .before .args .p) (c .before .before .before .before .before .before .before .args .s) (c .before .before .before .run-of .ensures) (c .before .enum-told .given .1)
 
 pub last-spec : {M : Type 1} → statement M
 last-spec =
