@@ -1,6 +1,6 @@
 /* The slew planner, as a controller calls it from C or C++ on x86-64. Link target/staticlib/libexport.a, which `rt staticlib export` writes;
  * the functions below "Rooms with moving air" are in libexport_tools.a, which `rt staticlib export_tools` writes, those below "Whole numbers for the drive board" in
- * libexport_board.a, which `rt staticlib export_board` writes.
+ * libexport_board.a, which `rt staticlib export_board` writes, those below "A whole mosaic" in libexport_mosaic.a, which `rt staticlib export_mosaic` writes.
  *
  * Every function here is proved to answer what the definitions say, for every value of its arguments, NaN and infinities included, and to end. Nothing is
  * allocated, nothing is kept between calls, nothing is read or written but what is lent: calls from several threads need only different buffers.
@@ -9,7 +9,7 @@
  * overlaps nothing else that is lent; floats round to nearest and subnormals are kept, as in every program that has not changed this; the thread has
  * 256 kB of stack (over the examples a call used up to 107 kB).
  *
- * A refusal is its number of 1 to 22, 24, 25, 27 or 28, with a place and the forward runs begun (README.md, "Refusals"); 0 is no refusal. */
+ * A refusal is its number of 1 to 25, 27 or 28, with a place and the forward runs begun (README.md, "Refusals"); 0 is no refusal. */
 #ifndef SLEW_H
 #define SLEW_H
 
@@ -111,6 +111,33 @@ size_t slew_sample_count(double duration, size_t requested, double alpha, size_t
 size_t slew_sample_path(const double inertia[9], double tolerance, double duration, const double nodes[374],
                         size_t requested, double alpha, size_t index,
                         double sample[14], size_t *place);
+
+/* A whole mosaic, in libexport_mosaic.a: 2 to 64 attitudes, a slew from rest to rest from each to the next (a leg), the first with the wheels turning as the body's momenta
+ * say, each later one as the leg before it ended. The problem is declared as above; the attitudes of `body` are not read. Each leg is what slew_plan_numbers gives for that leg
+ * alone, with these momenta in `body`. The first refused leg ends the mosaic; the legs before it stand.
+ *
+ * A cursor tells how a mosaic stands. cursor: the legs answered, which is also the index of the next leg or of the refused one; their forward runs; the number of a refusal, or
+ *   0, its place, and the runs of the refused leg. sums: the duration of the answered legs, added in order; the momenta of eight wheels that the next leg starts with. */
+#define SLEW_TILES_MOST 64
+
+/* One leg, from one attitude to another, scalar first. A mosaic begins with `cursor` all 0, sums[0] 0 and the wheels' momenta behind it (the momenta of `body` are not read here).
+ * Returns 0, or the leg's refusal; told, duration, max_defect, decision, nodes, held and the workspace as by slew_plan_numbers. A cursor that has 63 legs is refused with 23. After a
+ * refusal the cursor stays as it is: its number is returned again, with 0 runs, and nothing is planned. */
+size_t slew_mosaic_next(const size_t counts[11], const double actuators[100], const double body[37], bool limited,
+                        const double from[4], const double to[4], size_t cursor[5], double sums[9],
+                        double *workspace, size_t workspace_count,
+                        size_t told[5], double *duration, double *max_defect, double decision[193], double nodes[374],
+                        size_t held[12]);
+
+/* All of it: tiles_count attitudes. Returns 0, or the refusal's number, as in the cursor. Refusal 23: fewer than 2 attitudes, or more than 64. Each lent list gets a row for each
+ * answered leg, in turn: forward runs, controls in a row, wheels, iterations; duration, largest defect; decision; nodes. (Which controls were held, slew_mosaic_next tells.) What stands behind those rows stays. A list of fewer rows
+ * than there are legs (a leg fewer than attitudes): 99 is returned, and nothing is planned. The workspace is untouched where no leg began a run, and all +0.0 otherwise. */
+size_t slew_mosaic(const size_t counts[11], const double actuators[100], const double body[37], bool limited,
+                   const double (*tiles)[4], size_t tiles_count,
+                   size_t (*told)[4], size_t told_count, double (*times)[2], size_t times_count,
+                   double (*decisions)[193], size_t decisions_count, double (*nodes)[374], size_t nodes_count,
+                   double *workspace, size_t workspace_count,
+                   size_t cursor[5], double sums[9]);
 
 /* Whole numbers for the drive board: 32-bit signed numbers of a fixed unit, in libexport_board.a.
  *

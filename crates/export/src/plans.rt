@@ -16,7 +16,7 @@ use planner::Planned;
 use samples::rows::rows;
 
 // A refusal's number, or 0; the path is put into what is lent for it.
-fn put_planned(
+pub fn put_planned(
     r: Planned,
     counts: &mut [usize; 5],
     duration: &mut f64,

@@ -55,7 +55,7 @@ pub struct Planned {
 }
 
 // No path, beside a refusal's number, place and runs.
-fn refused(number: usize, place: usize, runs: usize) -> Planned
+pub fn refused(number: usize, place: usize, runs: usize) -> Planned
     ensures { λ r. ⌜ r ≡ Plans.refused number place runs ⌝ }
 {
     let z = [0.0; 193];

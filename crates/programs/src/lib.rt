@@ -1,3 +1,4 @@
 // What the programs do: each answers by a proved function, which owns the 8,000 numbers that it lends to the planner, and reads and writes around it.
+pub mod mosaics;
 pub mod plans;
 pub mod samples;

@@ -24,7 +24,7 @@ pub fn course(text: &[u8]) -> Course
 }
 
 // A step's first bytes to standard output, its sentence's to standard error.
-fn show(out: &[u8], bytes: usize, said: &[u8], told: usize)
+pub fn show(out: &[u8], bytes: usize, said: &[u8], told: usize)
     requires { ⌜ (bytes ≤ length (now out)) × (told ≤ length (now said)) ⌝ }
 {
     io::write_all(STDOUT_FILENO, &out[..bytes]);

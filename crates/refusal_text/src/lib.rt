@@ -290,6 +290,11 @@ fn later(number: usize, place: usize, out: &mut [u8]) -> usize
             place,
             b": its start momentum must be finite and at most its limit in size, one for each wheel.\n",
         ),
+        23 => put_all(
+            out,
+            0,
+            b"A mosaic has 2 to 64 attitudes: give more of them, or cut it at a tile and plan both parts.\n",
+        ),
         24 => tell(
             out,
             b"Sample ",

@@ -264,6 +264,147 @@ pub fn slew_plan_from_numbers(flat: &crate::maps::Flat, b: &[f64; 37], limited: 
     }
 }
 
+/// A mosaic's cursor: legs answered, their runs, a refusal's number, place and runs; the duration and eight momenta.
+#[derive(Clone)]
+pub struct Cursor {
+    pub counts: [usize; 5],
+    pub sums: [f64; 9],
+}
+
+impl Cursor {
+    pub fn same(&self, other: &Cursor) -> bool {
+        self.counts == other.counts && self.sums.iter().zip(&other.sums).all(|(a, b)| a.to_bits() == b.to_bits())
+    }
+}
+
+/// The rows lent for a mosaic's legs: runs, controls, wheels, iterations; duration, largest defect; decision; nodes.
+pub struct Lent {
+    pub counts: Vec<[usize; 4]>,
+    pub times: Vec<[f64; 2]>,
+    pub decisions: Vec<[f64; 193]>,
+    pub nodes: Vec<[[f64; 22]; 17]>,
+}
+
+impl Lent {
+    pub fn of(rows: usize) -> Self {
+        Lent { counts: vec![[77; 4]; rows], times: vec![[7.0; 2]; rows], decisions: vec![[7.0; 193]; rows], nodes: vec![[[7.0; 22]; 17]; rows] }
+    }
+
+    fn floats(&self, k: usize) -> Vec<u64> {
+        self.times[k].iter().chain(&self.decisions[k]).chain(self.nodes[k].iter().flatten()).map(|x| x.to_bits()).collect()
+    }
+
+    /// Whether the rows from k on are as they were lent.
+    pub fn untouched_from(&self, k: usize) -> bool {
+        (k..self.counts.len()).all(|i| self.counts[i] == [77; 4] && self.floats(i).iter().all(|x| *x == 7.0f64.to_bits()))
+    }
+
+    /// Whether n rows from one place are another's from another place.
+    pub fn same(&self, other: &Lent, at: usize, there: usize, n: usize) -> bool {
+        (0..n).all(|k| self.counts[at + k] == other.counts[there + k] && self.floats(at + k) == other.floats(there + k))
+    }
+
+    /// Whether row k is this leg.
+    pub fn is_leg(&self, k: usize, leg: &Planned) -> bool {
+        let [_, runs, controls, wheels, iterations] = leg.counts;
+        let floats = [&leg.duration, &leg.max_defect].into_iter().chain(&leg.z).chain(leg.nodes.iter().flatten());
+        k < self.counts.len() && self.counts[k] == [runs, controls, wheels, iterations] && floats.map(|x| x.to_bits()).eq(self.floats(k))
+    }
+
+    /// The first n rows, one after another.
+    pub fn put(&self, n: usize, o: &mut crate::words::Words) {
+        for k in 0..n {
+            self.counts[k].iter().for_each(|x| o.n(*x as u64));
+            o.all(&self.times[k]);
+            o.all(&self.decisions[k]);
+            self.nodes[k].iter().for_each(|node| o.all(node));
+        }
+    }
+}
+
+mod mosaics {
+    use super::{A4, Counts, Numbers};
+    unsafe extern "C" {
+        pub fn slew_mosaic_next(
+            c: &Counts,
+            v: &Numbers,
+            b: &[f64; 37],
+            limited: bool,
+            from: &A4,
+            to: &A4,
+            cursor: &mut [usize; 5],
+            sums: &mut [f64; 9],
+            ws: *mut f64,
+            ws_len: usize,
+            counts: &mut [usize; 5],
+            duration: &mut f64,
+            max_defect: &mut f64,
+            z: &mut [f64; 193],
+            nodes: &mut [[f64; 22]; 17],
+            held: &mut [usize; 12],
+        ) -> usize;
+        pub fn slew_mosaic(
+            c: &Counts,
+            v: &Numbers,
+            b: &[f64; 37],
+            limited: bool,
+            tiles: *const A4,
+            tiles_len: usize,
+            counts: *mut [usize; 4],
+            counts_len: usize,
+            times: *mut [f64; 2],
+            times_len: usize,
+            decisions: *mut [f64; 193],
+            decisions_len: usize,
+            nodes: *mut [[f64; 22]; 17],
+            nodes_len: usize,
+            ws: *mut f64,
+            ws_len: usize,
+            cursor: &mut [usize; 5],
+            sums: &mut [f64; 9],
+        ) -> usize;
+    }
+}
+
+/// One leg of a mosaic; the workspace is a slice.
+#[expect(clippy::too_many_arguments)]
+pub fn slew_mosaic_next(flat: &crate::maps::Flat, b: &[f64; 37], limited: bool, from: &A4, to: &A4, at: &mut Cursor, ws: &mut [f64], o: &mut Planned) -> usize {
+    let (c, v) = (&flat.counts, &flat.numbers);
+    let lent = (ws.as_mut_ptr(), ws.len());
+    unsafe {
+        mosaics::slew_mosaic_next(
+            c, v, b, limited, from, to, &mut at.counts, &mut at.sums, lent.0, lent.1, &mut o.counts, &mut o.duration, &mut o.max_defect, &mut o.z, &mut o.nodes, &mut o.held,
+        )
+    }
+}
+
+/// A whole mosaic: slices that do not overlap, each with its own length.
+pub fn slew_mosaic(flat: &crate::maps::Flat, b: &[f64; 37], limited: bool, tiles: &[A4], o: &mut Lent, ws: &mut [f64], at: &mut Cursor) -> usize {
+    let (c, v) = (&flat.counts, &flat.numbers);
+    unsafe {
+        mosaics::slew_mosaic(
+            c,
+            v,
+            b,
+            limited,
+            tiles.as_ptr(),
+            tiles.len(),
+            o.counts.as_mut_ptr(),
+            o.counts.len(),
+            o.times.as_mut_ptr(),
+            o.times.len(),
+            o.decisions.as_mut_ptr(),
+            o.decisions.len(),
+            o.nodes.as_mut_ptr(),
+            o.nodes.len(),
+            ws.as_mut_ptr(),
+            ws.len(),
+            &mut at.counts,
+            &mut at.sums,
+        )
+    }
+}
+
 /// The entries over a problem's text: each slice is a pointer and a length.
 mod texts {
     unsafe extern "C" {

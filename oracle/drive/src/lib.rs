@@ -13,6 +13,7 @@ pub mod leaves;
 pub mod libraries;
 pub mod maps;
 pub mod means;
+pub mod mosaics;
 pub mod planes;
 pub mod order;
 pub mod plans;

@@ -1,7 +1,7 @@
 //! What is compared: the libraries, each with its functions and its share of the time of `--minutes`.
 
 use crate::words::Entry;
-use crate::{board, courses, edges, leaves, order, planes, plans, region, runs, samples, series, shapes, systems, texts};
+use crate::{board, courses, edges, leaves, mosaics, order, planes, plans, region, runs, samples, series, shapes, systems, texts};
 
 pub struct Library {
     pub name: &'static str,
@@ -16,7 +16,7 @@ const fn library(name: &'static str, entries: &'static [Entry]) -> Library {
 }
 
 /// Each has the same share; whole plans have as much as all the others.
-pub const LIBRARIES: [Library; 17] = [
+pub const LIBRARIES: [Library; 18] = [
     library("floats", &leaves::LEAVES),
     library("angles", &leaves::ANGLES),
     library("series", &series::SERIES),
@@ -28,6 +28,7 @@ pub const LIBRARIES: [Library; 17] = [
     Library { name: "whole plans", share: 13, entries: &plans::PLANS, plans: true },
     Library { name: "plans at edges", share: 2, entries: &edges::PLANS_AT_EDGES, plans: true },
     Library { name: "early ends", share: 1, entries: &plans::EARLY, plans: true },
+    library("mosaics", &mosaics::MOSAICS),
     library("dense samples", &samples::SAMPLES),
     library("drive board", &board::BOARD),
     library("texts", &texts::TEXTS),

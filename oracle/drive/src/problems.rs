@@ -100,7 +100,7 @@ pub fn about(axis: [f64; 3], angle: f64) -> [f64; 4] {
 }
 
 /// Hamilton's product.
-fn times(a: [f64; 4], b: [f64; 4]) -> [f64; 4] {
+pub fn times(a: [f64; 4], b: [f64; 4]) -> [f64; 4] {
     [
         a[0] * b[0] - a[1] * b[1] - a[2] * b[2] - a[3] * b[3],
         a[0] * b[1] + a[1] * b[0] + a[2] * b[3] - a[3] * b[2],

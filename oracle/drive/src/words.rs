@@ -105,7 +105,7 @@ impl Entry {
 
     /// Whether a case begins with declared actuators (maps.rs).
     pub fn declares(&self) -> bool {
-        matches!(self.number, 100..=108 | 200..=202 | 300..=303 | 340 | 460..=462)
+        matches!(self.number, 100..=108 | 200..=202 | 300..=303 | 310..=311 | 340 | 460..=462)
     }
 
     /// Whether words may be taken out of a case: texts, a byte a word.

@@ -1,8 +1,10 @@
-//! mosaic [COUNT] [--seed N]: as a laboratory uses the planner, thousands of plans in a row with one lent workspace. Problems of every size and kind, refusals
-//! among them. Each answer must be, bit for bit, that of a second call with a fresh workspace; the lent numbers must be left as promised; a call allocates
-//! nothing, and the process does not grow. Each call runs on a painted stack, so that its depth is known. Exit status 1 where one of these fails.
+//! mosaic [COUNT] [--seed N] [--legs]: as a laboratory uses the planner, thousands of plans in a row with one lent workspace, then as many legs of mosaics (with --legs these alone). Problems of every size and kind,
+//! refusals among them. Each answer must be, bit for bit, that of a second call with a fresh workspace, and each leg's that of the planner for that leg alone; the lent numbers must be
+//! left as promised; a call allocates nothing, and the process does not grow. Each call runs on a painted stack, so that its depth is known. Exit status 1 where one of these fails.
+//! At last the processor's time of legs over that of the same slews as plans, by turns, the middle of fifteen.
 
-use drive::ffi::{Planned, slew_plan_from_numbers, slew_plan_numbers};
+use drive::ffi::{Cursor, Planned, slew_mosaic_next, slew_plan_from_numbers, slew_plan_numbers};
+use drive::mosaics::{self, Mosaic, leg_of};
 use drive::plans::{self, Plan};
 use drive::random::Random;
 use std::alloc::{GlobalAlloc, Layout, System};
@@ -54,16 +56,16 @@ fn same(a: &Answer, b: &Answer) -> bool {
 
 /// A call to make on the painted stack, or none; what it allocated.
 struct Job<'a> {
-    call: Option<(&'a Plan, &'a mut [f64], &'a mut Answer)>,
+    call: Option<&'a mut dyn FnMut()>,
     allocations: u64,
 }
 
 extern "C" fn work(job: *mut c_void) -> *mut c_void {
     // the caller waits for this thread and touches the job after it
     let job = unsafe { &mut *job.cast::<Job<'_>>() };
-    if let Some((plan, ws, answer)) = &mut job.call {
+    if let Some(call) = &mut job.call {
         let before = ALLOCATIONS.load(Ordering::Relaxed);
-        plan_into(plan, ws, answer);
+        call();
         job.allocations = ALLOCATIONS.load(Ordering::Relaxed) - before;
     }
     std::ptr::null_mut()
@@ -74,6 +76,7 @@ unsafe extern "C" {
     fn pthread_attr_setstack(attributes: &mut [u64; 7], at: *mut c_void, size: usize) -> i32;
     fn pthread_create(thread: &mut u64, attributes: &[u64; 7], of: extern "C" fn(*mut c_void) -> *mut c_void, job: *mut c_void) -> i32;
     fn pthread_join(thread: u64, answer: *mut *mut c_void) -> i32;
+    fn clock_gettime(clock: i32, time: &mut [i64; 2]) -> i32;
 }
 
 const PAINT: u64 = 0xA5A5_5A5A_C3C3_3C3C;
@@ -154,7 +157,8 @@ fn one(plan: &Plan, b: &mut Bench, seen: &mut Seen) {
     let lent = plan.lent.min(LARGEST);
     b.before.copy_from_slice(&b.lent);
     let mut answer = blank();
-    let mut job = Job { call: Some((plan, &mut b.lent[..lent], &mut answer)), allocations: 0 };
+    let mut call = || plan_into(plan, &mut b.lent[..lent], &mut answer);
+    let mut job = Job { call: Some(&mut call), allocations: 0 };
     let deep = depth(&mut b.stack, &mut job);
     seen.allocations += job.allocations;
     seen.deepest = seen.deepest.max(deep.saturating_sub(b.idle));
@@ -166,6 +170,100 @@ fn one(plan: &Plan, b: &mut Bench, seen: &mut Seen) {
     seen.widths[plan.flat.width().min(12)] += u64::from(answer.out.counts[1] > 0);
     seen.other_answers += u64::from(!same(&answer, &fresh));
     seen.other_workspaces += u64::from(!left_well(&b.before, &b.lent, lent, answer.out.counts[1]));
+}
+
+/// A leg on the lent workspace, beside the plan of that leg alone with a fresh one; the cursor moves on.
+fn leg(m: &Mosaic, k: usize, cursor: &mut Cursor, b: &mut Bench, seen: &mut Seen) {
+    let lent = m.plan.lent.min(LARGEST);
+    let alone = leg_of(&m.plan, m.tiles[k], m.tiles[k + 1], &cursor.sums[1..]);
+    b.before.copy_from_slice(&b.lent);
+    let (mut answer, mut fresh) = (blank(), blank());
+    let mut call = || answer.number = slew_mosaic_next(&m.plan.flat, &m.plan.body, m.plan.limited, &m.tiles[k], &m.tiles[k + 1], cursor, &mut b.lent[..lent], &mut answer.out);
+    let mut job = Job { call: Some(&mut call), allocations: 0 };
+    let deep = depth(&mut b.stack, &mut job);
+    seen.allocations += job.allocations;
+    seen.deepest = seen.deepest.max(deep.saturating_sub(b.idle));
+    plan_into(&alone, &mut vec![0.0; lent], &mut fresh);
+    seen.plans += 1;
+    seen.numbers[answer.number.min(31)] += 1;
+    seen.runs += answer.out.counts[1] as u64;
+    seen.widths[m.plan.flat.width().min(12)] += u64::from(answer.out.counts[1] > 0);
+    seen.other_answers += u64::from(!same(&answer, &fresh));
+    seen.other_workspaces += u64::from(!left_well(&b.before, &b.lent, lent, answer.out.counts[1]));
+}
+
+fn begun(m: &Mosaic) -> Cursor {
+    let mut cursor = Cursor { counts: [0; 5], sums: [0.0; 9] };
+    cursor.sums[1..].copy_from_slice(&m.plan.body[29..]);
+    cursor
+}
+
+/// Mosaics one after another, until there were so many legs.
+fn legs(count: u64, random: &mut Random, b: &mut Bench) -> bool {
+    let (mut seen, mut sizes, mut drawn) = (Seen::default(), Vec::new(), 0);
+    while seen.plans < count {
+        let m = mosaics::any(random);
+        if !(2..=64).contains(&m.tiles.len()) {
+            continue;
+        }
+        drawn += 1;
+        let mut cursor = begun(&m);
+        for k in 0..m.tiles.len() - 1 {
+            if (sizes.is_empty() && seen.plans >= (count / 20).min(200)) || (sizes.len() == 1 && seen.plans >= count / 2) {
+                sizes.push(resident());
+            }
+            leg(&m, k, &mut cursor, b, &mut seen);
+            if cursor.counts[2] != 0 {
+                break;
+            }
+        }
+    }
+    sizes.push(resident());
+    sizes.resize(3, 0);
+    println!("\nlegs of {drawn} mosaics:");
+    told(&seen, &sizes)
+}
+
+/// Seconds of the processor that this process has had: what runs beside it does not count.
+fn seconds() -> f64 {
+    let mut t = [0i64; 2];
+    // CLOCK_PROCESS_CPUTIME_ID; a timespec of x86-64 Linux is two 64-bit numbers
+    assert_eq!(unsafe { clock_gettime(2, &mut t) }, 0);
+    t[0] as f64 + t[1] as f64 * 1.0e-9
+}
+
+/// The time of a mosaic's legs over that of the same slews as plans, by turns.
+fn ratio(random: &mut Random) {
+    let m = loop {
+        let m = mosaics::any(random);
+        let mut cursor = begun(&m);
+        let mut ws = vec![0.0; m.plan.lent];
+        let mut out = blank();
+        let whole = (2..=64).contains(&m.tiles.len()) && m.tiles.windows(2).all(|t| slew_mosaic_next(&m.plan.flat, &m.plan.body, m.plan.limited, &t[0], &t[1], &mut cursor, &mut ws, &mut out.out) == 0);
+        if whole && m.tiles.len() > 16 && cursor.counts[1] > 20_000 {
+            break m;
+        }
+    };
+    let (mut ws, mut out, mut alone) = (vec![0.0; m.plan.lent], blank(), Vec::new());
+    let mut ratios: Vec<f64> = (0..15)
+        .map(|_| {
+            let (mut cursor, at) = (begun(&m), seconds());
+            let mut started = Vec::new();
+            for t in m.tiles.windows(2) {
+                started.push(cursor.sums);
+                slew_mosaic_next(&m.plan.flat, &m.plan.body, m.plan.limited, &t[0], &t[1], &mut cursor, &mut ws, &mut out.out);
+            }
+            let legs = seconds() - at;
+            if alone.is_empty() {
+                alone = m.tiles.windows(2).zip(&started).map(|(t, s)| leg_of(&m.plan, t[0], t[1], &s[1..])).collect();
+            }
+            let at = seconds();
+            alone.iter().for_each(|plan| plan_into(plan, &mut ws, &mut out));
+            legs / (seconds() - at)
+        })
+        .collect();
+    ratios.sort_by(f64::total_cmp);
+    println!("\n{} legs over the same slews as plans, fifteen times: {:.3} to {:.3}, the middle {:.3}", m.tiles.len() - 1, ratios[0], ratios[14], ratios[7]);
 }
 
 fn told(seen: &Seen, sizes: &[u64]) -> bool {
@@ -180,22 +278,46 @@ fn told(seen: &Seen, sizes: &[u64]) -> bool {
     seen.other_answers == 0 && seen.other_workspaces == 0 && seen.allocations == 0 && !grown
 }
 
-fn options() -> Result<(u64, u64), String> {
-    let (mut count, mut seed) = (10_000, 1);
+/// Plans of every kind, one after another.
+fn plans_in_a_row(count: u64, random: &mut Random, b: &mut Bench) -> bool {
+    let (mut seen, mut sizes, mut last) = (Seen::default(), Vec::new(), 0);
+    let warm = (count / 20).min(200);
+    for k in 0..count {
+        if k == warm || k == count / 2 {
+            sizes.push(resident());
+        }
+        // now and then the caller has used the numbers for something else
+        if random.one_in(8) {
+            b.lent.fill(random.hostile());
+        }
+        let plan = drawn(random);
+        seen.resized += u64::from(plan.lent != last);
+        last = plan.lent;
+        one(&plan, b, &mut seen);
+    }
+    sizes.push(resident());
+    sizes.resize(3, 0);
+    told(&seen, &sizes)
+}
+
+fn options() -> Result<(u64, u64, bool), String> {
+    let (mut count, mut seed, mut alone) = (10_000, 1, false);
     let mut args = std::env::args().skip(1);
     while let Some(arg) = args.next() {
-        let number = |text: String| text.parse::<u64>().map_err(|_| format!("{text} is not a number\nusage: mosaic [COUNT] [--seed N]"));
+        let number = |text: String| text.parse::<u64>().map_err(|_| format!("{text} is not a number\nusage: mosaic [COUNT] [--seed N] [--legs]"));
         if arg == "--seed" {
             seed = number(args.next().unwrap_or_default())?;
+        } else if arg == "--legs" {
+            alone = true;
         } else {
             count = number(arg)?;
         }
     }
-    Ok((count, seed))
+    Ok((count, seed, alone))
 }
 
 fn main() -> ExitCode {
-    let (count, seed) = match options() {
+    let (count, seed, alone) = match options() {
         Ok(options) => options,
         Err(text) => {
             eprintln!("{text}");
@@ -205,22 +327,8 @@ fn main() -> ExitCode {
     let mut random = Random::new(seed);
     let mut bench = Bench { lent: vec![f64::NAN; LARGEST], before: vec![1.0; LARGEST], stack: vec![Page([PAINT; 512]); STACK / 512], idle: 0 };
     bench.idle = depth(&mut bench.stack, &mut Job { call: None, allocations: 0 });
-    let (mut seen, mut sizes, mut last) = (Seen::default(), Vec::new(), 0);
-    let warm = (count / 20).min(200);
-    for k in 0..count {
-        if k == warm || k == count / 2 {
-            sizes.push(resident());
-        }
-        // now and then the caller has used the numbers for something else
-        if random.one_in(8) {
-            bench.lent.fill(random.hostile());
-        }
-        let plan = drawn(&mut random);
-        seen.resized += u64::from(plan.lent != last);
-        last = plan.lent;
-        one(&plan, &mut bench, &mut seen);
-    }
-    sizes.push(resident());
-    sizes.resize(3, 0);
-    if told(&seen, &sizes) { ExitCode::SUCCESS } else { ExitCode::FAILURE }
+    let plans = alone || plans_in_a_row(count, &mut random, &mut bench);
+    let legs = legs(count, &mut random, &mut bench);
+    ratio(&mut random);
+    if plans && legs { ExitCode::SUCCESS } else { ExitCode::FAILURE }
 }

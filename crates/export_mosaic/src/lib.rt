@@ -1,0 +1,140 @@
+// The C interface of a whole mosaic, thin over the proved libraries. `rt staticlib export_mosaic` makes the archive.
+//
+// The problem is declared as for a plan; its attitudes are not read. A cursor is five counts (legs answered, their runs; a refusal's number, else 0, its place and its
+// runs) and nine numbers (the answered legs' duration, and the momenta of eight wheels that the next leg starts with).
+ghost use mathlib.Core.Path.{_≡_};
+ghost use lib.ListN.{length};
+ghost use Rattle.planner.specs.Plans as Plans;
+ghost use Rattle.samples.specs.Rows as Rows;
+ghost use Rattle.mosaic.specs.Mosaics as Mosaics;
+ghost use Rattle.whole_mosaic.specs.Layout as Layout;
+ghost use Rattle.export.specs.Entries as Entries;
+ghost use Rattle.export_leaves.specs.Outcomes as Outcomes;
+ghost use Rattle.export_mosaic.specs.Cursors as Cursors;
+use common::Fate;
+use export::plans::put_planned;
+use export_problem::problem_of;
+use export_runs::paths::number_of;
+use export_runs::paths::place_of;
+use mosaic::Cursor;
+use mosaic::next;
+use problem::Momenta;
+use whole_mosaic::plan_mosaic;
+use whole_mosaic::quat_of;
+
+// How a cursor goes on: a refusal's number and place, or number 0.
+fn fate_of(number: usize, place: usize) -> Fate
+    ensures { λ r. ⌜ r ≡ Cursors.fate number place ⌝ }
+{
+    if number == 0 {
+        return Fate::Going;
+    }
+    Fate::Refused(number, place)
+}
+
+// The cursor of its counts and numbers, for so many wheels.
+fn cursor_of(wheels: usize, n: [usize; 5], s: [f64; 9]) -> Cursor
+    ensures { λ r. ⌜ r ≡ Cursors.cursor wheels n s ⌝ }
+{
+    let at = [s[1], s[2], s[3], s[4], s[5], s[6], s[7], s[8]];
+    let momenta = Momenta {
+        count: wheels,
+        at: at,
+    };
+    let fate = fate_of(n[2], n[3]);
+    Cursor {
+        index: n[0],
+        momenta: momenta,
+        duration: s[0],
+        runs: n[1],
+        fate: fate,
+        refused_runs: n[4],
+    }
+}
+
+// A cursor's counts and numbers, put into what is lent for them; a refusal's number, or 0.
+fn put_cursor(c: Cursor, counts: &mut [usize; 5], sums: &mut [f64; 9]) -> usize
+    ensures { λ r. ⌜ r ≡ Cursors.number c ⌝ }
+    ensures { λ _. ⌜ now (counts .exit) ≡ Cursors.counts c ⌝ }
+    ensures { λ _. ⌜ now (sums .exit) ≡ Cursors.sums c ⌝ }
+{
+    let fate = c.fate;
+    let momenta = c.momenta;
+    let m = momenta.at;
+    let number = number_of(fate);
+    let place = place_of(fate);
+    *counts = [c.index, c.runs, number, place, c.refused_runs];
+    *sums = [c.duration, m[0], m[1], m[2], m[3], m[4], m[5], m[6], m[7]];
+    number
+}
+
+// One leg, from one attitude to another: the cursor moves on, and the leg's answer is put into what is lent for it, as `slew_plan_numbers` does; the leg's refusal, or
+// 0. After a refusal the cursor stays, and that refusal's number is answered again, with 0 runs.
+#[no_mangle]
+pub extern "C" fn slew_mosaic_next(
+    c: &[usize; 11],
+    v: &[f64; 100],
+    b: &[f64; 37],
+    limited: bool,
+    from: &[f64; 4],
+    to: &[f64; 4],
+    cursor: &mut [usize; 5],
+    sums: &mut [f64; 9],
+    ws: &mut [f64],
+    counts: &mut [usize; 5],
+    duration: &mut f64,
+    max_defect: &mut f64,
+    z: &mut [f64; 193],
+    nodes: &mut [[f64; 22]; 17],
+    held: &mut [usize; 12],
+) -> usize
+    ensures { λ _. ⌜ now (cursor .exit) ≡ Cursors.counts ((Cursors.turn (now (c .entry)) (now (v .entry)) (now (b .entry)) limited (now (from .entry)) (now (to .entry)) (now (cursor .entry)) (now (sums .entry)) (length (now (ws .entry)))) .cursor) ⌝ }
+    ensures { λ _. ⌜ now (sums .exit) ≡ Cursors.sums ((Cursors.turn (now (c .entry)) (now (v .entry)) (now (b .entry)) limited (now (from .entry)) (now (to .entry)) (now (cursor .entry)) (now (sums .entry)) (length (now (ws .entry)))) .cursor) ⌝ }
+    ensures { λ _. ⌜ now (ws .exit) ≡ Plans.leaves ((Cursors.turn (now (c .entry)) (now (v .entry)) (now (b .entry)) limited (now (from .entry)) (now (to .entry)) (now (cursor .entry)) (now (sums .entry)) (length (now (ws .entry)))) .planned .runs) (now (ws .entry)) ⌝ }
+    ensures { λ r. ⌜ r ≡ Outcomes.number (Plans.answer (Cursors.turn (now (c .entry)) (now (v .entry)) (now (b .entry)) limited (now (from .entry)) (now (to .entry)) (now (cursor .entry)) (now (sums .entry)) (length (now (ws .entry))) .planned)) ⌝ }
+    ensures { λ _. ⌜ now (counts .exit) ≡ Entries.counts (Cursors.turn (now (c .entry)) (now (v .entry)) (now (b .entry)) limited (now (from .entry)) (now (to .entry)) (now (cursor .entry)) (now (sums .entry)) (length (now (ws .entry))) .planned) ⌝ }
+    ensures { λ _. ⌜ now (duration .exit) ≡ Cursors.turn (now (c .entry)) (now (v .entry)) (now (b .entry)) limited (now (from .entry)) (now (to .entry)) (now (cursor .entry)) (now (sums .entry)) (length (now (ws .entry))) .planned .path .duration ⌝ }
+    ensures { λ _. ⌜ now («max_defect» .exit) ≡ Cursors.turn (now (c .entry)) (now (v .entry)) (now (b .entry)) limited (now (from .entry)) (now (to .entry)) (now (cursor .entry)) (now (sums .entry)) (length (now (ws .entry))) .planned .path .«max_defect» ⌝ }
+    ensures { λ _. ⌜ now (z .exit) ≡ Cursors.turn (now (c .entry)) (now (v .entry)) (now (b .entry)) limited (now (from .entry)) (now (to .entry)) (now (cursor .entry)) (now (sums .entry)) (length (now (ws .entry))) .planned .path .z ⌝ }
+    ensures { λ _. ⌜ now (nodes .exit) ≡ Rows.rows (Cursors.turn (now (c .entry)) (now (v .entry)) (now (b .entry)) limited (now (from .entry)) (now (to .entry)) (now (cursor .entry)) (now (sums .entry)) (length (now (ws .entry))) .planned .path .nodes) ⌝ }
+    ensures { λ _. ⌜ now (held .exit) ≡ Cursors.turn (now (c .entry)) (now (v .entry)) (now (b .entry)) limited (now (from .entry)) (now (to .entry)) (now (cursor .entry)) (now (sums .entry)) (length (now (ws .entry))) .planned .path .held ⌝ }
+{
+    let p = problem_of(c, v, b, limited);
+    let at = cursor_of(c[0], *cursor, *sums);
+    let made = next(p, at, quat_of(*from), quat_of(*to), ws);
+    let moved = made.cursor;
+    let leg = made.planned;
+    put_cursor(moved, cursor, sums);
+    put_planned(leg, counts, duration, max_defect, z, nodes, held)
+}
+
+// The whole mosaic from the momenta of the problem: a refusal's number, or 0; the cursor after it; and in each lent list a row for each answered leg.
+#[no_mangle]
+pub extern "C" fn slew_mosaic(
+    c: &[usize; 11],
+    v: &[f64; 100],
+    b: &[f64; 37],
+    limited: bool,
+    tiles: &[[f64; 4]],
+    counts: &mut [[usize; 4]],
+    times: &mut [[f64; 2]],
+    decisions: &mut [[f64; 193]],
+    nodes: &mut [[[f64; 22]; 17]],
+    ws: &mut [f64],
+    cursor: &mut [usize; 5],
+    sums: &mut [f64; 9],
+) -> usize
+    ensures { λ r. ⌜ r ≡ Cursors.number (Cursors.whole (now (c .entry)) (now (v .entry)) (now (b .entry)) limited (now (tiles .entry)) (length (now (counts .entry))) (length (now (times .entry))) (length (now (decisions .entry))) (length (now (nodes .entry))) (length (now (ws .entry))) .cursor) ⌝ }
+    ensures { λ _. ⌜ now (cursor .exit) ≡ Cursors.counts (Cursors.whole (now (c .entry)) (now (v .entry)) (now (b .entry)) limited (now (tiles .entry)) (length (now (counts .entry))) (length (now (times .entry))) (length (now (decisions .entry))) (length (now (nodes .entry))) (length (now (ws .entry))) .cursor) ⌝ }
+    ensures { λ _. ⌜ now (sums .exit) ≡ Cursors.sums (Cursors.whole (now (c .entry)) (now (v .entry)) (now (b .entry)) limited (now (tiles .entry)) (length (now (counts .entry))) (length (now (times .entry))) (length (now (decisions .entry))) (length (now (nodes .entry))) (length (now (ws .entry))) .cursor) ⌝ }
+    ensures { λ _. ⌜ now (counts .exit) ≡ Layout.over Layout.counts (Cursors.whole (now (c .entry)) (now (v .entry)) (now (b .entry)) limited (now (tiles .entry)) (length (now (counts .entry))) (length (now (times .entry))) (length (now (decisions .entry))) (length (now (nodes .entry))) (length (now (ws .entry))) .legs) (now (counts .entry)) ⌝ }
+    ensures { λ _. ⌜ now (times .exit) ≡ Layout.over Layout.times (Cursors.whole (now (c .entry)) (now (v .entry)) (now (b .entry)) limited (now (tiles .entry)) (length (now (counts .entry))) (length (now (times .entry))) (length (now (decisions .entry))) (length (now (nodes .entry))) (length (now (ws .entry))) .legs) (now (times .entry)) ⌝ }
+    ensures { λ _. ⌜ now (decisions .exit) ≡ Layout.over Layout.decision (Cursors.whole (now (c .entry)) (now (v .entry)) (now (b .entry)) limited (now (tiles .entry)) (length (now (counts .entry))) (length (now (times .entry))) (length (now (decisions .entry))) (length (now (nodes .entry))) (length (now (ws .entry))) .legs) (now (decisions .entry)) ⌝ }
+    ensures { λ _. ⌜ now (nodes .exit) ≡ Layout.over Layout.nodes (Cursors.whole (now (c .entry)) (now (v .entry)) (now (b .entry)) limited (now (tiles .entry)) (length (now (counts .entry))) (length (now (times .entry))) (length (now (decisions .entry))) (length (now (nodes .entry))) (length (now (ws .entry))) .legs) (now (nodes .entry)) ⌝ }
+    ensures { λ _. ⌜ now (ws .exit) ≡ Cursors.leaves (Cursors.whole (now (c .entry)) (now (v .entry)) (now (b .entry)) limited (now (tiles .entry)) (length (now (counts .entry))) (length (now (times .entry))) (length (now (decisions .entry))) (length (now (nodes .entry))) (length (now (ws .entry))) .cursor) (now (ws .entry)) ⌝ }
+{
+    let p = problem_of(c, v, b, limited);
+    let m = p.momenta;
+    let made = plan_mosaic(p, m, tiles, counts, times, decisions, nodes, ws);
+    put_cursor(made, cursor, sums)
+}

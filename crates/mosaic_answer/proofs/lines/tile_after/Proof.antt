@@ -1,0 +1,15 @@
+-- `mosaic_answer::lines::tile_after` meets its contract. Assumes nothing.
+use native.Mathlib.Omega.{arith}
+use mathlib.Core.Path.{sym, _∙_}
+use lib.ListN.{List·getD-eq-default}
+use borrow.Author.Needs.{needs}
+use Rattle.mosaic_answer.proofs.lines.tile_after.Statement.{statement}
+use Rattle.mosaic_answer.proofs.lines.tile_after.Tie as tie
+
+returns-2 : tie.Need-returns-2
+returns-2 c =
+    let tiles = c .before .before .args .tiles in
+    c .tile-at2 .ensures ∙ List·getD-eq-default tiles _ (omega arith) ∙ sym (List·getD-eq-default tiles _ (omega (arith, c .before .if1 .left)))
+
+pub tile-after-spec : {M : Type 1} → statement M
+tile-after-spec = tie.close (tie.spec (λ c. omega arith) (λ c κs. search needs) (λ c. search needs) (λ c κs. search needs) returns-2)

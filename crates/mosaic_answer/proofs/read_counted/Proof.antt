@@ -1,0 +1,28 @@
+-- `mosaic_answer::read_counted` meets its contract. Assumes nothing.
+use mathlib.Core.Path.{_∙_}
+use borrow.Author.Needs.{needs}
+use Rattle.mosaic_answer.specs.MosaicAnswers.{counted}
+use Rattle.mosaic_answer.proofs.read_counted.Statement.{statement}
+use Rattle.mosaic_answer.proofs.read_counted.Tie as tie
+
+returns : tie.Need-returns
+unfolding counted
+returns c = rw (← c .before .before .read-mosaic .ensures, c .enum-told .given .1)
+
+returns-2 : tie.Need-returns-2
+unfolding counted
+returns-2 c =
+    let e = c .before .before in
+    rw (← e .before .before .read-mosaic .ensures, e .enum-told2 .given .1) (rw (c .before .check-count .ensures) at (c .with-fate .ensures))
+
+pub read-counted-spec : {M : Type 1} → statement M
+read-counted-spec =
+    tie.close
+    (tie.spec
+    (λ c κs. search needs)
+    (λ c. search needs)
+    (λ c. search needs)
+    (λ c κs. search needs)
+    (λ c κs. search needs)
+    returns
+    returns-2)

@@ -1,0 +1,84 @@
+-- What is written of a leg, in the code's steps, and of the whole. Assumes nothing.
+use Prim.Native.Nat.{ℕ, _+_, _≤_}
+use native.Mathlib.Omega.{arith}
+use mathlib.Core.Path.{_≡_, refl}
+use mathlib.Core.Bool.{true}
+use mathlib.Core.List.{List, []}
+use lib.Ieee.{Float}
+use Rattle.common.specs.Iter.{iter-none, iter-next, iter-stays}
+use Rattle.common.specs.declared.Fate.{Fate}
+use Rattle.common.specs.declared.Fate.the-variants.{Going, Refused}
+use Rattle.geom.specs.declared.Quat.{Quat}
+use Rattle.planner.specs.Plans as Plans
+use Rattle.text_writer.specs.Puts.{Puts}
+use Rattle.text_writer.specs.Texts as Texts
+use Rattle.plan_text.specs.PlanTexts.{Prints}
+use Rattle.plan_text.specs.declared.Told.{Told}
+use Rattle.mosaic.specs.Mosaics as Mosaics
+use Rattle.mosaic.specs.Mosaics.{Planner}
+use Rattle.mosaic.specs.Turns.{Advances}
+use Rattle.mosaic.specs.declared.Cursor.{Cursor}
+use Rattle.mosaic.specs.declared.Advanced.{Advanced}
+use Rattle.mosaic_text.specs.TileLines.{tileAt}
+use Rattle.mosaic_text.specs.declared.ReadMosaic.{ReadMosaic}
+use Rattle.mosaic_answer.specs.LegLines.{heading}
+use Rattle.mosaic_answer.specs.MosaicAnswers.{counted, after, legText, sentenceBy, cursorAt, isRefused, legBy, legAt, legsText, answer, slewMosaic, Writes}
+
+-- a leg that was planned, and its three texts
+module _ (plan : Planner) (m : ReadMosaic) (c : Cursor) where
+  pub leg-written : {from to : Quat} {a : Advanced} {t : Told} {ws ws′ : List Float} {headed out said headed′ out′ said′ : List ℕ} {i j : ℕ}
+      → from ≡ tileAt (m .tiles) (c .index)
+      → to ≡ tileAt (m .tiles) (c .index + 1)
+      → Advances plan (m .problem) c from to ws a ws′
+      → Puts headed 0 (heading (c .index)) 27 headed′ i
+      → Prints (a .planned) out t out′
+      → Puts said 0 (sentenceBy (t .fate)) 212 said′ j
+      → Writes plan m c ws headed out said (record { cursor = a .cursor; heading = i; bytes = t .bytes; said = j }) ws′ headed′ out′ said′
+  leg-written {from} {to} {a} {t} e f d h p s =
+      let n = rw (e, f) at (d .planned) in
+      let g : t .fate ≡ a .planned .fate = rw (p .is) in
+      record {
+        moves = rw (e, f) at (d .cursor);
+        heads = h;
+        prints = rw n at (p .puts);
+        says = rw (g, n) at s;
+        left = rw n at (d .left);
+      }
+
+-- ---- one leg after another
+module _ (plan : Planner) (m : ReadMosaic) where
+  pub cursor-first : Mosaics.start (m .problem .momenta) ≡ cursorAt plan m 0
+  unfolding cursorAt
+  cursor-first = iter-none _ _
+
+  pub cursor-next : (k : ℕ) {c d : Cursor} → c ≡ cursorAt plan m k → d ≡ after plan m c → d ≡ cursorAt plan m (k + 1)
+  unfolding cursorAt
+  cursor-next k e f = iter-next _ _ k e f
+
+  stays : (c : Cursor) (e : Fate) → c .fate ≡ e → isRefused e ≡ true → after plan m c ≡ c
+  stays c (Refused number place) f h = rw f
+  stays c Going f h = let z : _≡_ {A = ℕ} 0 1 = cc in absurd (omega arith)
+
+  -- after a refused leg nothing changes
+  pub cursor-stays : (k n : ℕ) {c : Cursor} → k ≤ n → c ≡ cursorAt plan m k → isRefused (c .fate) ≡ true → c ≡ cursorAt plan m n
+  unfolding cursorAt
+  cursor-stays k n {c} l e h = iter-stays (λ _ d. after plan m d) (Mosaics.start (m .problem .momenta)) k n l e (λ j. stays c (c .fate) refl h)
+
+  -- and nothing more is printed of legs
+  pub none-after : (k : ℕ) → isRefused (cursorAt plan m k .fate) ≡ true → legAt plan m k ≡ []
+  unfolding legAt
+  none-after k h = go (cursorAt plan m k .fate) h
+    where
+      go : (e : Fate) → isRefused e ≡ true → legBy e (legText plan m (cursorAt plan m k)) ≡ []
+      go (Refused number place) f = refl
+      go Going f = let z : _≡_ {A = ℕ} 0 1 = cc in absurd (omega arith)
+
+-- ---- the whole: a refusal of the text alone, or the legs in turn and the sums
+module _ (text : List ℕ) where
+  pub slew-refused : {n k : ℕ} → counted text .fate ≡ Refused n k → slewMosaic text ≡ Texts.refused n k 0
+  unfolding answer
+  slew-refused e = rw e
+
+  pub slew-legs : counted text .fate ≡ Going → slewMosaic text ≡ legsText (λ p. Plans.plan p 8000) (counted text)
+  unfolding answer
+  slew-legs e = rw e

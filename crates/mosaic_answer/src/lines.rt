@@ -1,0 +1,73 @@
+// What stands around the legs of a mosaic: a heading before each, the sums after them, and a sentence for a refusal.
+ghost use mathlib.Core.Path.{_≡_};
+ghost use Prim.Native.Nat.{_+_};
+ghost use Rattle.text_writer.specs.Puts.{Puts};
+ghost use Rattle.mosaic_text.specs.TileLines as TileLines;
+ghost use Rattle.mosaic_answer.specs.LegLines as LegLines;
+use geom::Quat;
+use refusal_text::explain;
+use text_writer::forms::put_counted;
+use text_writer::forms::put_duration;
+use text_writer::put::put_all;
+
+// The line before leg number k, from 0.
+pub fn write_heading(out: &mut [u8], k: usize) -> usize
+    ensures { λ r. ⌜ Puts (now (out .entry)) 0 (LegLines.heading k) 27 (now (out .exit)) r ⌝ }
+{
+    let i = put_counted(out, 0, b"(leg ", k);
+    put_all(out, i, b"\n")
+}
+
+// The sums of the answered legs: how many they are, their durations, their runs.
+pub fn write_total(out: &mut [u8], legs: usize, duration: f64, runs: usize) -> usize
+    ensures { λ r. ⌜ Puts (now (out .entry)) 0 (LegLines.total legs duration runs) 95 (now (out .exit)) r ⌝ }
+{
+    let i = put_all(out, 0, b"(total");
+    let j = put_counted(out, i, b"\n (legs ", legs);
+    let k = put_duration(out, j, duration);
+    let l = put_counted(out, k, b"\n (runs ", runs);
+    put_all(out, l, b")\n")
+}
+
+// What a refusal means, in a sentence: for a text that is too long with a mosaic's own limits.
+pub fn say(number: usize, place: usize, said: &mut [u8]) -> usize
+    ensures { λ r. ⌜ Puts (now (said .entry)) 0 (LegLines.sentence number place) 212 (now (said .exit)) r ⌝ }
+{
+    if number != 21 {
+        return explain(number, place, said);
+    }
+    if place != 0 {
+        return explain(number, place, said);
+    }
+    put_all(
+        said,
+        0,
+        b"The text is longer than 16,384 bytes, or its problem's than 4,096: shorten it.\n",
+    )
+}
+
+// Tile number k; past the sixty-fourth one of NaNs.
+pub fn tile_at(tiles: [Quat; 64], k: usize) -> Quat
+    ensures { λ r. ⌜ r ≡ TileLines.tileAt tiles k ⌝ }
+{
+    if k < 64 {
+        return tiles[k];
+    }
+    let none = 0.0 / 0.0;
+    Quat {
+        w: none,
+        x: none,
+        y: none,
+        z: none,
+    }
+}
+
+// The tile after number k.
+pub fn tile_after(tiles: [Quat; 64], k: usize) -> Quat
+    ensures { λ r. ⌜ r ≡ TileLines.tileAt tiles (k + 1) ⌝ }
+{
+    if k < 64 {
+        return tile_at(tiles, k + 1);
+    }
+    tile_at(tiles, 64)
+}

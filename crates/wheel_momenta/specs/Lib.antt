@@ -1,0 +1,2 @@
+-- The wheels' momenta from one slew to the next.
+pub mod Successive
