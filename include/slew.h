@@ -1,6 +1,7 @@
 /* The slew planner, as a controller calls it from C or C++ on x86-64. Link target/staticlib/libexport.a, which `rt staticlib export` writes;
  * the functions below "Rooms with moving air" are in libexport_tools.a, which `rt staticlib export_tools` writes, those below "Whole numbers for the drive board" in
- * libexport_board.a, which `rt staticlib export_board` writes, those below "A whole mosaic" in libexport_mosaic.a, which `rt staticlib export_mosaic` writes.
+ * libexport_board.a, which `rt staticlib export_board` writes, those below "A whole mosaic" in libexport_mosaic.a, which `rt staticlib export_mosaic` writes, those below
+ * "Ask, then commit" in libexport_preview.a, which `rt staticlib export_preview` writes.
  *
  * Every function here is proved to answer what the definitions say, for every value of its arguments, NaN and infinities included, and to end. Nothing is
  * allocated, nothing is kept between calls, nothing is read or written but what is lent: calls from several threads need only different buffers.
@@ -9,7 +10,7 @@
  * overlaps nothing else that is lent; floats round to nearest and subnormals are kept, as in every program that has not changed this; the thread has
  * 256 kB of stack (over the examples a call used up to 107 kB).
  *
- * A refusal is its number of 1 to 25, 27 or 28, with a place and the forward runs begun (README.md, "Refusals"); 0 is no refusal. */
+ * A refusal is its number of 1 to 28, with a place and the forward runs begun (README.md, "Refusals"); 0 is no refusal. */
 #ifndef SLEW_H
 #define SLEW_H
 
@@ -138,6 +139,36 @@ size_t slew_mosaic(const size_t counts[11], const double actuators[100], const d
                    double (*decisions)[193], size_t decisions_count, double (*nodes)[374], size_t nodes_count,
                    double *workspace, size_t workspace_count,
                    size_t cursor[5], double sums[9]);
+
+/* Ask, then commit: a slew is previewed from the wheel momenta on record, and started later if the record still has the same bits; in libexport_preview.a.
+ *
+ * The record is the caller's: a count of wheels and eight momenta, of which those past the count are neither read nor compared. It goes into each call and comes back from a start. A preview is what its call leaves with the
+ * caller: the number returned, told, nodes, and the momenta that it began from. Any number of them can be held at a time; nothing is kept here. */
+
+/* As slew_plan_numbers, with the momenta on record in the place of body's (29 to 36), which are not read. A wheel that only the record or the problem has is refusal 22. began_wheels and began get the
+ * record's count and its eight numbers, beside a refusal too. The record stays. */
+size_t slew_preview_numbers(const size_t counts[11], const double actuators[100], const double body[37], bool limited,
+                            size_t record_wheels, const double record[8],
+                            double *workspace, size_t workspace_count,
+                            size_t told[5], double *duration, double *max_defect, double decision[193], double nodes[374], size_t held[12],
+                            size_t *began_wheels, double began[8]);
+
+/* The same with a caller's seed, as slew_plan_from_numbers. */
+size_t slew_preview_from_numbers(const size_t counts[11], const double actuators[100], const double body[37], bool limited,
+                                 size_t record_wheels, const double record[8],
+                                 double seed_duration, const double *rates, size_t rates_count, const double *torques, size_t torques_count,
+                                 double *workspace, size_t workspace_count,
+                                 size_t told[5], double *duration, double *max_defect, double decision[193], double nodes[374], size_t held[12],
+                                 size_t *began_wheels, double began[8]);
+
+/* Starts a preview. refusal: the number that it returned; began_wheels, began: the momenta that it began from; path_wheels: told[3]; nodes: its nodes.
+ *
+ * Returns 0, and the record is the path's last momenta: those of node 16, path_wheels of them. Or returns 26, and the record is as it was: a wheel's momentum has other bits than the preview began from (-0.0 differs
+ * from 0.0; all NaNs are one), or only one of the two has the wheel. `place` gets the first such wheel, else 0. A preview that was refused has no path to start: 26 at place 0. A count above 8 is 26 at place 8
+ * at the latest. */
+size_t slew_start(size_t *record_wheels, double record[8],
+                  size_t refusal, size_t began_wheels, const double began[8], size_t path_wheels, const double nodes[374],
+                  size_t *place);
 
 /* Whole numbers for the drive board: 32-bit signed numbers of a fixed unit, in libexport_board.a.
  *

@@ -167,7 +167,7 @@ class Answers(unittest.TestCase):
         self.assertRaises(slewtext.Fault, slewtext.read_path, "")
 
     def test_every_refusal_has_a_sentence(self):
-        for number in (*range(1, 26), 27, 28):
+        for number in range(1, 29):
             for place in (0, 1, 2, 9, 16, 20):
                 said = slewtext.explain(f"(refused\n (number {number})\n (place {place})\n (runs 5))\n")
                 self.assertTrue(said.startswith(f"Refusal {number}, place {place}, after 5 forward runs. ") and said.endswith(".\n"))
@@ -175,6 +175,89 @@ class Answers(unittest.TestCase):
 
     def test_a_path_is_explained(self):
         self.assertEqual(slewtext.explain(path_text()), "A path of 1 s, found in 1 iterations and 3 forward runs.\n")
+
+
+class Records(unittest.TestCase):
+    """Ask, then commit: a record file, previews of it, starts."""
+
+    def path(self, began, ended):
+        lines = path_text(len(began)).splitlines()
+        node = lambda momenta: " (node " + " ".join(["0", "3FF"] + ["0"] * 12 + momenta) + ")"
+        lines[20], lines[36] = node(began), node(ended) + ")"
+        return "\n".join(lines) + "\n"
+
+    def start(self, record, answer):
+        with tempfile.TemporaryDirectory() as folder:
+            name = os.path.join(folder, "record")
+            with open(name, "w", encoding="ascii") as file:
+                file.write(record)
+            done = run("start", name, "-", text=answer)
+            self.assertEqual(os.listdir(folder), ["record"])
+            with open(name, encoding="ascii") as file:
+                return done, file.read()
+
+    def test_a_start_replaces_the_record(self):
+        done, after = self.start("(record\n (momenta 3FF BFE))\n", self.path(["3FF", "BFE"], ["4", "8"]))
+        self.assertEqual((done.returncode, after), (0, "(record\n (momenta 4 8))\n"))
+        self.assertIn("Started.", done.stdout)
+
+    def test_a_record_that_differs(self):
+        for record, began, wheel in (("3FF BFE", ["3FF", "BFE1"], 1), ("8 0", ["0", "0"], 0), ("0 8", ["0", "0"], 1), ("3FF", ["3FF", "0"], 1), ("3FF 0 0", ["3FF", "0"], 2), ("", ["0"], 0), ("7FF8", ["7FF"], 0)):
+            text = f"(record\n (momenta {record})".replace(" )", ")") + ")\n"
+            done, after = self.start(text, self.path(began, began))
+            self.assertEqual((done.returncode, after), (1, text))
+            self.assertIn(f"Refusal 26, place {wheel}.", done.stderr)
+
+    def test_every_nan_is_one(self):
+        done, after = self.start("(record\n (momenta 7FF1))\n", self.path(["FFF8"], ["0"]))
+        self.assertEqual((done.returncode, after), (0, "(record\n (momenta 0))\n"))
+
+    def test_of_starts_at_a_time_one_is_answered(self):
+        with tempfile.TemporaryDirectory() as folder:
+            record, answer = os.path.join(folder, "record"), os.path.join(folder, "answer")
+            for name, text in ((record, "(record\n (momenta 0))\n"), (answer, self.path(["0"], ["3FF"]))):
+                with open(name, "w", encoding="ascii") as file:
+                    file.write(text)
+            starts = [subprocess.Popen([sys.executable, TOOL, "start", record, answer], stdout=subprocess.DEVNULL, stderr=subprocess.DEVNULL) for _ in range(6)]
+            self.assertEqual(sorted(each.wait() for each in starts), [0, 1, 1, 1, 1, 1])
+
+    def test_a_refused_preview_is_not_started(self):
+        record = "(record\n (momenta 0))\n"
+        done, after = self.start(record, "(refused\n (number 7)\n (place 2)\n (runs 0))\n")
+        self.assertEqual((done.returncode, after), (1, record))
+        self.assertIn("Refusal 26, place 0.", done.stderr)
+
+    def test_bad_records(self):
+        for record in ("", "(record)\n", "(record\n (momenta 3ff))\n", "(record\n (momenta" + " 0" * 9 + "))\n", "(path)\n"):
+            done, after = self.start(record, self.path(["0"], ["0"]))
+            self.assertEqual((done.returncode, after), (1, record))
+            self.assertEqual(len(done.stderr.splitlines()), 1)
+        self.assertEqual(run("start", "/nowhere/record", "-", text=self.path(["0"], ["0"])).returncode, 1)
+
+    def test_a_preview_of_the_record(self):
+        wheel = {"axis": [1, 0, 0], "torque_nm": 1, "momentum_nms": 2}
+        with tempfile.TemporaryDirectory() as folder:
+            problem, record = os.path.join(folder, "problem.json"), os.path.join(folder, "record")
+            with open(problem, "w", encoding="ascii") as file:
+                json.dump({**QUARTER, "wheel": [{**wheel, "start_nms": 0.5}, wheel]}, file)
+            first = run("record", problem).stdout
+            self.assertEqual(first, "(record\n (momenta 3FE 0))\n")
+            for text, line in ((first, " (momenta 3FE 0)"), ("(record\n (momenta 8 3FF))\n", " (momenta 8 3FF)")):
+                with open(record, "w", encoding="ascii") as file:
+                    file.write(text)
+                self.assertEqual(run("problem", problem, "--record", record).stdout.splitlines()[8], line)
+            with open(record, "w", encoding="ascii") as file:
+                file.write("(record\n (momenta 0))\n")
+            self.assertIn("Refusal 22, place 1", run("problem", problem, "--record", record).stderr)
+
+    def test_every_word_of_the_stored_paths(self):
+        with open(os.path.join(slewtext.ROOT, "examples", "turning-wheels.answer"), encoding="ascii") as file:
+            answer = file.read()
+        nodes = slewtext.read_path(answer)["nodes"]
+        done, after = self.start(slewtext.record_text(nodes[0][14:]), answer)
+        self.assertEqual((done.returncode, after), (0, slewtext.record_text(nodes[16][14:])))
+        done, again = self.start(after, answer)
+        self.assertEqual((done.returncode, again), (1, after))
 
 
 class Board(unittest.TestCase):

@@ -100,9 +100,10 @@ later number place =
     (cond (eqb number 23) (bytes "A mosaic has 2 to 64 attitudes: give more of them, or cut it at a tile and plan both parts.\n")
     (cond (eqb number 24) (tell (bytes "Sample ") place (bytes ": a part does not fit the drive board's 32 bits: rates, torques and momenta must be below 2,048 in size.\n"))
     (cond (eqb number 25) (bytes "There is no tile, or there are more than 10, or a time is outside 1 to 10,000,000 milliseconds.\n")
+    (cond (eqb number 26) (tell (bytes "Wheel ") place (bytes ": the momenta on record are not those that the preview began from, or it was refused: preview again.\n"))
     (cond (eqb number 27) (bytes "Outside the room: the angle goes from -64 to 64, the rate from -8 to 8; of a reply the choice from -2 to 2, the turns left from 1 to 64.\n")
     (cond (eqb number 28) (bytes "The column has more than 4,096 numbers, the bytes are not 8 for each, or the output is too short.\n")
-    (bytes "No refusal has this number.\n"))))))
+    (bytes "No refusal has this number.\n")))))))
 
 -- what a refusal means: what was wrong, with which item, and what to change
 unfoldable pub explain : ℕ → ℕ → List ℕ

@@ -306,6 +306,12 @@ fn later(number: usize, place: usize, out: &mut [u8]) -> usize
             0,
             b"There is no tile, or there are more than 10, or a time is outside 1 to 10,000,000 milliseconds.\n",
         ),
+        26 => tell(
+            out,
+            b"Wheel ",
+            place,
+            b": the momenta on record are not those that the preview began from, or it was refused: preview again.\n",
+        ),
         27 => put_all(
             out,
             0,

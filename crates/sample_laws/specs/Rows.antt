@@ -1,4 +1,4 @@
--- A path's rows by its nodes: the time and the rate of row k are node k's. Assumes nothing.
+-- A path's rows by its nodes: row k is node k's, with its time and its rate. Assumes nothing.
 use mathlib.Core.Path.{_≡_, ap, _∙_}
 use mathlib.Core.List.{List, []}
 use Prim.Native.Nat.{ℕ, suc, _<_}
@@ -29,7 +29,7 @@ fill nodes n h l s =
           (λ k b. getD-set-other l n k r [] (λ e. omega (arith, e, b)) ∙ s .done k b);
     }
 
-row-is : (nodes : List Node) (k : ℕ) → k < 17 → Vec.row (rows nodes) k ≡ row (nodeAt nodes k)
+pub row-is : (nodes : List Node) (k : ℕ) → k < 17 → Vec.row (rows nodes) k ≡ row (nodeAt nodes k)
 unfolding rows
 row-is nodes =
     below-turns (Filled nodes) (rowTurn nodes) (replicate 17 (replicate 22 Vec.plusZero)) 17 (fill nodes)

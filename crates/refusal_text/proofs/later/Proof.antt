@@ -26,18 +26,22 @@ returns-4 c = let e : c .before .before .before .before .before .before .before 
 
 returns-5 : tie.Need-returns-5
 unfolding later
-returns-5 c = let e : c .before .before .before .before .before .before .before .args .number ≡ 27 = c .before .before .before .before .before .match .keys5 in rw e (puts-most (omega arith) (c .before .before .put-all3 .ensures))
+returns-5 c = let e : c .before .before .before .before .before .before .before .before .args .number ≡ 26 = c .before .before .before .before .before .before .match .keys5 in rw e (c .before .before .tell3 .ensures)
 
 returns-6 : tie.Need-returns-6
 unfolding later
-returns-6 c = let e : c .before .before .before .before .before .before .before .args .number ≡ 28 = c .before .before .before .before .before .match .keys6 in rw e (puts-most (omega arith) (c .before .before .put-all4 .ensures))
+returns-6 c = let e : c .before .before .before .before .before .before .before .args .number ≡ 27 = c .before .before .before .before .before .match .keys6 in rw e (puts-most (omega arith) (c .before .before .put-all3 .ensures))
 
 returns-7 : tie.Need-returns-7
 unfolding later
-returns-7 c =
+returns-7 c = let e : c .before .before .before .before .before .before .before .args .number ≡ 28 = c .before .before .before .before .before .match .keys7 in rw e (puts-most (omega arith) (c .before .before .put-all4 .ensures))
+
+returns-8 : tie.Need-returns-8
+unfolding later
+returns-8 c =
     let m = c .before .before .before .before .before .match .rest in
     let n = c .before .before .before .before .before .before .before .args .number in
-    simp (ne-eqb n 22 (m .0 .0 .0 .0 .0 .1), ne-eqb n 23 (m .0 .0 .0 .0 .1), ne-eqb n 24 (m .0 .0 .0 .1), ne-eqb n 25 (m .0 .0 .1), ne-eqb n 27 (m .0 .1), ne-eqb n 28 (m .1)) (puts-most (omega arith) (c .before .before .put-all5 .ensures))
+    simp (ne-eqb n 22 (m .0 .0 .0 .0 .0 .0 .1), ne-eqb n 23 (m .0 .0 .0 .0 .0 .1), ne-eqb n 24 (m .0 .0 .0 .0 .1), ne-eqb n 25 (m .0 .0 .0 .1), ne-eqb n 26 (m .0 .0 .1), ne-eqb n 27 (m .0 .1), ne-eqb n 28 (m .1)) (puts-most (omega arith) (c .before .before .put-all5 .ensures))
 
 pub later-spec : {M : Type 1} → statement M
 later-spec =
@@ -47,6 +51,7 @@ later-spec =
     (λ c. search needs) (λ c κs. search needs)
     (λ c. search needs) (λ c. search needs) (λ c κs. search needs)
     (λ c. search needs) (λ c κs. search needs)
+    (λ c. search needs) (λ c. search needs) (λ c κs. search needs)
     (λ c. search needs) (λ c κs. search needs)
     (λ c. search needs) (λ c κs. search needs)
     (λ c. search needs) (λ c κs. search needs)
@@ -56,4 +61,5 @@ later-spec =
     (λ c. search needs) returns-4
     (λ c. search needs) returns-5
     (λ c. search needs) returns-6
-    (λ c. search needs) returns-7)
+    (λ c. search needs) returns-7
+    (λ c. search needs) returns-8)

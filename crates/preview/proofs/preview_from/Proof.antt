@@ -1,0 +1,13 @@
+-- `preview::preview_from` meets its contract, by the contracts of what it calls. Assumes nothing.
+use borrow.Author.Needs.{needs}
+use Rattle.preview.proofs.preview_from.Statement.{statement}
+use Rattle.preview.proofs.preview_from.Tie as tie
+
+returns : tie.Need-returns
+returns c =
+    let turning = c .before .before .before .before .with-momenta .ensures in
+    let planned = c .before .before .plan-from .ensures in
+    (rw (planned .0, turning), (planned .1 .0, rw turning at (planned .1 .1)))
+
+pub preview-from-spec : {M : Type 1} → statement M
+preview-from-spec = tie.close (tie.spec (λ c κs. search needs) (λ c κs. search needs) (λ c. search needs) returns)

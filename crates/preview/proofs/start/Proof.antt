@@ -1,0 +1,10 @@
+-- `preview::start` meets its contract, by the contracts of what it calls. Assumes nothing.
+use borrow.Author.Needs.{needs}
+use Rattle.preview.proofs.start.Statement.{statement}
+use Rattle.preview.proofs.start.Tie as tie
+
+returns : tie.Need-returns
+returns c = rw (c .commit .ensures, c .before .answered .ensures, c .before .before .last-momenta .ensures)
+
+pub start-spec : {M : Type 1} → statement M
+start-spec = tie.close (tie.spec (λ c κs. search needs) (λ c κs. search needs) (λ c κs. search needs) returns)

@@ -1,0 +1,2 @@
+-- Ask, then commit: definitions.
+pub mod Previews
