@@ -211,6 +211,17 @@ size_t slew_encode_planes(const uint64_t *column, size_t column_count, uint8_t *
  * where bytes_count is not 8 times a count up to SLEW_COLUMN_MOST or `out` is shorter than that count, and `out` is as it was. What stood behind the column stays. */
 size_t slew_decode_planes(const uint8_t *bytes, size_t bytes_count, uint64_t *out, size_t out_count);
 
+/* One text for one problem: the canonical text of a problem's text, which two texts share exactly when they are the same problem (README.md, "A problem's text").
+ *
+ * out: SLEW_TEXT_MOST bytes or more. The canonical text is never longer than its source.
+ * bytes: how many bytes it has; 0 where the text is refused.
+ * place: the place of a refusal; 0 where there is none.
+ *
+ * Returns 0; or 21 with the first line that is wrong or missing, from 1, and 0 of a text over SLEW_TEXT_MOST bytes; or 1 with 0 for more than 8 wheels and 1 for more
+ * than 12 thrusters; or 99 where fewer bytes are lent. `out` is then as it was; else what stood behind the text stays. */
+#define SLEW_TEXT_MOST 4096
+size_t slew_canonical(const uint8_t *text, size_t text_bytes, uint8_t *out, size_t out_bytes, size_t *bytes, size_t *place);
+
 /* An order for the tiles of a mosaic, tile 0 first.
  *
  * times: whole milliseconds from each tile to each other, row after row, tiles x tiles of them; each is 1 to 10,000,000, but what stands from a tile to itself is

@@ -8,6 +8,7 @@ import math
 import json
 import os
 import random
+import re
 import struct
 import subprocess
 import sys
@@ -53,8 +54,13 @@ class Floats(unittest.TestCase):
             self.assertTrue(x == y and math.copysign(1, x) == math.copysign(1, y) or math.isnan(x) and math.isnan(y))
 
     def test_wrong_words(self):
-        for word in ("", "3ff", "3FG", "0" * 17, "-1"):
+        for word in ("", "3fg", "3FG", "0" * 17, "-1"):
             self.assertRaises(slewtext.Fault, slewtext.from_hex, word)
+
+    def test_digits_in_either_case_and_zeros(self):
+        for word in ("3FE8", "3fe8", "3Fe80", "3fe8000000000000"):
+            self.assertEqual(slewtext.from_hex(word), 0.75)
+        self.assertEqual(math.copysign(1, slewtext.from_hex("80")), -1)
 
 
 class Problems(unittest.TestCase):
@@ -66,6 +72,25 @@ class Problems(unittest.TestCase):
         self.assertEqual(lines[5], " (slew none)")
         self.assertEqual(lines[8], " (momenta)")
         self.assertEqual(lines[-1], " (actuators))")
+
+    def test_what_is_written_is_canonical(self):
+        float_word = "(0|[0-9A-F]{0,15}[1-9A-F])"
+        lines = re.compile(f"(problem| \\([a-z0-9]+( {float_word}| none)*\\)| \\(actuators|  \\((wheel|thruster|cmg)( {float_word})+( none)?\\)(\\)\\))?)")
+        folder = os.path.join(slewtext.ROOT, "examples")
+        for name in sorted(os.listdir(folder)):
+            if name.endswith(".toml") and os.path.exists(os.path.join(folder, name.removesuffix(".toml") + ".slew")):
+                text = slewtext.read(os.path.join(folder, name.removesuffix(".toml") + ".slew"))
+                written = slewtext.problem_text(slewtext.declared(os.path.join(folder, name)))
+                self.assertEqual(text, written)
+                self.assertTrue(text.startswith("(problem\n") and text.endswith("))\n"))
+                for line in text.splitlines()[1:-1]:
+                    self.assertTrue(lines.fullmatch(line), line)
+
+    def test_a_text_written_otherwise_is_the_same_problem(self):
+        text = slewtext.problem_text(QUARTER | {"slew_limit_deg_s": 20, "wheel": [{"axis": [1, 0, 0], "torque_nm": 0.5, "momentum_nms": 4}]})
+        other = text.replace(" 3FE)", "  3fe00)").replace(" 0 ", "   000 ")
+        self.assertNotEqual(text, other)
+        self.assertEqual(slewtext.read_problem(text), slewtext.read_problem(other))
 
     def test_actuators_in_order(self):
         wheel = {"axis": [1, 0, 0], "torque_nm": 0.5, "momentum_nms": 4}

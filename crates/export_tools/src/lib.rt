@@ -5,3 +5,4 @@
 pub mod order;
 pub mod planes;
 pub mod region;
+pub mod texts;

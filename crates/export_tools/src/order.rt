@@ -6,7 +6,7 @@ ghost use Rattle.export_tools.specs.OrderEntries as OrderEntries;
 use common::Fate;
 
 // A refusal's number, or 0.
-fn number_of(f: Fate) -> usize
+pub fn number_of(f: Fate) -> usize
     ensures { λ r. ⌜ r ≡ OrderEntries.number f ⌝ }
 {
     match f {

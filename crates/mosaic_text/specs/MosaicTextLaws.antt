@@ -11,8 +11,9 @@ use borrow.Author.Tests.{not-true, not-false}
 use Rattle.common.specs.Iter.{iter, iter-stays}
 use Rattle.geom.specs.declared.Quat.{Quat}
 use Rattle.text.specs.Bytes.{bytes}
+use Rattle.text.specs.Forms.{loose}
 use Rattle.text.specs.Lines.{isAt, lineAt}
-use Rattle.text.specs.Reader.{quatOf}
+use Rattle.problem_text.specs.Reader.{quatOf}
 use Rattle.text.specs.declared.lines.Row.{Row}
 use Rattle.mosaic_text.specs.MosaicTexts.{endFrom, lineTurn, sameAttitude}
 use Rattle.mosaic_text.specs.TileLines.{pick, closed, turn, begun, tileForm, withTile, wrongLine, nextLine, tilesAt}
@@ -74,7 +75,7 @@ turn-goes s k c d h e = simp h e
 -- a line has one tile at most
 pub tiles-low : (s : List ℕ) (c : Tiles) (k : ℕ) → c .count ≤ k → nextLine s c .count ≤ k + 1
 unfolding nextLine withTile
-tiles-low s c k h = go (isAt s (c .at) (bytes ")\n")) (lineAt s (c .at) tileForm)
+tiles-low s c k h = go (isAt s (c .at) (bytes ")\n")) (lineAt loose s (c .at) tileForm)
   where
     by : (r : Row) (q : Bool) → pick q (record { more = true; right = false; at = r .at; count = c .count + 1; tiles = set (c .tiles) (c .count) (quatOf r) }) (wrongLine c) .count ≤ k + 1
     by r true = omega arith

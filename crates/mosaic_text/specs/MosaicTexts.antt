@@ -14,8 +14,8 @@ use Rattle.geom.specs.declared.Quat.{Quat}
 use Rattle.problem.specs.declared.Problem.{Problem}
 use Rattle.text.specs.Bytes.{bytes}
 use Rattle.text.specs.Lines.{isAt}
-use Rattle.text.specs.Reader.{readProblem}
-use Rattle.text.specs.declared.Read.{Read}
+use Rattle.problem_text.specs.Reader.{readProblem}
+use Rattle.problem_text.specs.declared.Read.{Read}
 use Rattle.mosaic_text.specs.TileLines.{noTile, tileAt, tilesAt}
 use Rattle.mosaic_text.specs.declared.ReadMosaic.{ReadMosaic}
 use Rattle.mosaic_text.specs.declared.tiles.Tiles.{Tiles}

@@ -9,8 +9,9 @@ use Rattle.common.specs.Iter.{iter}
 use Rattle.geom.specs.Vec.{plusZero}
 use Rattle.geom.specs.declared.Quat.{Quat}
 use Rattle.text.specs.Bytes.{bytes}
+use Rattle.text.specs.Forms.{loose}
 use Rattle.text.specs.Lines.{LineForm, form, lineAt, isAt}
-use Rattle.text.specs.Reader.{quatOf}
+use Rattle.problem_text.specs.Reader.{quatOf}
 use Rattle.text.specs.declared.lines.Row.{Row}
 use Rattle.text.specs.declared.lines.Words.the-variants.{Floats}
 use Rattle.mosaic_text.specs.declared.tiles.Tiles.{Tiles}
@@ -46,7 +47,7 @@ abbrev pub closed : List ℕ → Tiles → ℕ → Tiles
 closed s c at = record { more = false; right = leb (length s) at; at = at; count = c .count; tiles = c .tiles }
 
 unfoldable pub nextLine : List ℕ → Tiles → Tiles
-nextLine s c = pick (isAt s (c .at) (bytes ")\n")) (closed s c (c .at + 2)) (withTile c (lineAt s (c .at) tileForm))
+nextLine s c = pick (isAt s (c .at) (bytes ")\n")) (closed s c (c .at + 2)) (withTile c (lineAt loose s (c .at) tileForm))
 
 -- ---- all of them
 

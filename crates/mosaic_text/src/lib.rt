@@ -7,7 +7,7 @@ ghost use Rattle.mosaic_text.specs.MosaicTexts.{EndIs};
 use common::Fate;
 use geom::Quat;
 use problem::Problem;
-use text::Read;
+use problem_text::Read;
 use text::lines::is_at;
 
 pub mod tiles;

@@ -14,8 +14,8 @@ use Rattle.problem.specs.declared.Problem.{Problem}
 use Rattle.planner.specs.Plans as Plans
 use Rattle.planner.specs.PlanLaws.{leaves-none}
 use Rattle.planner.specs.declared.Planned.{Planned}
-use Rattle.text.specs.Reader.{readProblem}
-use Rattle.text.specs.declared.Read.{Read}
+use Rattle.problem_text.specs.Reader.{readProblem}
+use Rattle.problem_text.specs.declared.Read.{Read}
 use Rattle.text_writer.specs.Puts.{Puts}
 use Rattle.text_writer.specs.PutLaws.{puts-most, puts-whole}
 use Rattle.text_writer.specs.Texts as Texts

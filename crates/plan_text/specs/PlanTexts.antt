@@ -14,7 +14,7 @@ use Rattle.problem.specs.declared.Problem.{Problem}
 use Rattle.planner.specs.Plans as Plans
 use Rattle.planner.specs.declared.Path.{Path}
 use Rattle.planner.specs.declared.Planned.{Planned}
-use Rattle.text.specs.Reader.{readProblem}
+use Rattle.problem_text.specs.Reader.{readProblem}
 use Rattle.text_writer.specs.Puts.{Puts}
 use Rattle.text_writer.specs.Texts as Texts
 use Rattle.plan_text.specs.declared.Told.{Told}

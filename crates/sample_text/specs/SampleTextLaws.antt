@@ -13,8 +13,8 @@ use Rattle.common.specs.declared.Fate.the-variants.{Going, Refused}
 use Rattle.problem.specs.declared.Problem.{Problem}
 use Rattle.planner.specs.Plans as Plans
 use Rattle.planner.specs.declared.Planned.{Planned}
-use Rattle.text.specs.Reader.{readProblem}
-use Rattle.text.specs.declared.Read.{Read}
+use Rattle.problem_text.specs.Reader.{readProblem}
+use Rattle.problem_text.specs.declared.Read.{Read}
 use Rattle.plan_text.specs.PlanTextLaws.{text-refused, text-read}
 use Rattle.sample_text.specs.SampleTexts.{courseOf, planCourse, answer, sampleCourse, number, headed, told, written, leaves, Gives}
 use Rattle.sample_text.specs.declared.Course.{Course}

@@ -19,7 +19,7 @@ use Rattle.samples.specs.Rows.{rows}
 use Rattle.samples.specs.Samples as Samples
 use Rattle.samples.specs.declared.PathSample.{PathSample}
 use Rattle.samples.specs.declared.Sampled.{Sampled}
-use Rattle.text.specs.Reader.{readProblem}
+use Rattle.problem_text.specs.Reader.{readProblem}
 use Rattle.text_writer.specs.Texts as Texts
 use Rattle.plan_text.specs.PlanTexts.{planned}
 use Rattle.sample_text.specs.declared.Course.{Course}

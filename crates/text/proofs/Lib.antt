@@ -1,3 +1,2 @@
 -- What the reader's proofs share.
 pub mod Rows
-pub mod Lists

@@ -11,12 +11,14 @@ use lib.ListN.{set, length, getD, drop, drop-of-length-le, List·getD-eq-default
 use lib.Seq.{drop-cons}
 use lib.Ieee as Ieee
 use borrow.Author.Tests.{lt-ltb, le-ltb, le-leb, lt-leb, eq-eqb, ne-eqb}
-use Rattle.common.specs.declared.Limit.the-variants.{At}
+use Rattle.common.specs.declared.Limit.the-variants.{Nothing, At}
 use Rattle.text.specs.declared.lines.Row.{Row}
 use Rattle.text.specs.declared.hex.Real.{Real}
 use Rattle.text.specs.declared.hex.Real.the-variants.{Is, Wrong}
+use Rattle.text.specs.Bytes.{bytes}
 use Rattle.text.specs.Hex.{RealIs}
-use Rattle.text.specs.Lines.{isAt, IsAt, wordAt, WordIs, wrongRow, rowFrom, rowAt, noFloats, withFloat, limited}
+use Rattle.text.specs.Forms.{past, pastBlanks, loose, PastIs}
+use Rattle.text.specs.Lines.{isAt, IsAt, wordAt, noneAt, WordIs, wrongRow, rowFrom, rowAt, noFloats, withFloat, withoutLimit, limited}
 
 suc-sub-one : (k : ℕ) → suc k - 1 ≡ k
 suc-sub-one k = omega arith
@@ -59,28 +61,58 @@ is-not s at w e = record { is = sym e; within = λ (z : false ≡ true). absurd 
 pub blank-within : (s : List ℕ) (i : ℕ) → getD s i 0 ≡ 32 → i < length s
 blank-within s i h = lt-of-not-le (λ (g : length s ≤ i). let z : getD s i 0 ≡ 0 = List·getD-eq-default s 0 g in omega arith)
 
+pub past-none : (s : List ℕ) (n at : ℕ) → (getD s at 0 ≡ 32 → ⊥) → past s n at ≡ at
+unfolding past
+past-none s zero at h = refl
+past-none s (suc n) at h = simp (ne-eqb _ _ h)
+
+pub past-start : (s : List ℕ) (at : ℕ) → pastBlanks s at ≡ past s (length s - (at - at)) at
+unfolding pastBlanks
+past-start s at = let e : length s - (at - at) ≡ length s = omega arith in rw e
+
+pub past-next : (s : List ℕ) (n i : ℕ) → getD s i 0 ≡ 32 → 0 < n → past s n i ≡ past s (n - 1) (i + 1)
+unfolding past
+past-next s zero i h p = absurd (omega arith)
+past-next s (suc n) i h p = simp (eq-eqb _ _ h, suc-sub-one)
+
 pub word-none : (s : List ℕ) (at : ℕ) → (getD s at 0 ≡ 32 → ⊥) → WordIs s at Wrong
 unfolding wordAt
 word-none s at n = record { is = simp (ne-eqb _ _ n); within = zero-le }
 
-pub word-some : (s : List ℕ) (at : ℕ) (r : Real) → getD s at 0 ≡ 32 → RealIs s (at + 1) r → WordIs s at r
+pub word-some : (s : List ℕ) (at i : ℕ) (r : Real) → getD s at 0 ≡ 32 → PastIs s (at + 1) i → RealIs s i r → WordIs s at r
 unfolding wordAt
-word-some s at r e h = record { is = simp (eq-eqb _ _ e) (h .is); within = h .within }
+word-some s at i r e p h = record { is = simp (eq-eqb _ _ e, ← p .is) (h .is); within = h .within }
+
+-- ---- `none`
+
+module _ (s : List ℕ) (r : Row) where
+  pub none-blank : (getD s (r .at) 0 ≡ 32 → ⊥) → withoutLimit loose s r ≡ wrongRow
+  unfolding withoutLimit noneAt
+  none-blank n = simp (ne-eqb _ _ n)
+
+  pub none-word : (w : ℕ) → getD s (r .at) 0 ≡ 32 → w ≡ pastBlanks s (r .at + 1) → isAt s w (bytes "none") ≡ false → withoutLimit loose s r ≡ wrongRow
+  unfolding withoutLimit noneAt
+  none-word w b p n = simp (eq-eqb _ _ b, ← p, n)
+
+  pub none-right : (w : ℕ) → getD s (r .at) 0 ≡ 32 → w ≡ pastBlanks s (r .at + 1) → isAt s w (bytes "none") ≡ true
+      → withoutLimit loose s r ≡ record { ok = true; at = w + 4; count = r .count; v = r .v; limit = Nothing }
+  unfolding withoutLimit noneAt
+  none-right w b p n = simp (eq-eqb _ _ b, ← p, n)
 
 -- ---- rows
 
 module _ (s : List ℕ) (r : Row) where
-  pub row-step : (n : ℕ) → 0 < n → (x : Ieee.Float) (j : ℕ) → wordAt s (r .at) ≡ Is x j → rowFrom s n r ≡ rowFrom s (n - 1) (withFloat r x j)
+  pub row-step : (n : ℕ) → 0 < n → (x : Ieee.Float) (j : ℕ) → wordAt loose s (r .at) ≡ Is x j → rowFrom loose s n r ≡ rowFrom loose s (n - 1) (withFloat r x j)
   unfolding rowFrom
   row-step zero p x j e = absurd (omega arith)
   row-step (suc n) p x j e = simp (e, suc-sub-one)
 
-  pub row-stop : (n : ℕ) → wordAt s (r .at) ≡ Wrong → rowFrom s n r ≡ r
+  pub row-stop : (n : ℕ) → wordAt loose s (r .at) ≡ Wrong → rowFrom loose s n r ≡ r
   unfolding rowFrom
   row-stop zero e = refl
   row-stop (suc n) e = simp e
 
-  pub row-end : (n : ℕ) → n ≡ 0 → rowFrom s n r ≡ r
+  pub row-end : (n : ℕ) → n ≡ 0 → rowFrom loose s n r ≡ r
   unfolding rowFrom
   row-end n e = rw e
 
@@ -88,7 +120,7 @@ module _ (s : List ℕ) (r : Row) where
 pub with-float : (r : Row) (k : ℕ) (v : List Ieee.Float) (x : Ieee.Float) (j : ℕ) → r .count ≡ k → v ≡ set (r .v) k x → record { ok = true; at = j; count = k + 1; v = v; limit = At x } ≡ withFloat r x j
 with-float r k v x j e f = rw (f, ← e)
 
-pub row-start : (s : List ℕ) (at : ℕ) → rowAt s at ≡ rowFrom s (length s - 0) (noFloats at)
+pub row-start : (s : List ℕ) (at : ℕ) → rowAt loose s at ≡ rowFrom loose s (length s - 0) (noFloats at)
 unfolding rowAt
 row-start s at = rw sub-zero
 
@@ -98,20 +130,20 @@ word-within s at x j r h e = rw e at (h .within)
 -- ---- floats and a limit
 
 module _ (s : List ℕ) (n : ℕ) (r : Row) where
-  pub limited-fewer : r .count < n → limited s n r ≡ wrongRow
+  pub limited-fewer : r .count < n → limited loose s n r ≡ wrongRow
   unfolding limited
   limited-fewer h =
       let a : eqb (r .count) n ≡ false = ne-eqb (r .count) n (λ (e : r .count ≡ n). omega arith) in
       let b : eqb (r .count) (n + 1) ≡ false = ne-eqb (r .count) (n + 1) (λ (e : r .count ≡ n + 1). omega arith) in
       simp (a, b)
 
-  pub limited-more : n ≤ r .count → (r .count ≡ n → ⊥) → (r .count - n ≡ 1 → ⊥) → limited s n r ≡ wrongRow
+  pub limited-more : n ≤ r .count → (r .count ≡ n → ⊥) → (r .count - n ≡ 1 → ⊥) → limited loose s n r ≡ wrongRow
   unfolding limited
   limited-more h k l =
       let b : eqb (r .count) (n + 1) ≡ false = ne-eqb (r .count) (n + 1) (λ (e : r .count ≡ n + 1). l (omega arith)) in
       simp (ne-eqb _ _ k, b)
 
-  pub limited-one : n ≤ r .count → r .count - n ≡ 1 → r ≡ limited s n r
+  pub limited-one : n ≤ r .count → r .count - n ≡ 1 → r ≡ limited loose s n r
   unfolding limited
   limited-one h k =
       let a : eqb (r .count) n ≡ false = ne-eqb (r .count) n (λ (e : r .count ≡ n). omega arith) in

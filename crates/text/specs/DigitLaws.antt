@@ -4,8 +4,8 @@ use native.Mathlib.Omega.{arith}
 use native.Mathlib.Nat.{pow-succ', mul-le-mul-right, lt-of-not-le}
 use mathlib.Core.Path.{_≡_, refl, sym, _∙_}
 use mathlib.Core.List.{List}
-use mathlib.Core.Bool.{Bool, true, false, cond, not}
-use lib.Dec.{T, eqb}
+use mathlib.Core.Bool.{true, cond, not, _&&_}
+use lib.Dec.{T, leb}
 use lib.ListN.{length, getD, List·getD-eq-default}
 use lib.Ieee as Ieee
 use lib.Ieee.{binary64, ofBits, ofFields, nan, inf, fin, isNan, nanBits, div}
@@ -14,7 +14,7 @@ use borrow.Author.Tests.{lt-ltb, le-ltb, le-leb, lt-leb}
 use Rattle.text.specs.declared.hex.Hex.{Hex}
 use Rattle.text.specs.declared.hex.Hex.the-variants.{Bits, Wrong}
 use Rattle.text.specs.declared.hex.Real.the-variants as Real
-use Rattle.text.specs.Hex.{digit, stop, more, hexAt, hexNext, HexIs, realAt, RealIs, float}
+use Rattle.text.specs.Hex.{digit, more, hexAt, HexIs, realAt, RealIs, float}
 
 suc-sub-one : (k : ℕ) → suc k - 1 ≡ k
 suc-sub-one k = omega arith
@@ -23,7 +23,7 @@ suc-sub-one k = omega arith
 
 pub digit-low : (b : ℕ) → b < 48 → digit b ≡ 16
 unfolding digit
-digit-low b h = let k : b < 65 = omega arith in simp (lt-leb 48 b h, lt-leb 65 b k)
+digit-low b h = let k : b < 65 = omega arith in let l : b < 97 = omega arith in simp (lt-leb 48 b h, lt-leb 65 b k, lt-leb 97 b l)
 
 pub digit-decimal : (b : ℕ) → 48 ≤ b → b < 58 → digit b ≡ b - 48
 unfolding digit
@@ -31,24 +31,45 @@ digit-decimal b h k = let l : b ≤ 57 = omega arith in simp (le-leb 48 b h, le-
 
 pub digit-between : (b : ℕ) → 58 ≤ b → b < 65 → digit b ≡ 16
 unfolding digit
-digit-between b h k = let l : 57 < b = omega arith in let l′ : 48 ≤ b = omega arith in simp (le-leb 48 b l′, lt-leb b 57 l, lt-leb 65 b k)
+digit-between b h k =
+    let l : 57 < b = omega arith in
+    let l′ : 48 ≤ b = omega arith in
+    let m : b < 97 = omega arith in
+    simp (le-leb 48 b l′, lt-leb b 57 l, lt-leb 65 b k, lt-leb 97 b m)
 
-pub digit-letter : (b : ℕ) → 65 ≤ b → b < 71 → digit b ≡ b - 65 + 10
+pub digit-capital : (b : ℕ) → 65 ≤ b → b < 71 → digit b ≡ b - 65 + 10
 unfolding digit
-digit-letter b h k =
+digit-capital b h k =
     let l : 57 < b = omega arith in
     let l′ : 48 ≤ b = omega arith in
     let u : b ≤ 70 = omega arith in
     simp (le-leb 48 b l′, lt-leb b 57 l, le-leb 65 b h, le-leb b 70 u)
 
-pub digit-high : (b : ℕ) → 71 ≤ b → digit b ≡ 16
+-- past the capitals
+abbrev smalls : ℕ → ℕ
+smalls b = cond (leb 97 b && leb b 102) (b - 97 + 10) 16
+
+past-capitals : (b : ℕ) → 71 ≤ b → digit b ≡ smalls b
 unfolding digit
-digit-high b h =
+past-capitals b h =
     let l : 57 < b = omega arith in
     let l′ : 48 ≤ b = omega arith in
     let m : 65 ≤ b = omega arith in
     let u : 70 < b = omega arith in
     simp (le-leb 48 b l′, lt-leb b 57 l, le-leb 65 b m, lt-leb b 70 u)
+
+pub digit-middle : (b : ℕ) → 71 ≤ b → b < 97 → digit b ≡ 16
+digit-middle b h k = past-capitals b h ∙ simp (lt-leb 97 b k)
+
+pub digit-small : (b : ℕ) → 97 ≤ b → b < 103 → digit b ≡ b - 97 + 10
+digit-small b h k = let m : 71 ≤ b = omega arith in let u : b ≤ 102 = omega arith in past-capitals b m ∙ simp (le-leb 97 b h, le-leb b 102 u)
+
+pub digit-high : (b : ℕ) → 103 ≤ b → digit b ≡ 16
+digit-high b h =
+    let m : 71 ≤ b = omega arith in
+    let l : 97 ≤ b = omega arith in
+    let u : 102 < b = omega arith in
+    past-capitals b m ∙ simp (le-leb 97 b l, lt-leb b 102 u)
 
 digit-zero : digit 0 ≡ 16
 unfolding digit
@@ -58,36 +79,28 @@ digit-zero = refl
 pub digit-within : (s : List ℕ) (at : ℕ) → digit (getD s at 0) < 16 → at < length s
 digit-within s at h = lt-of-not-le (λ (g : length s ≤ at). let z : digit (getD s at 0) ≡ 16 = rw (List·getD-eq-default s 0 g) digit-zero in omega arith)
 
-module _ (s : List ℕ) (at m last v : ℕ) (e : v ≡ digit (getD s at 0)) where
-  pub more-step : (k : ℕ) → 0 < k → v < 16 → more s k at m last ≡ more s (k - 1) (at + 1) (m + v * 16 ^ (k - 1)) v
+module _ (s : List ℕ) (at m v : ℕ) (e : v ≡ digit (getD s at 0)) where
+  pub more-step : (k : ℕ) → 0 < k → v < 16 → more s k at m ≡ more s (k - 1) (at + 1) (m + v * 16 ^ (k - 1))
   unfolding more
   more-step zero p h = absurd (omega arith)
   more-step (suc k) p h = simp (← e, lt-ltb _ _ h, suc-sub-one)
 
-  pub more-stop : (k : ℕ) → 0 < k → 16 ≤ v → more s k at m last ≡ stop m last at
+  pub more-stop : (k : ℕ) → 0 < k → 16 ≤ v → more s k at m ≡ Bits m at
   unfolding more
   more-stop zero p h = absurd (omega arith)
   more-stop (suc k) p h = simp (← e, le-ltb _ _ h)
 
-pub more-end : (s : List ℕ) (at m last k : ℕ) → k ≡ 0 → more s k at m last ≡ stop m last at
+pub more-end : (s : List ℕ) (at m k : ℕ) → k ≡ 0 → more s k at m ≡ Bits m at
 unfolding more
-more-end s at m last k e = rw e
+more-end s at m k e = rw e
 
-pub hexAt-step : (s : List ℕ) (at v : ℕ) → v ≡ digit (getD s at 0) → v < 16 → hexAt s at ≡ more s 15 (at + 1) (v * 1152921504606846976) 1
+pub hexAt-step : (s : List ℕ) (at v : ℕ) → v ≡ digit (getD s at 0) → v < 16 → hexAt s at ≡ more s 15 (at + 1) (v * 1152921504606846976)
 unfolding hexAt
 hexAt-step s at v e h = simp (← e, lt-ltb _ _ h)
 
 pub hexAt-none : (s : List ℕ) (at v : ℕ) → v ≡ digit (getD s at 0) → 16 ≤ v → hexAt s at ≡ Wrong
 unfolding hexAt
 hexAt-none s at v e h = simp (← e, le-ltb _ _ h)
-
--- what the digits' end gives is the definition's answer, and lies within the text
-pub stops : (s : List ℕ) (at m last i : ℕ) (r : Hex) → hexAt s at ≡ stop m last i → i ≤ length s → r ≡ stop m last i → HexIs s at r
-stops s at m last i r e h p = record { is = p ∙ sym e; within = rw p (go (eqb last 0)) }
-  where
-    go : (b : Bool) → hexNext (cond b Wrong (Bits m i)) ≤ length s
-    go true = zero-le
-    go false = h
 
 -- the next weight
 pub sixteenth : (k : ℕ) → 0 < k → 16 ^ k ≡ 16 * 16 ^ (k - 1)

@@ -1,4 +1,5 @@
--- A float of the program's text: its bits in hexadecimal, top digit first, trailing zeros dropped but one digit kept. Definitions only.
+-- A float of the program's text: its bits in hexadecimal, top digit first. Read are 1 to 16 digits in either case; written are capitals, trailing zeros dropped but one digit
+-- kept. Definitions only.
 -- What stands at a position is `getD s at 0`: past the end stands 0, which no form has.
 use Prim.Native.Nat.{ℕ, zero, suc, _+_, _-_, _*_, _/_, _%_, _^_, _≤_}
 use mathlib.Core.Path.{_≡_}
@@ -17,25 +18,21 @@ inside b low high = leb low b && leb b high
 
 -- ---- reading
 
--- a digit's value, 0 to 9 or A to F, and 16 of any other byte
+-- a digit's value, 0 to 9, A to F or a to f, and 16 of any other byte
 unfoldable pub digit : ℕ → ℕ
-digit b = cond (inside b 48 57) (b - 48) (cond (inside b 65 70) (b - 65 + 10) 16)
-
--- the digits end before `at`: the last is no 0
-abbrev pub stop : ℕ → ℕ → ℕ → Hex
-stop m last at = cond (eqb last 0) Wrong (Bits m at)
+digit b = cond (inside b 48 57) (b - 48) (cond (inside b 65 70) (b - 65 + 10) (cond (inside b 97 102) (b - 97 + 10) 16))
 
 -- at most k more digits, each at its weight
-unfoldable pub more : List ℕ → ℕ → ℕ → ℕ → ℕ → Hex
-more s zero at m last = stop m last at
-more s (suc k) at m last =
+unfoldable pub more : List ℕ → ℕ → ℕ → ℕ → Hex
+more s zero at m = Bits m at
+more s (suc k) at m =
     cond (ltb (digit (getD s at 0)) 16)
-    (more s k (at + 1) (m + digit (getD s at 0) * 16 ^ k) (digit (getD s at 0)))
-    (stop m last at)
+    (more s k (at + 1) (m + digit (getD s at 0) * 16 ^ k))
+    (Bits m at)
 
--- 1 to 16 digits of the pattern from the top, the last no 0 unless it stands alone
+-- 1 to 16 digits of the pattern from the top; those that are not written are 0
 unfoldable pub hexAt : List ℕ → ℕ → Hex
-hexAt s at = cond (ltb (digit (getD s at 0)) 16) (more s 15 (at + 1) (digit (getD s at 0) * 16 ^ 15) 1) Wrong
+hexAt s at = cond (ltb (digit (getD s at 0)) 16) (more s 15 (at + 1) (digit (getD s at 0) * 16 ^ 15)) Wrong
 
 -- the float of a pattern; every NaN's pattern is the NaN
 abbrev pub float : ℕ → Float

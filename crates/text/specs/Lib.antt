@@ -1,9 +1,6 @@
--- The program's text: what every list of bytes means, as a problem or as the line of refusal 21.
+-- The words and lines of the program's texts: what the bytes at a position mean.
 pub mod Bytes
 pub mod Hex
-pub mod DigitLaws
+pub mod Forms
 pub mod Lines
-pub mod HexLaws
-pub mod Listing
-pub mod Reader
-pub mod Examples
+pub mod DigitLaws

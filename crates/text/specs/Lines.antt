@@ -13,7 +13,8 @@ use Rattle.text.specs.declared.lines.Row.{Row}
 use Rattle.text.specs.declared.lines.Words.{Words}
 use Rattle.text.specs.declared.lines.Words.the-variants.{Floats, Limited, Any}
 use Rattle.text.specs.Bytes.{bytes}
-use Rattle.text.specs.Hex.{realAt, realNext}
+use Rattle.text.specs.Hex.{realNext}
+use Rattle.text.specs.Forms.{Form, loose}
 
 -- the bytes w stand at a position
 unfoldable pub isAt : List ℕ → ℕ → List ℕ → Bool
@@ -30,11 +31,19 @@ abbrev pub pick : Bool → Row → Row → Row
 pick true a b = a
 pick false a b = b
 
--- ---- the floats of a line
+-- ---- the words of a line
 
--- a blank and a float
-unfoldable pub wordAt : List ℕ → ℕ → Real
-wordAt s at = cond (eqb (getD s at 0) 32) (realAt s (at + 1)) Wrong
+module _ (f : Form) (s : List ℕ) where
+  -- blanks and a float
+  unfoldable pub wordAt : ℕ → Real
+  wordAt at = cond (eqb (getD s at 0) 32) (f .real s (f .skip s (at + 1))) Wrong
+
+  -- blanks and `none`
+  unfoldable pub noneAt : ℕ → Bool
+  noneAt at = eqb (getD s at 0) 32 && isAt s (f .skip s (at + 1)) (bytes "none")
+
+  abbrev pub noneEnd : ℕ → ℕ
+  noneEnd at = f .skip s (at + 1) + 4
 
 -- after one more float, or where none follows
 abbrev pub rowBy : Real → (Float → ℕ → Row) → Row → Row
@@ -45,17 +54,8 @@ rowBy Wrong f r = r
 abbrev pub withFloat : Row → Float → ℕ → Row
 withFloat r x next = record { ok = true; at = next; count = r .count + 1; v = set (r .v) (r .count) x; limit = At x }
 
--- the row r and at most n more floats
-unfoldable pub rowFrom : List ℕ → ℕ → Row → Row
-rowFrom s zero r = r
-rowFrom s (suc n) r = rowBy (wordAt s (r .at)) (λ x next. rowFrom s n (withFloat r x next)) r
-
 abbrev pub noFloats : ℕ → Row
 noFloats at = record { ok = true; at = at; count = 0; v = zeros; limit = Nothing }
-
--- as many floats as stand at a position: no text has more than bytes
-unfoldable pub rowAt : List ℕ → ℕ → Row
-rowAt s at = rowFrom s (length s) (noFloats at)
 
 -- ---- a line's form: what it begins with, its words, what it ends with
 pub record LineForm : Type 0 where
@@ -70,28 +70,40 @@ form head words tail = record { head = head; words = words; tail = tail }
 unfoldable pub floats : ℕ → Row → Row
 floats n r = pick (eqb (r .count) n) r wrongRow
 
--- the floats are followed by `none`
-unfoldable pub withoutLimit : List ℕ → Row → Row
-withoutLimit s r = pick (isAt s (r .at) (bytes " none")) (record { ok = true; at = r .at + 5; count = r .count; v = r .v; limit = Nothing }) wrongRow
-
--- n floats and `none`, or one float more, which is the limit
-unfoldable pub limited : List ℕ → ℕ → Row → Row
-limited s n r = pick (eqb (r .count) n) (withoutLimit s r) (pick (eqb (r .count) (n + 1)) r wrongRow)
-
-abbrev pub wordsBy : Words → List ℕ → Row → Row
-wordsBy (Floats n) s r = floats n r
-wordsBy (Limited n) s r = limited s n r
-wordsBy Any s r = r
-
-unfoldable pub wordsAt : List ℕ → ℕ → Words → Row
-wordsAt s at words = wordsBy words s (rowAt s at)
-
 unfoldable pub ended : List ℕ → List ℕ → Row → Row
 ended s tail r =
     pick (r .ok && isAt s (r .at) tail) (record { ok = true; at = r .at + length tail; count = r .count; v = r .v; limit = r .limit }) wrongRow
 
-unfoldable pub lineAt : List ℕ → ℕ → LineForm → Row
-lineAt s at f = pick (isAt s at (f .head)) (ended s (f .tail) (wordsAt s (at + length (f .head)) (f .words))) wrongRow
+-- ---- a line of a text s, its words in the form f
+module _ (f : Form) (s : List ℕ) where
+  -- the row r and at most n more floats
+  unfoldable pub rowFrom : ℕ → Row → Row
+  rowFrom zero r = r
+  rowFrom (suc n) r = rowBy (wordAt f s (r .at)) (λ x next. rowFrom n (withFloat r x next)) r
+
+  -- as many floats as stand at a position: no text has more than bytes
+  unfoldable pub rowAt : ℕ → Row
+  rowAt at = rowFrom (length s) (noFloats at)
+
+  -- the floats are followed by `none`
+  unfoldable pub withoutLimit : Row → Row
+  withoutLimit r =
+      pick (noneAt f s (r .at)) (record { ok = true; at = noneEnd f s (r .at); count = r .count; v = r .v; limit = Nothing }) wrongRow
+
+  -- n floats and `none`, or one float more, which is the limit
+  unfoldable pub limited : ℕ → Row → Row
+  limited n r = pick (eqb (r .count) n) (withoutLimit r) (pick (eqb (r .count) (n + 1)) r wrongRow)
+
+  abbrev pub wordsBy : Words → Row → Row
+  wordsBy (Floats n) r = floats n r
+  wordsBy (Limited n) r = limited n r
+  wordsBy Any r = r
+
+  unfoldable pub wordsAt : ℕ → Words → Row
+  wordsAt at words = wordsBy words (rowAt at)
+
+  unfoldable pub lineAt : ℕ → LineForm → Row
+  lineAt at l = pick (isAt s at (l .head)) (ended s (l .tail) (wordsAt (at + length (l .head)) (l .words))) wrongRow
 
 -- ---- contracts: the answer is the definition's, and the next position is within the text
 
@@ -100,5 +112,5 @@ pub record IsAt (s : List ℕ) (at : ℕ) (w : List ℕ) (r : Bool) : Type 0 whe
   pub within : r ≡ true → at + length w ≤ length s
 
 pub record WordIs (s : List ℕ) (at : ℕ) (r : Real) : Type 0 where
-  pub is : r ≡ wordAt s at
+  pub is : r ≡ wordAt loose s at
   pub within : realNext r ≤ length s

@@ -1,7 +1,8 @@
-// A float of the program's text: its bits in hexadecimal, top digit first, trailing zeros dropped but one digit kept.
+// A float of the program's text: its bits in hexadecimal, top digit first, 1 to 16 digits in either case; and the blanks before a word.
 ghost use mathlib.Core.Path.{_≡_};
 ghost use Prim.Native.Nat.{_≤_};
 ghost use lib.ListN.{length, getD};
+ghost use Rattle.text.specs.Forms as Forms;
 ghost use Rattle.text.specs.Hex as Hexes;
 
 // A pattern of 64 bits with the position after its digits, or none.
@@ -23,13 +24,14 @@ pub fn byte(s: &[u8], at: usize) -> u8
     if at < s.len() { s[at] } else { 0 }
 }
 
-// A digit's value; 16 of any byte that is no capital hexadecimal digit.
+// A hexadecimal digit's value in either case; 16 of any other byte.
 pub fn hex_digit(b: u8) -> u8
     ensures { λ r. ⌜ r ≡ Hexes.digit b ⌝ }
 {
     match b {
         b'0'..=b'9' => b - b'0',
         b'A'..=b'F' => b - b'A' + 10,
+        b'a'..=b'f' => b - b'a' + 10,
         _ => 16,
     }
 }
@@ -38,17 +40,6 @@ fn wide(x: u8) -> u64
     ensures { λ r. ⌜ r ≡ x ⌝ }
 {
     x as u64
-}
-
-// The digits end before `at`: they are no pattern where the last could have been dropped.
-fn stopped(m: u64, last: u8, at: usize) -> Hex
-    ensures { λ r. ⌜ r ≡ Hexes.stop m last at ⌝ }
-{
-    if last == 0 {
-        Hex::Wrong
-    } else {
-        Hex::Bits(m, at)
-    }
 }
 
 // The pattern at a position: one digit, and up to fifteen more, each at its weight.
@@ -62,21 +53,19 @@ pub fn hex_at(s: &[u8], at: usize) -> Hex
     }
     let mut weight: u64 = 0x1000_0000_0000_0000;
     let mut m = wide(first) * weight;
-    let mut last: u8 = 1;
     let mut i = at + 1;
     let mut k: usize = 15;
     while k > 0 {
         let d = hex_digit(byte(s, i));
         if d >= 16 {
-            return stopped(m, last, i);
+            return Hex::Bits(m, i);
         }
         weight = weight / 16;
         m = m + wide(d) * weight;
-        last = d;
         i += 1;
         k -= 1;
     }
-    stopped(m, last, i)
+    Hex::Bits(m, i)
 }
 
 // The float of a pattern; every NaN's pattern is the NaN.
@@ -98,4 +87,16 @@ pub fn real_at(s: &[u8], at: usize) -> Real
         Hex::Bits(m, next) => Real::Is(real_of(m), next),
         Hex::Wrong => Real::Wrong,
     }
+}
+
+// The position after the blanks at a position.
+pub fn past_blanks(s: &[u8], at: usize) -> usize
+    requires { ⌜ at ≤ length (now s) ⌝ }
+    ensures { λ r. ⌜ Forms.PastIs (now (s .entry)) at r ⌝ }
+{
+    let mut i = at;
+    while byte(s, i) == b' ' {
+        i += 1;
+    }
+    i
 }

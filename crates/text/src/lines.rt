@@ -1,10 +1,12 @@
-// A line of the program's text: what it begins with, its floats, what it ends with.
+// A line of the program's text: what it begins with, its words, what it ends with. Blanks are free between two words, and nowhere else.
 ghost use mathlib.Core.Path.{_≡_};
 ghost use Prim.Native.Nat.{_≤_};
 ghost use lib.ListN.{length, set};
+ghost use Rattle.text.specs.Forms.{loose};
 ghost use Rattle.text.specs.Lines as Lines;
 use crate::hex::Real;
 use crate::hex::byte;
+use crate::hex::past_blanks;
 use crate::hex::real_at;
 use common::Limit;
 
@@ -57,7 +59,7 @@ pub fn wrong_row() -> Row
     }
 }
 
-// A blank and a float.
+// Blanks and a float.
 fn word_at(s: &[u8], at: usize) -> Real
     requires { ⌜ at ≤ length (now s) ⌝ }
     ensures { λ r. ⌜ Lines.WordIs (now (s .entry)) at r ⌝ }
@@ -65,7 +67,7 @@ fn word_at(s: &[u8], at: usize) -> Real
     if byte(s, at) != b' ' {
         return Real::Wrong;
     }
-    real_at(s, at + 1)
+    real_at(s, past_blanks(s, at + 1))
 }
 
 // Float number k in its place; past the ninth there is none.
@@ -83,7 +85,7 @@ fn put_float(v: [f64; 9], k: usize, x: f64) -> [f64; 9]
 // As many blanks and floats as stand at a position.
 fn row_at(s: &[u8], at: usize) -> Row
     requires { ⌜ at ≤ length (now s) ⌝ }
-    ensures { λ r. ⌜ r ≡ Lines.rowAt (now (s .entry)) at ⌝ }
+    ensures { λ r. ⌜ r ≡ Lines.rowAt loose (now (s .entry)) at ⌝ }
 {
     let mut r = Row {
         ok: true,
@@ -120,7 +122,7 @@ fn floats(r: Row, n: usize) -> Row
 
 // A row of n floats with `none` behind them, or of one more, which is the limit.
 fn limited(s: &[u8], r: Row, n: usize) -> Row
-    ensures { λ q. ⌜ q ≡ Lines.limited (now (s .entry)) n r ⌝ }
+    ensures { λ q. ⌜ q ≡ Lines.limited loose (now (s .entry)) n r ⌝ }
 {
     if r.count == n {
         return without_limit(s, r);
@@ -136,16 +138,20 @@ fn limited(s: &[u8], r: Row, n: usize) -> Row
 
 // A row with `none` behind it.
 fn without_limit(s: &[u8], r: Row) -> Row
-    ensures { λ q. ⌜ q ≡ Lines.withoutLimit (now (s .entry)) r ⌝ }
+    ensures { λ q. ⌜ q ≡ Lines.withoutLimit loose (now (s .entry)) r ⌝ }
 {
     let i = r.at;
-    if !is_at(s, i, b" none") {
+    if byte(s, i) != b' ' {
+        return wrong_row();
+    }
+    let word = past_blanks(s, i + 1);
+    if !is_at(s, word, b"none") {
         return wrong_row();
     }
     let v = r.v;
     Row {
         ok: true,
-        at: i + 5,
+        at: word + 4,
         count: r.count,
         v: v,
         limit: Limit::Nothing,
@@ -155,7 +161,7 @@ fn without_limit(s: &[u8], r: Row) -> Row
 // The words of a line.
 fn words_at(s: &[u8], at: usize, words: Words) -> Row
     requires { ⌜ at ≤ length (now s) ⌝ }
-    ensures { λ r. ⌜ r ≡ Lines.wordsAt (now (s .entry)) at words ⌝ }
+    ensures { λ r. ⌜ r ≡ Lines.wordsAt loose (now (s .entry)) at words ⌝ }
 {
     let r = row_at(s, at);
     match words {
@@ -189,7 +195,7 @@ fn ended(s: &[u8], r: Row, tail: &[u8]) -> Row
 
 // A line: what it begins with, its words, what it ends with.
 pub fn line_at(s: &[u8], at: usize, head: &[u8], words: Words, tail: &[u8]) -> Row
-    ensures { λ r. ⌜ r ≡ Lines.lineAt (now (s .entry)) at (Lines.form (now (head .entry)) words (now (tail .entry))) ⌝ }
+    ensures { λ r. ⌜ r ≡ Lines.lineAt loose (now (s .entry)) at (Lines.form (now (head .entry)) words (now (tail .entry))) ⌝ }
 {
     if !is_at(s, at, head) {
         return wrong_row();

@@ -1,4 +1,4 @@
-//! Texts for the comparison: good ones of every family, damaged byte by byte, line by line and word by word, too long ones, random bytes.
+//! Texts for the comparison: good ones of every family, written otherwise, damaged byte by byte, line by line and word by word, too long ones, random bytes.
 
 use crate::problems::{self, Plan};
 use crate::pulses::pulse;
@@ -193,6 +193,34 @@ fn form_damaged(r: &mut Random, text: &[u8]) -> Vec<u8> {
     if r.one_in(2) { text.replace(from, to) } else { text.replacen(from, to, 1 + pick(r, 8)) }.into_bytes()
 }
 
+/// The same problem, written otherwise: blanks before words, digits in either case, zeros behind a float's digits, up to 16; none, a few or all of them.
+pub fn loosened(r: &mut Random, text: &[u8]) -> Vec<u8> {
+    let often = [2, 8, 64][pick(r, 3)];
+    let mut out = Vec::with_capacity(2 * text.len());
+    for line in text.split_inclusive(|byte| *byte == b'\n') {
+        let indent = line.iter().take_while(|byte| **byte == b' ').count();
+        out.extend_from_slice(&line[..indent]);
+        line[indent..].split_inclusive(|byte| *byte == b' ').for_each(|word| loosened_word(r, word, often, &mut out));
+    }
+    out
+}
+
+/// A word with the blank behind it, if one stands there: only a float's digits change, and a blank gets others beside it.
+fn loosened_word(r: &mut Random, word: &[u8], often: u64, out: &mut Vec<u8>) {
+    let digits = word.iter().take_while(|byte| byte.is_ascii_hexdigit()).count();
+    let is_float = digits > 0 && !word[digits..].iter().any(u8::is_ascii_alphanumeric);
+    for byte in &word[..digits] {
+        out.push(if is_float && r.one_in(often) { byte.to_ascii_lowercase() } else { *byte });
+    }
+    if is_float && r.one_in(often) {
+        out.resize(out.len() + pick(r, 17 - digits.min(16)), b'0');
+    }
+    out.extend_from_slice(&word[digits..]);
+    if word.ends_with(b" ") && r.one_in(often) {
+        out.resize(out.len() + pick(r, 4), b' ');
+    }
+}
+
 /// A right form of exactly n bytes, for any n that its lines reach: wheels that no list holds, the last ones with more digits.
 pub fn filled(n: usize) -> Vec<u8> {
     const WHEEL: &str = "\n  (wheel 0 0 0 0 0 none)";
@@ -309,6 +337,9 @@ pub fn turn(r: &mut Random, k: u64) -> Case {
 pub fn spoilt(r: &mut Random) -> Case {
     let plan = problems::any(r);
     let mut text = if r.one_in(8) { listed(r) } else { text_of(&plan) };
+    if r.one_in(2) {
+        text = loosened(r, &text);
+    }
     for _ in 0..r.below(4) {
         text = damaged(r, &text);
     }
@@ -321,6 +352,9 @@ pub fn whole(r: &mut Random) -> Case {
     let pulsed = r.one_in(3);
     let plan = if pulsed { pulse(r) } else { problems::any(r) };
     let mut text = text_of(&plan);
+    if r.one_in(4) {
+        text = loosened(r, &text);
+    }
     if r.one_in(8) {
         text = word_damaged(r, &text);
     }

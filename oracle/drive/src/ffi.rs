@@ -450,6 +450,19 @@ pub fn slew_sample(text: &[u8], ws: &mut [f64], requested: usize, alpha: f64, in
     unsafe { texts::slew_sample(t.0, t.1, lent.0, lent.1, requested, alpha, index, out.as_mut_ptr(), out.len()) }
 }
 
+/// The canonical text of a text: a refusal's number, with what is told, the bytes written and the refusal's place.
+mod canonical {
+    unsafe extern "C" {
+        pub fn slew_canonical(text: *const u8, text_len: usize, out: *mut u8, out_len: usize, bytes: &mut usize, place: &mut usize) -> usize;
+    }
+}
+
+pub fn slew_canonical(text: &[u8], out: &mut [u8]) -> (usize, usize, usize) {
+    let (mut bytes, mut place) = (usize::MAX, usize::MAX);
+    let number = unsafe { canonical::slew_canonical(text.as_ptr(), text.len(), out.as_mut_ptr(), out.len(), &mut bytes, &mut place) };
+    (number, bytes, place)
+}
+
 /// Byte planes of a column of words.
 mod columns {
     unsafe extern "C" {

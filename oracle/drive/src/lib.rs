@@ -6,6 +6,7 @@ pub mod recipes;
 pub mod words;
 
 pub mod board;
+pub mod canonical;
 pub mod courses;
 pub mod damage;
 pub mod edges;

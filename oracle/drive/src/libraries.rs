@@ -1,7 +1,7 @@
 //! What is compared: the libraries, each with its functions and its share of the time of `--minutes`.
 
 use crate::words::Entry;
-use crate::{board, courses, edges, leaves, mosaics, order, planes, plans, region, runs, samples, series, shapes, systems, texts};
+use crate::{board, canonical, courses, edges, leaves, mosaics, order, planes, plans, region, runs, samples, series, shapes, systems, texts};
 
 pub struct Library {
     pub name: &'static str,
@@ -16,7 +16,7 @@ const fn library(name: &'static str, entries: &'static [Entry]) -> Library {
 }
 
 /// Each has the same share; whole plans have as much as all the others.
-pub const LIBRARIES: [Library; 18] = [
+pub const LIBRARIES: [Library; 19] = [
     library("floats", &leaves::LEAVES),
     library("angles", &leaves::ANGLES),
     library("series", &series::SERIES),
@@ -32,6 +32,7 @@ pub const LIBRARIES: [Library; 18] = [
     library("dense samples", &samples::SAMPLES),
     library("drive board", &board::BOARD),
     library("texts", &texts::TEXTS),
+    library("canonical texts", &canonical::CANONICAL),
     library("byte planes", &planes::PLANES),
     library("orders", &order::ORDERS),
     library("drive against draught", &region::REGION),

@@ -29,24 +29,23 @@ const FIELDS: [(&str, usize); 7] = [("q0", 4), ("qf", 4), ("inertia", 9), ("limi
 
 // ---- the reader
 
-/// The words of a line `HEAD word .. wordTAIL`: one blank before each.
+/// The words of a line `HEAD word .. wordTAIL`: one blank or more before each, none behind the last.
 fn words_of<'a>(line: &'a [u8], head: &str, tail: &str) -> Option<Vec<&'a [u8]>> {
     let inner = line.strip_prefix(head.as_bytes())?.strip_suffix(tail.as_bytes())?.strip_prefix(b" ")?;
-    Some(inner.split(|byte| *byte == b' ').collect())
+    if inner.ends_with(b" ") || inner.is_empty() {
+        return None;
+    }
+    Some(inner.split(|byte| *byte == b' ').filter(|word| !word.is_empty()).collect())
 }
 
-/// Up to 16 capital digits, the last not a zero unless it stands alone.
+/// 1 to 16 digits in either case; those that are not written are zeros.
 fn float(word: &[u8]) -> Option<f64> {
-    if word.is_empty() || word.len() > 16 || word.len() > 1 && word.ends_with(b"0") {
+    if word.is_empty() || word.len() > 16 {
         return None;
     }
     let mut pattern = 0u64;
     for (k, digit) in word.iter().enumerate() {
-        let value = match digit {
-            b'0'..=b'9' => digit - b'0',
-            b'A'..=b'F' => digit - b'A' + 10,
-            _ => return None,
-        };
+        let value = char::from(*digit).to_digit(16)?;
         pattern |= u64::from(value) << (60 - 4 * k);
     }
     Some(f64::from_bits(pattern))

@@ -33,14 +33,15 @@ use denote.Triple.Table.{entered, cited}
 use denote.Triple.Walked.{says, Stays, stay-none, walkOf, goes-none, Walks, ends-at, walked, walk-meets}
 use denote.Exit.{yes}
 use denote.Triple.Clauses.{ensured, lasts}
-use Rattle.text.specs.declared.Found.{Found}
-use Rattle.text.specs.Reader.{headAt}
-use Rattle.text.proofs.Found as P
-use Rattle.text.proofs.Found.Laws as P′
-use Rattle.text.proofs.head_at as head-at
-use Rattle.text.proofs.head_at.Symbol as head-at-def
-use Rattle.text.proofs.head_at.Symbol.{name as #head-at}
-use Rattle.text.proofs.head_at.Met as head-at-thm
+use Rattle.text.specs.Forms.{loose}
+use Rattle.problem_text.specs.declared.Found.{Found}
+use Rattle.problem_text.specs.Reader.{headAt}
+use Rattle.problem_text.proofs.Found as P
+use Rattle.problem_text.proofs.Found.Laws as P′
+use Rattle.problem_text.proofs.head_at as head-at
+use Rattle.problem_text.proofs.head_at.Symbol as head-at-def
+use Rattle.problem_text.proofs.head_at.Symbol.{name as #head-at}
+use Rattle.problem_text.proofs.head_at.Met as head-at-thm
 use Rattle.text_reader.specs.declared.Reader.{Reader}
 use Rattle.text_reader.proofs.Held.{reader, type, laws, value, machine, held, taken-apart, promised}
 use Rattle.text_reader.proofs.Reader.Laws as T′
@@ -61,7 +62,7 @@ module _ {M : Type 1} (𝓤 : URA M) (H : Heap 𝓤) (A : Atoms 𝓤) (mem : Mem
 module _ {M : Type 1} (𝓤 : URA M) (H : Heap 𝓤) (A : Atoms 𝓤) (W : Given 𝓤 H A) (mem : Memory → SProp 𝓤) (run : Routine → Fun 𝓤) (l : Lft) (p : Share) (d : Reader) where
   -- the answer that the contract names
   abbrev answer : Found
-  answer = headAt (now (d .src)) (d .at)
+  answer = headAt loose (now (d .src)) (d .at)
 
   abbrev Entry : SProp 𝓤
   Entry = onEntry 𝓤 H A head.signature (l, tt) (p, tt) (d, tt) (machine d ∷ [], tt)
@@ -118,4 +119,4 @@ head-spec 𝓤 H 𝓜 𝓖 𝓡 =
     let t = tables 𝓤 H 𝓜 𝓡 code.env in
     entered 𝓤 H (tripleOf 𝓤 H (𝓖 .A) head.signature (head.spec 𝓤 H (𝓖 .A) (𝓜 .mem) (𝓡 .run))) (t .C) (t .Λ) #head code.function (code.unfolded 𝓤 H 𝓜 𝓡)
     (meets 𝓤 H (𝓖 .A) (givenOf 𝓤 H 𝓜 𝓖) (𝓜 .mem) (𝓡 .run) (tablesOf 𝓤 H 𝓜 t)
-    (cited 𝓤 H (HeadAt 𝓤 H (𝓖 .A) (𝓜 .mem) (𝓡 .run)) 𝓜 𝓡 code.env #head-at head-at-def.routine code.calls-text·head-at (head-at-thm.met 𝓤 H 𝓜 𝓖 𝓡)))
+    (cited 𝓤 H (HeadAt 𝓤 H (𝓖 .A) (𝓜 .mem) (𝓡 .run)) 𝓜 𝓡 code.env #head-at head-at-def.routine code.calls-problem-text·head-at (head-at-thm.met 𝓤 H 𝓜 𝓖 𝓡)))

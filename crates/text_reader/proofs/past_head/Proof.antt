@@ -37,11 +37,12 @@ use denote.Triple.Table.{entered, cited}
 use denote.Triple.Walked.{says, Stays, stay-none, walkOf, goes-none, Walks, ends-at, walked, walk-meets}
 use denote.Exit.{yes}
 use denote.Triple.Clauses.{ensured, lasts}
-use Rattle.text.specs.Reader.{headAt}
-use Rattle.text.proofs.head_end as head-end
-use Rattle.text.proofs.head_end.Symbol as head-end-def
-use Rattle.text.proofs.head_end.Symbol.{name as #head-end}
-use Rattle.text.proofs.head_end.Met as head-end-thm
+use Rattle.text.specs.Forms.{loose}
+use Rattle.problem_text.specs.Reader.{headAt}
+use Rattle.problem_text.proofs.head_end as head-end
+use Rattle.problem_text.proofs.head_end.Symbol as head-end-def
+use Rattle.problem_text.proofs.head_end.Symbol.{name as #head-end}
+use Rattle.problem_text.proofs.head_end.Met as head-end-thm
 use Rattle.text_reader.specs.declared.Reader.{Reader}
 use Rattle.text_reader.proofs.Held.{lifetime, reader, type, laws, value, machine, held, taken-apart, promised}
 use Rattle.text_reader.proofs.Reader.Laws as T′
@@ -62,7 +63,7 @@ module _ {M : Type 1} (𝓤 : URA M) (H : Heap 𝓤) (A : Atoms 𝓤) (mem : Mem
 module _ {M : Type 1} (𝓤 : URA M) (H : Heap 𝓤) (A : Atoms 𝓤) (W : Given 𝓤 H A) (mem : Memory → SProp 𝓤) (run : Routine → Fun 𝓤) (l : Lft) (p : Share) (d : Reader) where
   -- the answer that the contract names
   abbrev answer : ℕ
-  answer = headAt (now (d .src)) (d .at) .at
+  answer = headAt loose (now (d .src)) (d .at) .at
 
   abbrev Entry : SProp 𝓤
   Entry = onEntry 𝓤 H A past.signature (l, tt) (p, tt) (d, tt) (machine d ∷ [], tt)
@@ -127,4 +128,4 @@ past-head-spec 𝓤 H 𝓜 𝓖 𝓡 =
     let t = tables 𝓤 H 𝓜 𝓡 code.env in
     entered 𝓤 H (tripleOf 𝓤 H (𝓖 .A) past.signature (past.spec 𝓤 H (𝓖 .A) (𝓜 .mem) (𝓡 .run))) (t .C) (t .Λ) #past code.function (code.unfolded 𝓤 H 𝓜 𝓡)
     (meets 𝓤 H (𝓖 .A) (givenOf 𝓤 H 𝓜 𝓖) (𝓜 .mem) (𝓡 .run) (tablesOf 𝓤 H 𝓜 t)
-    (cited 𝓤 H (HeadEnd 𝓤 H (𝓖 .A) (𝓜 .mem) (𝓡 .run)) 𝓜 𝓡 code.env #head-end head-end-def.routine code.calls-text·head-end (head-end-thm.met 𝓤 H 𝓜 𝓖 𝓡)))
+    (cited 𝓤 H (HeadEnd 𝓤 H (𝓖 .A) (𝓜 .mem) (𝓡 .run)) 𝓜 𝓡 code.env #head-end head-end-def.routine code.calls-problem-text·head-end (head-end-thm.met 𝓤 H 𝓜 𝓖 𝓡)))

@@ -33,10 +33,11 @@ use denote.Triple.Table.{entered, cited}
 use denote.Triple.Walked.{says, Stays, stay-none-slice, walkOf, goes-none-slice, Walks, ends-at, walked, walk-meets}
 use denote.Exit.{yes}
 use denote.Triple.Clauses.{ensured, lasts}
-use Rattle.text.specs.declared.Found.{Found}
-use Rattle.text.specs.Reader.{headAt}
-use Rattle.text.proofs.Found as P
-use Rattle.text.proofs.Found.Laws as P′
+use Rattle.text.specs.Forms.{loose}
+use Rattle.problem_text.specs.declared.Found.{Found}
+use Rattle.problem_text.specs.Reader.{headAt}
+use Rattle.problem_text.proofs.Found as P
+use Rattle.problem_text.proofs.Found.Laws as P′
 use Rattle.text_reader.specs.declared.Reader.{Reader}
 use Rattle.text_reader.proofs.Held.{reader, local, value, text-own, promised}
 use Rattle.text_reader.proofs.Reader as T
@@ -72,10 +73,10 @@ Begun t r = (r .src ≡ t) × (r .at ≡ 0)
 
 -- what a reader finds
 abbrev Lines : Reader → Found → Type 0
-Lines r x = x ≡ headAt (now (r .src)) (r .at)
+Lines r x = x ≡ headAt loose (now (r .src)) (r .at)
 
 -- what is found from there is what is read of the text
-whole : (t : RefT (List ℕ)) (r : Reader) (x : Found) → Begun t r → Lines r x → x ≡ headAt (now t) 0
+whole : (t : RefT (List ℕ)) (r : Reader) (x : Found) → Begun t r → Lines r x → x ≡ headAt loose (now t) 0
 whole t r x b e = e ∙ rw (b .0, b .1)
 
 module _ {M : Type 1} (𝓤 : URA M) (H : Heap 𝓤) (A : Atoms 𝓤) (W : Given 𝓤 H A) (mem : Memory → SProp 𝓤) (run : Routine → Fun 𝓤) (l : Lft) (p : Share) (t : RefT (List ℕ)) where
@@ -102,7 +103,7 @@ module _ {M : Type 1} (𝓤 : URA M) (H : Heap 𝓤) (A : Atoms 𝓤) (W : Given
   handed : (r : Reader) (u : Val) → ent 𝓤 (⋆ 𝓤 H A (‵ (reader (l, tt) .own r (u ∷ [])) ∷ (‵ (flft l p) ⊛ ‵ ftrue) ∷ [])) (Head 𝓤 H A mem run .pre (call-head r u))
   handed r u = qed W (‵ (reader (l, tt) .own r (u ∷ [])) ∷ (‵ (flft l p) ⊛ ‵ ftrue) ∷ []) ∵ nothing ! $ move ! (1 ∷ 0 ∷ []) $ fjoin ! $ move ! (1 ∷ 0 ∷ []) $ join ! $ frame ! $ done !
 
-  ends : (x : Found) (u : Val) → x ≡ headAt (now t) 0 → ent 𝓤 (⋆ 𝓤 H A (‵ (P.the-row .own x (u ∷ [])) ∷ (‵ (flft l p) ⊛ ‵ ftrue) ∷ ‵ (text-own l t) ∷ [])) (End u)
+  ends : (x : Found) (u : Val) → x ≡ headAt loose (now t) 0 → ent 𝓤 (⋆ 𝓤 H A (‵ (P.the-row .own x (u ∷ [])) ∷ (‵ (flft l p) ⊛ ‵ ftrue) ∷ ‵ (text-own l t) ∷ [])) (End u)
   ends x u e =
       qed W (‵ (P.the-row .own x (u ∷ [])) ∷ (‵ (flft l p) ⊛ ‵ ftrue) ∷ ‵ (text-own l t) ∷ []) ∵
       suffices ! _ (ends-at 𝓤 H A read.ended keeps (read.clauses 𝓤 H A mem run) W (((l, tt), (p, tt), tt, (t, tt), (value t ∷ [], tt)), tt) u x (tt, tt) (tt, tt)) $ says ! e $ move ! (1 ∷ []) $ frame ! $

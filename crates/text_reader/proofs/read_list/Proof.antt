@@ -33,11 +33,12 @@ use denote.Triple.Table.{entered, cited}
 use denote.Triple.Walked.{says, Stays, stay-none-slice, walkOf, goes-none-slice, Walks, ends-at, walked, walk-meets}
 use denote.Exit.{yes}
 use denote.Triple.Clauses.{ensured, lasts}
-use Rattle.text.specs.declared.listing.Listing.{Listing}
-use Rattle.text.specs.Listing.{listAt}
-use Rattle.text.specs.Reader.{headAt}
-use Rattle.text.proofs.listing.Listing as P
-use Rattle.text.proofs.listing.Listing.Laws as P′
+use Rattle.text.specs.Forms.{loose}
+use Rattle.problem_text.specs.declared.listing.Listing.{Listing}
+use Rattle.problem_text.specs.Listing.{listAt}
+use Rattle.problem_text.specs.Reader.{headAt}
+use Rattle.problem_text.proofs.listing.Listing as P
+use Rattle.problem_text.proofs.listing.Listing.Laws as P′
 use Rattle.text_reader.specs.declared.Reader.{Reader}
 use Rattle.text_reader.proofs.Held.{reader, local, value, text-own, promised}
 use Rattle.text_reader.proofs.Reader as T
@@ -79,13 +80,13 @@ abbrev Begun : RefT (List ℕ) → Reader → Type 0
 Begun t r = (r .src ≡ t) × (r .at ≡ 0)
 
 abbrev Behind : Reader → Reader → Type 0
-Behind r q = (q .src ≡ r .src) × (q .at ≡ headAt (now (r .src)) (r .at) .at)
+Behind r q = (q .src ≡ r .src) × (q .at ≡ headAt loose (now (r .src)) (r .at) .at)
 
 abbrev Listed : Reader → Listing → Type 0
-Listed q x = x ≡ listAt (now (q .src)) (q .at)
+Listed q x = x ≡ listAt loose (now (q .src)) (q .at)
 
 abbrev Whole : RefT (List ℕ) → Listing → Type 0
-Whole t x = x ≡ listAt (now t) (headAt (now t) 0 .at)
+Whole t x = x ≡ listAt loose (now t) (headAt loose (now t) 0 .at)
 
 whole : (t : RefT (List ℕ)) (r q : Reader) (x : Listing) → Begun t r → Behind r q → Listed q x → Whole t x
 whole t r q x b c e = e ∙ rw (c .0, c .1, b .0, b .1)

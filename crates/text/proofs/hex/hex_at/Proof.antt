@@ -3,17 +3,17 @@ use Prim.Native.Nat.{_+_, _≤_, _<_, _-_, _*_, _/_, _^_}
 use native.Mathlib.Omega.{arith}
 use mathlib.Core.Path.{_≡_, refl, sym, _∙_}
 use lib.ListN.{length, getD}
+use Rattle.text.specs.DigitLaws.{digit-within, more-step, more-stop, more-end, hexAt-step, hexAt-none, sixteenth, weighed}
 use Rattle.text.specs.Hex.{digit, more, hexAt}
-use Rattle.text.specs.DigitLaws.{digit-within, more-step, more-stop, more-end, hexAt-step, hexAt-none, stops, sixteenth, weighed}
 use Rattle.text.proofs.hex.hex_at.Statement.{statement}
 use Rattle.text.proofs.hex.hex_at.Tie as tie
 
 abbrev Inv-loop : tie.InvT-loop
-Inv-loop s at first weight₀ m₀ last₀ i₀ k₀ weight m last i k =
-    (k ≤ 15) × (weight ≡ 16 ^ k) × (m + weight ≤ 2 ^ 64) × (i ≤ length s) × (hexAt s at ≡ more s k i m last) × (0 < weight)
+Inv-loop s at first weight₀ m₀ i₀ k₀ weight m i k =
+    (k ≤ 15) × (weight ≡ 16 ^ k) × (m + weight ≤ 2 ^ 64) × (i ≤ length s) × (hexAt s at ≡ more s k i m) × (0 < weight)
 
 abbrev μ-loop : tie.MeasureT-loop
-μ-loop s at first weight₀ m₀ last₀ i₀ k₀ weight m last i k = k
+μ-loop s at first weight₀ m₀ i₀ k₀ weight m i k = k
 
 byte-requires : tie.Need-byte-requires Inv-loop μ-loop
 byte-requires c κs = tt
@@ -52,16 +52,13 @@ byte-requires-2 c κs = tt
 hex-digit-requires-2 : tie.Need-hex-digit-requires-2 Inv-loop μ-loop
 hex-digit-requires-2 c κs = tt
 
-stopped-requires : tie.Need-stopped-requires Inv-loop μ-loop
-stopped-requires c κs = tt
-
 returns-2 : tie.Need-returns-2 Inv-loop μ-loop
 returns-2 c =
-    let a = c .before .before .before .before .before .before .before .before .before .before .before .args in
-    let l = c .before .before .before .before .before .loop in
-    let v : c .before .before .hex-digit2 .result ≡ digit (getD (a .s .now) (l .i) 0) = cc in
-    let e = l .inv .4 ∙ more-stop (a .s .now) (l .i) (l .m) (l .last) _ v (l .k) (omega arith) (c .before .if2 .taken) in
-    stops _ _ (l .m) (l .last) (l .i) _ e (omega arith) (c .stopped .ensures)
+    let a = c .before .before .before .before .before .before .before .before .before .before .args in
+    let l = c .before .before .before .before .loop in
+    let v : c .before .hex-digit2 .result ≡ digit (getD (a .s .now) (l .i) 0) = cc in
+    let e = l .inv .4 ∙ more-stop (a .s .now) (l .i) (l .m) _ v (l .k) (omega arith) (c .if2 .taken) in
+    record { is = sym e; within = omega arith }
 
 wide-requires-2 : tie.Need-wide-requires-2 Inv-loop μ-loop
 wide-requires-2 c κs = tt
@@ -98,18 +95,15 @@ loop-again c =
     let h : c .wide2 .result * u ≤ 15 * u = weighed _ u (omega arith) in
     let w : u ≡ 16 ^ (l .k - 1) = omega (arith, sixteenth (l .k) (omega arith)) in
     let g : digit (getD (a .s .now) (l .i) 0) < 16 = omega arith in
-    let e = l .inv .4 ∙ more-step (a .s .now) (l .i) (l .m) (l .last) _ v (l .k) (omega arith) b in
+    let e = l .inv .4 ∙ more-step (a .s .now) (l .i) (l .m) _ v (l .k) (omega arith) b in
     (omega arith, w, omega (arith, h), omega (arith, digit-within (a .s .now) (l .i) g), rw (w, ← d) e, omega (arith, sixteenth (l .k) (omega arith)))
-
-stopped-requires-2 : tie.Need-stopped-requires-2 Inv-loop μ-loop
-stopped-requires-2 c κs = tt
 
 returns-3 : tie.Need-returns-3 Inv-loop μ-loop
 returns-3 c =
-    let a = c .before .before .before .before .before .before .before .before .args in
-    let l = c .before .before .loop in
-    let e = l .inv .4 ∙ more-end (a .s .now) (l .i) (l .m) (l .last) (l .k) (omega arith) in
-    stops _ _ (l .m) (l .last) (l .i) _ e (omega arith) (c .stopped2 .ensures)
+    let a = c .before .before .before .before .before .before .before .args in
+    let l = c .before .loop in
+    let e = l .inv .4 ∙ more-end (a .s .now) (l .i) (l .m) (l .k) (omega arith) in
+    record { is = sym e; within = omega arith }
 
 pub hex-at-spec : {M : Type 1} → statement M
 hex-at-spec =
@@ -126,7 +120,6 @@ hex-at-spec =
     loop-holds
     byte-requires-2
     hex-digit-requires-2
-    stopped-requires
     returns-2
     wide-requires-2
     mul-m-2
@@ -135,5 +128,4 @@ hex-at-spec =
     sub-k
     loop-less
     loop-again
-    stopped-requires-2
     returns-3)

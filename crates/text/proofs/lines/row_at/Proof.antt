@@ -4,6 +4,7 @@ use native.Mathlib.Omega.{arith}
 use mathlib.Core.Path.{_≡_, refl, sym, _∙_}
 use lib.ListN.{length}
 use Rattle.text.specs.declared.hex.Real.the-variants.{Is}
+use Rattle.text.specs.Forms.{loose}
 use Rattle.text.specs.Lines.{wordAt, rowFrom, rowAt}
 use Rattle.text.proofs.Rows.{row-start, with-float, row-step, row-stop, row-end, word-within}
 use borrow.Author.Needs.{needs}
@@ -11,7 +12,7 @@ use Rattle.text.proofs.lines.row_at.Statement.{statement}
 use Rattle.text.proofs.lines.row_at.Tie as tie
 
 abbrev Inv-loop : tie.InvT-loop
-Inv-loop s at r₀ k₀ r k = (k ≤ length s) × (r .count ≡ k) × (r .at ≤ length s) × (rowAt s at ≡ rowFrom s (length s - k) r)
+Inv-loop s at r₀ k₀ r k = (k ≤ length s) × (r .count ≡ k) × (r .at ≤ length s) × (rowAt loose s at ≡ rowFrom loose s (length s - k) r)
 
 abbrev μ-loop : tie.MeasureT-loop
 μ-loop s at r₀ k₀ r k = length s - k
@@ -30,7 +31,7 @@ loop-again c =
     let l = word .before .before .loop in
     let x = found .x .given .0 .0 in
     let j = found .x .given .0 .1 .0 in
-    let e : wordAt (start .s .now) (l .r .at) ≡ Is x j = sym (word .word-at .ensures .is) ∙ found .x .given .1 in
+    let e : wordAt loose (start .s .now) (l .r .at) ≡ Is x j = sym (word .word-at .ensures .is) ∙ found .x .given .1 in
     let n : length (start .s .now) - (l .k + 1) ≡ length (start .s .now) - l .k - 1 = omega arith in
     (omega arith, refl, word-within _ _ x j _ (word .word-at .ensures) (found .x .given .1), rw (n, with-float (l .r) (l .k) _ x j (l .inv .1) (c .put-float .ensures)) (l .inv .3 ∙ row-step (start .s .now) (l .r) _ (omega arith) x j e))
 

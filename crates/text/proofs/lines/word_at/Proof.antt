@@ -12,14 +12,11 @@ byte-requires c κs = search needs
 returns : tie.Need-returns
 returns c = word-none _ _ (λ h. c .if1 .taken (c .before .byte .ensures ∙ h))
 
-add-real-at : tie.Need-add-real-at
-add-real-at c = omega (arith, blank-within (c .before .before .before .args .s .now) (c .before .before .before .args .at) (sym (c .before .byte .ensures) ∙ c .if1 .left))
-
-real-at-requires : tie.Need-real-at-requires
-real-at-requires c κs = omega (arith, blank-within (c .before .before .before .args .s .now) (c .before .before .before .args .at) (sym (c .before .byte .ensures) ∙ c .if1 .left))
+past-blanks-requires : tie.Need-past-blanks-requires
+past-blanks-requires c κs = omega (arith, blank-within (c .before .before .before .args .s .now) (c .before .before .before .args .at) (sym (c .before .byte .ensures) ∙ c .if1 .left))
 
 returns-2 : tie.Need-returns-2
-returns-2 c = word-some _ _ _ (sym (c .before .before .byte .ensures) ∙ c .before .if1 .left) (c .real-at .ensures)
+returns-2 c = word-some _ _ _ _ (sym (c .before .before .before .byte .ensures) ∙ c .before .before .if1 .left) (c .before .past-blanks .ensures) (c .real-at .ensures)
 
 pub word-at-spec : {M : Type 1} → statement M
-word-at-spec = tie.close (tie.spec byte-requires returns add-real-at real-at-requires returns-2)
+word-at-spec = tie.close (tie.spec byte-requires returns (λ c. search needs) past-blanks-requires (λ c κs. search needs) returns-2)

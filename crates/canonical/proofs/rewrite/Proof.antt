@@ -1,0 +1,16 @@
+-- `canonical::rewrite` meets its contract. Assumes nothing.
+use borrow.Author.Needs.{needs}
+use Rattle.canonical.specs.CanonicalLaws.{refused-rewrites, going-rewrites}
+use Rattle.canonical.proofs.rewrite.Statement.{statement}
+use Rattle.canonical.proofs.rewrite.Tie as tie
+
+returns : tie.Need-returns
+returns c = refused-rewrites _ _ _ _ _ (c .before .fate .given .1)
+
+returns-2 : tie.Need-returns-2
+returns-2 c =
+    let written = c .before .before .before in
+    going-rewrites _ _ _ _ _ _ (written .before .before .before .enum-told .given .1) (c .counts-fate .ensures) (written .before .write-problem .ensures)
+
+pub rewrite-spec : {M : Type 1} → statement M
+rewrite-spec = tie.close (tie.spec (λ c. search needs) (λ c. search needs) (λ c κs. search needs) (λ c κs. search needs) returns (λ c. search needs) returns-2)

@@ -1,0 +1,19 @@
+-- One text for one problem: the strict form, what is written, which texts are accepted; then the laws between them.
+pub mod Strict
+pub mod Pieces
+pub mod Texts
+pub mod Looks
+pub mod Positions
+pub mod CapitalLaws
+pub mod StrictLaws
+pub mod FormLaws
+pub mod Spans
+pub mod LineLaws
+pub mod ListLaws
+pub mod PackLaws
+pub mod TextLaws
+pub mod PrintLaws
+pub mod Canonical
+pub mod LookLaws
+pub mod Shorter
+pub mod Examples

@@ -1,0 +1,2 @@
+-- What the proofs of the list and of the reader share.
+pub mod Lists

@@ -1,0 +1,16 @@
+-- `problem_text::next_line` meets its contract. Assumes nothing.
+use Rattle.problem_text.specs.Reader.{nextLine}
+use borrow.Author.Needs.{needs}
+use Rattle.problem_text.proofs.next_line.Statement.{statement}
+use Rattle.problem_text.proofs.next_line.Tie as tie
+
+returns : tie.Need-returns
+unfolding nextLine
+returns c = simp (c .enum-told .given .1)
+
+returns-2 : tie.Need-returns-2
+unfolding nextLine
+returns-2 c = simp (c .before .before .enum-told2 .given .1) (rw (c .before .line-at .ensures) at (c .with-row .ensures))
+
+pub next-line-spec : {M : Type 1} → statement M
+next-line-spec = tie.close (tie.spec (λ c. search needs) (λ c. search needs) (λ c κs. search needs) (λ c κs. search needs) returns returns-2)

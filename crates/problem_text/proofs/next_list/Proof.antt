@@ -1,0 +1,16 @@
+-- `problem_text::next_list` meets its contract. Assumes nothing.
+use Rattle.problem_text.specs.Reader.{nextList}
+use borrow.Author.Needs.{needs}
+use Rattle.problem_text.proofs.next_list.Statement.{statement}
+use Rattle.problem_text.proofs.next_list.Tie as tie
+
+returns : tie.Need-returns
+unfolding nextList
+returns c = simp (c .enum-told .given .1)
+
+returns-2 : tie.Need-returns-2
+unfolding nextList
+returns-2 c = simp (c .before .enum-told2 .given .1) (c .with-list .ensures)
+
+pub next-list-spec : {M : Type 1} → statement M
+next-list-spec = tie.close (tie.spec (λ c. search needs) (λ c. search needs) (λ c κs. search needs) returns returns-2)

@@ -1,0 +1,17 @@
+-- `problem_text::problem_of` meets its contract. Assumes nothing.
+use Rattle.problem_text.specs.Reader.{problemOf}
+use borrow.Author.Needs.{needs}
+use Rattle.problem_text.proofs.problem_of.Statement.{statement}
+use Rattle.problem_text.proofs.problem_of.Tie as tie
+
+returns : tie.Need-returns
+unfolding problemOf
+returns c = rw (c .momenta-of .ensures, c .before .weights-of .ensures, c .before .before .quat-of2 .ensures, c .before .before .before .quat-of .ensures)
+
+pub problem-of-spec : {M : Type 1} → statement M
+problem-of-spec =
+    tie.close
+    (tie.spec
+    (λ c. search needs) (λ c. search needs) (λ c. search needs) (λ c. search needs) (λ c. search needs) (λ c. search needs) (λ c. search needs) (λ c. search needs)
+    (λ c κs. search needs) (λ c κs. search needs) (λ c. search needs) (λ c. search needs) (λ c. search needs) (λ c κs. search needs) (λ c. search needs) (λ c. search needs)
+    (λ c κs. search needs) returns)

@@ -1,0 +1,12 @@
+-- `problem_text::read_of` meets its contract. Assumes nothing.
+use Rattle.problem_text.specs.Reader.{readOf}
+use borrow.Author.Needs.{needs}
+use Rattle.problem_text.proofs.read_of.Statement.{statement}
+use Rattle.problem_text.proofs.read_of.Tie as tie
+
+returns : tie.Need-returns
+unfolding readOf
+returns c = rw (c .problem-of .ensures, ← c .before .before .before .before .next-list .ensures, ← c .before .before .before .judge-count .ensures)
+
+pub read-of-spec : {M : Type 1} → statement M
+read-of-spec = tie.close (tie.spec (λ c κs. search needs) (λ c κs. search needs) (λ c κs. search needs) returns)
