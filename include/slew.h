@@ -1,7 +1,8 @@
 /* The slew planner, as a controller calls it from C or C++ on x86-64. Link target/staticlib/libexport.a, which `rt staticlib export` writes;
  * the functions below "Rooms with moving air" are in libexport_tools.a, which `rt staticlib export_tools` writes, those below "Whole numbers for the drive board" in
  * libexport_board.a, which `rt staticlib export_board` writes, those below "A whole mosaic" in libexport_mosaic.a, which `rt staticlib export_mosaic` writes, those below
- * "Ask, then commit" in libexport_preview.a, which `rt staticlib export_preview` writes.
+ * "Ask, then commit" in libexport_preview.a, which `rt staticlib export_preview` writes, slew_plan_eigenaxis_numbers in libexport_eigenaxis.a, which `rt staticlib
+ * export_eigenaxis` writes.
  *
  * Every function here is proved to answer what the definitions say, for every value of its arguments, NaN and infinities included, and to end. Nothing is
  * allocated, nothing is kept between calls, nothing is read or written but what is lent: calls from several threads need only different buffers.
@@ -92,6 +93,13 @@ size_t slew_plan_from_numbers(const size_t counts[11], const double actuators[10
                               double *workspace, size_t workspace_count,
                               size_t told[5], double *duration, double *max_defect, double decision[193], double nodes[374],
                               size_t held[12]);
+
+/* The same about one axis (README.md, "Slews about one axis"): the planner's answer from the eigenaxis seed of the shortest duration that the ladder finds, fastest or, where `gentle` is
+ * true, along one smooth wave. The weights (body 21 to 26) are not read, so the workspace is that of 28 residuals. The runs told are those of every try, at most 226,258. In libexport_eigenaxis.a. */
+size_t slew_plan_eigenaxis_numbers(const size_t counts[11], const double actuators[100], const double body[37], bool limited, bool gentle,
+                                   double *workspace, size_t workspace_count,
+                                   size_t told[5], double *duration, double *max_defect, double decision[193], double nodes[374],
+                                   size_t held[12]);
 
 /* The bang-coast-bang profile from which the planner's own seed is taken. Returns 0 and the 22 numbers: angle, acceleration, time of acceleration, time of
  * coast, duration, peak rate (0 to 5), axis (6 to 8), inertia by rows (9 to 17), q0 (18 to 21). Or a refusal's number (1 to 7, 11), and leaves `profile`

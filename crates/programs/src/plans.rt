@@ -16,7 +16,7 @@ pub struct Answered {
 }
 
 // What a refusal means, in a sentence; of a path nothing.
-fn say(fate: Fate, said: &mut [u8]) -> usize
+pub fn say(fate: Fate, said: &mut [u8]) -> usize
     ensures { λ r. ⌜ Puts (now (said .entry)) 0 (Programs.sentence fate) 212 (now (said .exit)) r ⌝ }
 {
     match fate {

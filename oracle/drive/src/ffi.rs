@@ -223,6 +223,21 @@ mod entries {
             nodes: &mut [[f64; 22]; 17],
             held: &mut [usize; 12],
         ) -> usize;
+        pub fn slew_plan_eigenaxis_numbers(
+            c: &Counts,
+            v: &Numbers,
+            b: &[f64; 37],
+            limited: bool,
+            gentle: bool,
+            ws: *mut f64,
+            ws_len: usize,
+            counts: &mut [usize; 5],
+            duration: &mut f64,
+            max_defect: &mut f64,
+            z: &mut [f64; 193],
+            nodes: &mut [[f64; 22]; 17],
+            held: &mut [usize; 12],
+        ) -> usize;
         pub fn slew_plan_from_numbers(
             c: &Counts,
             v: &Numbers,
@@ -250,6 +265,13 @@ pub fn slew_plan_numbers(flat: &crate::maps::Flat, b: &[f64; 37], limited: bool,
     let (c, v) = (&flat.counts, &flat.numbers);
     let lent = (ws.as_mut_ptr(), ws.len());
     unsafe { entries::slew_plan_numbers(c, v, b, limited, lent.0, lent.1, &mut o.counts, &mut o.duration, &mut o.max_defect, &mut o.z, &mut o.nodes, &mut o.held) }
+}
+
+/// The eigenaxis plan: the fastest shape, or the gentle one.
+pub fn slew_plan_eigenaxis_numbers(flat: &crate::maps::Flat, b: &[f64; 37], limited: bool, gentle: bool, ws: &mut [f64], o: &mut Planned) -> usize {
+    let (c, v) = (&flat.counts, &flat.numbers);
+    let lent = (ws.as_mut_ptr(), ws.len());
+    unsafe { entries::slew_plan_eigenaxis_numbers(c, v, b, limited, gentle, lent.0, lent.1, &mut o.counts, &mut o.duration, &mut o.max_defect, &mut o.z, &mut o.nodes, &mut o.held) }
 }
 
 /// A caller's seed: three slices that do not overlap.

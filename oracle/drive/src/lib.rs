@@ -10,6 +10,7 @@ pub mod canonical;
 pub mod courses;
 pub mod damage;
 pub mod edges;
+pub mod eigenaxis;
 pub mod leaves;
 pub mod libraries;
 pub mod maps;

@@ -1,0 +1,13 @@
+-- `begun` meets its contract. Assumes nothing.
+use borrow.Author.Tests.{eq-eqb, ne-eqb}
+use Rattle.eigenaxis.proofs.begun.Statement.{statement}
+use Rattle.eigenaxis.proofs.begun.Tie as tie
+
+returns : tie.Need-returns
+returns c = rw (eq-eqb _ _ (c .if1 .taken))
+
+returns-2 : tie.Need-returns-2
+returns-2 c = rw (ne-eqb _ _ (c .if1 .left))
+
+pub begun-spec : {M : Type 1} → statement M
+begun-spec = tie.close (tie.spec returns returns-2)

@@ -1,0 +1,23 @@
+-- `follow` meets its contract. Assumes nothing.
+use Rattle.eigenaxis_seed.specs.Seeds as Seeds
+use borrow.Author.Needs.{needs}
+use Rattle.eigenaxis_seed.proofs.follow.Statement.{statement}
+use Rattle.eigenaxis_seed.proofs.follow.Tie as tie
+
+returns : tie.Need-returns
+unfolding Seeds.momentaAfter
+returns c = rw (c .gimbals-next .ensures, c .before .before .body-momentum .ensures, c .before .before .before .before .rate-after .ensures, c .before .before .before .before .before .charged .ensures, c .before .before .before .before .before .before .wheel-momentum-rates .ensures)
+
+pub follow-spec : {M : Type 1} → statement M
+follow-spec =
+    tie.close
+    (tie.spec
+    (λ c. search needs)
+    (λ c κs. search needs)
+    (λ c κs. search needs)
+    (λ c κs. search needs)
+    (λ c. search needs)
+    (λ c κs. search needs)
+    (λ c. search needs)
+    (λ c κs. search needs)
+    returns)

@@ -1,0 +1,21 @@
+-- `mixed` meets its contract. Assumes nothing.
+use Rattle.eigenaxis_seed.specs.Seeds as Seeds
+use borrow.Author.Needs.{needs}
+use Rattle.eigenaxis_seed.proofs.mixed.Statement.{statement}
+use Rattle.eigenaxis_seed.proofs.mixed.Tie as tie
+
+returns : tie.Need-returns
+unfolding Seeds.mixed
+returns c = rw (c .against3 .ensures, c .before .before .against2 .ensures, c .before .before .before .before .against .ensures)
+
+pub mixed-spec : {M : Type 1} → statement M
+mixed-spec =
+    tie.close
+    (tie.spec
+    (λ c. search needs)
+    (λ c κs. search needs)
+    (λ c. search needs)
+    (λ c κs. search needs)
+    (λ c. search needs)
+    (λ c κs. search needs)
+    returns)

@@ -1,0 +1,13 @@
+-- `pyramid_share` meets its contract. Assumes nothing.
+use lib.Ieee as Ieee
+use Rattle.eigenaxis_seed.specs.Seeds as Seeds
+use borrow.Author.Needs.{needs}
+use Rattle.eigenaxis_seed.proofs.pyramid_share.Statement.{statement}
+use Rattle.eigenaxis_seed.proofs.pyramid_share.Tie as tie
+
+returns : tie.Need-returns
+unfolding Seeds.pyramidShare Ieee.ofBits Ieee.neg
+returns c = rw (c .apply-tensor .ensures, c .before .scale3 .ensures, c .before .before .tensor .ensures, c .before .before .before .before .invert3 .ensures, c .before .before .before .before .before .mixed .ensures)
+
+pub pyramid-share-spec : {M : Type 1} → statement M
+pyramid-share-spec = tie.close (tie.spec (λ c κs. search needs) (λ c κs. search needs) (λ c κs. search needs) (λ c κs. search needs) (λ c κs. search needs) returns)

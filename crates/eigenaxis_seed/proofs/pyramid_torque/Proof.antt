@@ -1,0 +1,12 @@
+-- `pyramid_torque` meets its contract. Assumes nothing.
+use lib.Ieee as Ieee
+use borrow.Author.Needs.{needs}
+use Rattle.eigenaxis_seed.proofs.pyramid_torque.Statement.{statement}
+use Rattle.eigenaxis_seed.proofs.pyramid_torque.Tie as tie
+
+returns : tie.Need-returns
+unfolding Ieee.ofBits
+returns c = rw (c .pyramid-by .ensures, c .before .rows2 .ensures, c .before .before .rows .ensures, c .before .before .before .before .before .pyramid-a2 .ensures, c .before .before .before .before .before .before .pyramid-a .ensures)
+
+pub pyramid-torque-spec : {M : Type 1} → statement M
+pyramid-torque-spec = tie.close (tie.spec (λ c κs. search needs) (λ c κs. search needs) (λ c κs. search needs) (λ c κs. search needs) (λ c κs. search needs) returns)

@@ -1,0 +1,12 @@
+-- `step` meets its contract. Assumes nothing.
+use Rattle.eigenaxis_seed.specs.Seeds as Seeds
+use borrow.Author.Needs.{needs}
+use Rattle.eigenaxis_seed.proofs.step.Statement.{statement}
+use Rattle.eigenaxis_seed.proofs.step.Tie as tie
+
+returns : tie.Need-returns
+unfolding Seeds.step
+returns c = rw (c .both .ensures, c .before .alike .ensures, c .before .before .follow .ensures, c .before .before .before .placed2 .ensures, c .before .before .before .before .placed .ensures, c .before .before .before .before .before .held-row .ensures, c .before .before .before .before .before .before .row-of .ensures, c .before .before .before .before .before .before .before .seed-torque .ensures)
+
+pub step-spec : {M : Type 1} → statement M
+step-spec = tie.close (tie.spec (λ c κs. search needs) (λ c κs. search needs) (λ c κs. search needs) (λ c. search needs) (λ c κs. search needs) (λ c κs. search needs) (λ c κs. search needs) (λ c κs. search needs) (λ c κs. search needs) returns)

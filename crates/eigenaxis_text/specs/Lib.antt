@@ -1,0 +1,2 @@
+-- The eigenaxis plan of a problem's text.
+pub mod EigenaxisTexts

@@ -1,0 +1,2 @@
+-- Eigenaxis plans over the C interface.
+pub mod Entries
