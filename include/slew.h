@@ -15,6 +15,9 @@
 #ifndef SLEW_H
 #define SLEW_H
 
+/* The interface's version: the first number changes where a caller has to, the second where something is added. */
+#define SLEW_VERSION "2.0.0"
+
 #include <stdbool.h>
 #include <stddef.h>
 #include <stdint.h>
@@ -100,6 +103,12 @@ size_t slew_plan_eigenaxis_numbers(const size_t counts[11], const double actuato
                                    double *workspace, size_t workspace_count,
                                    size_t told[5], double *duration, double *max_defect, double decision[193], double nodes[374],
                                    size_t held[12]);
+
+/* One run of the step law on a decision, no search: an answered path's problem and decision give its nodes and its max_defect again, bit for bit, by proof. In
+ * libexport_runs.a, which `rt staticlib export_runs` writes. Returns 0, or a refusal's number: the checks (1 to 6, 8, 22) with 0 runs, or 5, 11, 12, 13 of the run; beside it
+ * nodes and defect are zeros. `place` gets the refusal's place, or 0; `runs` 1 where the run began, else 0. The duration is taken as it stands. */
+size_t slew_reconstruct(const size_t counts[11], const double actuators[100], const double body[37], bool limited,
+                        const double decision[193], double nodes[374], double *max_defect, size_t *place, size_t *runs);
 
 /* The bang-coast-bang profile from which the planner's own seed is taken. Returns 0 and the 22 numbers: angle, acceleration, time of acceleration, time of
  * coast, duration, peak rate (0 to 5), axis (6 to 8), inertia by rows (9 to 17), q0 (18 to 21). Or a refusal's number (1 to 7, 11), and leaves `profile`
@@ -205,6 +214,10 @@ size_t slew_board_list(const double inertia[9], double tolerance, double duratio
                        int32_t (*rows)[13], size_t rows_count, size_t *written, size_t *place);
 
 /* Below: functions that stand beside a plan. Link target/staticlib/libexport_tools.a, which `rt staticlib export_tools` writes. */
+
+/* What a refusal means, in the sentence that the program slew prints: number and place as a call returned and told them. The answer is how many bytes the sentence
+ * has, its line feed too; as many of them as `out` holds are put there, without a final zero. 256 bytes hold every sentence. */
+size_t slew_explain(size_t number, size_t place, uint8_t *out, size_t out_count);
 
 /* Byte planes of a recorder's column: each number's 64 bits are combined with its predecessor's by exclusive or (the first is kept), then all top bytes stand
  * first, all next bytes after them, down to the lowest. Like bytes stand together, so a compressor finds more in them. A column is up to SLEW_COLUMN_MOST bit

@@ -1,6 +1,7 @@
 #!/usr/bin/env python3
 """Tests of slewtext: python3 tools/test_slewtext.py"""
 
+import html.parser
 import importlib.machinery
 import importlib.util
 import io
@@ -533,7 +534,7 @@ class Mosaics(unittest.TestCase):
     def test_a_drawing_over_the_scan(self):
         root = xml.etree.ElementTree.fromstring(slewtext.scan_drawing(slewtext.read_legs(stored("nine-tiles.answer")), *slewtext.read_mosaic(stored("nine-tiles.mosaic"))))
         lines = root.findall("{http://www.w3.org/2000/svg}polyline")
-        self.assertEqual((len(lines), {len(line.get("points").split()) for line in lines}), (1 + 3 + 3 + 3 + 3, {8 * 17, 8 * 16}))
+        self.assertEqual((len(lines), {len(line.get("points").split()) for line in lines}), (1 + 4 + 3 + 3 + 3, {8 * 17, 2 * 8 * 17 - 1, 2 * 8 * 16}))
         self.assertRaises(slewtext.Fault, slewtext.scan_drawing, slewtext.read_legs(stored("nine-tiles.answer")), *slewtext.read_mosaic(stored("refused-second-leg.mosaic")))
 
 
@@ -543,7 +544,7 @@ class Drawings(unittest.TestCase):
         self.assertEqual(problem["wheels"], [4.0, 4.0, 4.0])
         svg = slewtext.drawing(slewtext.read_path(path_text(3, "3FE BFE 3FDFFFFFFFFFFFFF")), problem)
         root = xml.etree.ElementTree.fromstring(svg)
-        self.assertEqual(len([e for e in root if e.tag.endswith("polyline")]), 1 + 3 + 3 + 3 + 3)
+        self.assertEqual(len([e for e in root if e.tag.endswith("polyline")]), 1 + 4 + 3 + 3 + 3)
         self.assertEqual(len([e for e in root if e.tag.endswith("circle")]), 2 * 16)
         self.assertRaises(slewtext.Fault, slewtext.drawing, slewtext.read_path(path_text(3)), problem)
 
@@ -659,6 +660,72 @@ class Region(unittest.TestCase):
         for words in (("x", "0"), ("65", "0"), ("0", "-9"), ("--as", "wind", "0", "0"), ("--as", "drive")):
             fault = run("duel", *words)
             self.assertEqual((fault.returncode, fault.stdout, len(fault.stderr.splitlines())), (1, "", 1), words)
+
+
+class Balance(html.parser.HTMLParser):
+    """Every tag that is opened is closed, in order."""
+    def __init__(self):
+        super().__init__()
+        self.open, self.wrong = [], []
+
+    def handle_starttag(self, tag, attrs):
+        if tag not in ("meta", "rect", "line", "polyline", "circle"):
+            self.open.append(tag)
+
+    def handle_startendtag(self, tag, attrs):
+        pass
+
+    def handle_endtag(self, tag):
+        if not self.open or self.open.pop() != tag:
+            self.wrong.append(tag)
+
+
+class Reports(unittest.TestCase):
+    def page(self, problem, answer):
+        folder = os.path.join(slewtext.ROOT, "examples")
+        text = slewtext.report(os.path.join(folder, problem), os.path.join(folder, answer))
+        check = Balance()
+        check.feed(text)
+        self.assertEqual((check.open, check.wrong), ([], []))
+        self.assertTrue(text.startswith("<!doctype html>") and "<script" not in text and "http://" not in text.replace("http://www.w3.org/2000/svg", ""))
+        return text
+
+    def test_paths(self):
+        for name in ("quarter-turn", "three-wheels", "thrusters", "gyro-pyramid", "slew-limit", "turning-wheels"):
+            text = self.page(name + ".toml", name + ".answer")
+            self.assertEqual(text, self.page(name + ".slew", name + ".answer"))
+            self.assertIn("What is proved of this path", text)
+        self.assertIn("A slew of 90 degrees in 10.03 s", self.page("quarter-turn.toml", "quarter-turn.answer"))
+
+    def test_refusals(self):
+        self.assertIn("A slew that is refused", self.page("refused-half-turn.toml", "refused-half-turn.answer"))
+
+    def test_mosaics(self):
+        self.assertIn("8 of 8 legs planned", self.page("nine-tiles.toml", "nine-tiles.answer"))
+        self.assertIn('class="refused"', self.page("refused-second-leg.mosaic", "refused-second-leg.answer"))
+
+    def test_another_problems_path(self):
+        self.assertRaises(slewtext.Fault, self.page, "three-wheels.toml", "gyro-pyramid.answer")
+
+
+class Run(unittest.TestCase):
+    """The words of ./run that need no program."""
+    def run_with(self, *words):
+        return subprocess.run([os.path.join(slewtext.ROOT, "run"), *words], capture_output=True, text=True)
+
+    def test_help(self):
+        told = self.run_with("--help")
+        self.assertEqual((told.returncode, told.stderr), (0, ""))
+        for words in ("--eigenaxis", "--samples", "--board", "--canonical", "--order", "--region", "Exit status"):
+            self.assertIn(words, told.stdout)
+
+    def test_wrong_words(self):
+        text = os.path.join(slewtext.ROOT, "examples", "quarter-turn.slew")
+        for words in ([], ["nowhere"], ["/"], ["--no", text], ["--samples", text], ["--samples", "x", text], ["--samples", "-1", text], ["--samples", "9", "--bord", text],
+                      ["--eigenaxis"], ["--eigenaxis", "--fast", text], ["--order"], ["--canonical", "nowhere"], ["--region", "1"], ["--region", "a", "1"], [text, text]):
+            told = self.run_with(*words)
+            self.assertEqual((told.returncode, told.stdout), (2, ""), words)
+            self.assertIn("--help", told.stderr)
 
 
 if __name__ == "__main__":

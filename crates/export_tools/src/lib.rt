@@ -5,4 +5,5 @@
 pub mod order;
 pub mod planes;
 pub mod region;
+pub mod sentences;
 pub mod texts;
