@@ -23,8 +23,10 @@ th { color: var(--soft); font-weight: 600; }
 td.n, th.n { text-align: right; white-space: nowrap; }
 svg { width: 100%; min-width: 38rem; height: auto; display: block; }
 code { font-family: ui-monospace, Menlo, Consolas, monospace; font-size: .88em; overflow-wrap: anywhere; }
-.refused { border-left: .3rem solid var(--bad); padding: .4rem 1rem; background: #fdf3f2; }
+.refused { border-left: .3rem solid var(--bad); padding: .4rem 1rem; margin-bottom: .8rem; background: #fdf3f2; }
 .at { color: var(--bad); font-weight: 600; }
+.narrow { display: none; color: var(--soft); font-size: .85rem; }
+@media (max-width: 44rem) { .narrow { display: block; } th, td { font-size: .84rem; padding-right: .55rem; } }
 @media print { .card { border: 1px solid var(--line); } }
 """
 
@@ -35,7 +37,8 @@ PROVED = [
     ("Each control is in size at most its actuator's limit.", "planner Promised: controls"),
     ("The table ends within 0.0001 rad of the final attitude, and at a rate of at most 0.0001 rad/s.", "planner Promised: end-error, end-rate"),
     ("At every node each body torque and each wheel momentum passes its limit by less than the number next above 1e-9.", "planner Promised: torques, momenta"),
-    ("The forward runs told are those that the search begins, and no more than their bound.", "planner Promised: runs, bound"),
+    ("The forward runs told are those that were begun, by the search or by every try of an eigenaxis plan, and no more than their bound.",
+     "planner Promised: runs, bound; eigenaxis Bounds.runs-bound"),
     ("Between two nodes each part of a dense sample's rate is at most that of the larger node part times 1 + 2^-50, plus 2^-1070.", "sample_laws BetweenKept.promised-between"),
 ]
 
@@ -47,12 +50,21 @@ MOSAIC_PROVED = [
 ]
 
 
+SIDEWAYS = '<p class="narrow">Drawings and wide tables scroll sideways.</p>'
+
+
 def esc(text):
     return html.escape(str(text), quote=True)
 
 
 def num(x, digits=5):
     return f"{x:.{digits}g}" if math.isfinite(x) else str(x)
+
+
+def share(part, whole):
+    """A part of a limit, never shown as 100 % where it is below."""
+    percent = 100 * part / whole
+    return f"{math.floor(10 * percent) / 10:.1f} %" if 99 < percent < 100 else f"{percent:.0f} %"
 
 
 def size(v):
@@ -98,21 +110,22 @@ def turn_between(a, b):
     return axis, math.degrees(2 * math.atan2(length, abs(w)))
 
 
-def problem_table(p):
+def problem_table(p, turned=True):
+    """What was asked for; of a mosaic without the attitudes, which are its tiles."""
     axis, degrees = turn_between(p["q0"], p["qf"])
     vector = lambda v: "(" + ", ".join(num(x) for x in v) + ")"
     weights = [f"{name} {num(x)}" for name, x in zip(("time", "control", "energy", "pointing", "smoothness", "momentum"), p["weights"]) if x]
     rows = [
         ("turn", f"{num(degrees)} degrees about {vector(axis)} in the body"),
         ("from", vector(p["q0"])), ("to", vector(p["qf"])),
-        ("inertia, kg m2", " ".join(vector(p["inertia"][i:i + 3]) for i in (0, 3, 6))),
-        ("torque limits, N m", vector(p["limit"])),
+        ("inertia, kg\u00a0m2", " ".join(vector(p["inertia"][i:i + 3]) for i in (0, 3, 6))),
+        ("torque limits, N\u00a0m", vector(p["limit"])),
         ("slew limit", f"{num(math.degrees(p['slew'][0]))} degrees/s" if p["slew"] else "none"),
-        ("weights", ", ".join(weights) or "all 0"),
+        ("weights", (", ".join(weights) or "all 0") + " (an eigenaxis plan does not read them)"),
         ("tolerances", f"norm {num(p['tolerance'][0])}, tie {num(p['tolerance'][1])}"),
         ("actuators", ", ".join(f"{len(p[k])} {name}{'s' if len(p[k]) != 1 else ''}" for k, name in (("wheel", "wheel"), ("thruster", "thruster"), ("cmg", "gyro pyramid")) if p[k]) or "none: body torques"),
     ]
-    return table(("", ""), rows)
+    return table(("", ""), rows if turned else rows[3:])
 
 
 # ---- the path
@@ -130,8 +143,8 @@ def controls_table(p, path):
     for i, (name, unit, limit) in enumerate(control_names(p)):
         values = [row[i] for row in path["rows"]]
         peak, at = max(abs(x) for x in values), sum(abs(x) == limit for x in values)
-        rows.append((name, unit, num(limit), num(peak), f"{100 * peak / limit:.0f} %", f'<span class="at">{at} of 16</span>' if at else "none"))
-    return table(("control", "unit", "#limit", "#largest", "#of limit", "#at the limit"), rows)
+        rows.append((name, f"{num(limit, 4)} {unit}", num(peak, 3), share(peak, limit), f'<span class="at">{at} of 16</span>' if at else "none"))
+    return table(("control", "#limit", "#largest", "#of limit", "#at the limit"), rows)
 
 
 def wheels_table(p, path):
@@ -139,18 +152,18 @@ def wheels_table(p, path):
     for i, wheel in enumerate(p["wheel"]):
         momenta = [n[14 + i] for n in nodes]
         peak = max(abs(x) for x in momenta)
-        rows.append((f"wheel {i}", num(wheel[4]), num(momenta[0]), num(momenta[16]), num(peak), f"{100 * peak / wheel[4]:.0f} %"))
-    return table(("momenta, N m s", "#limit", "#start", "#end", "#largest", "#of limit"), rows)
+        rows.append((f"wheel {i}", num(wheel[4], 4), num(momenta[0], 3), num(momenta[16], 3), num(peak, 3), share(peak, wheel[4])))
+    return table(("N\u00a0m\u00a0s", "#limit", "#start", "#end", "#largest", "#of limit"), rows)
 
 
 def figures(p, path):
     nodes = path["nodes"]
     _, degrees = turn_between(p["q0"], p["qf"])
     _, left = turn_between(nodes[16][1:5], p["qf"])
-    share = max(abs(n[8 + i]) / p["limit"][i] for n in nodes for i in range(3))
+    part, limit = max(((abs(n[8 + i]), p["limit"][i]) for n in nodes for i in range(3)), key=lambda pair: pair[0] / pair[1])
     return cards([
         ("duration", f"{num(path['duration'])} s"), ("turn", f"{num(degrees)}°"),
-        ("largest rate", f"{num(math.degrees(max(size(n[5:8]) for n in nodes)), 4)} °/s"), ("largest torque, of its limit", f"{100 * share:.0f} %"),
+        ("largest rate", f"{num(math.degrees(max(size(n[5:8]) for n in nodes)), 4)} °/s"), ("largest torque, of its limit", share(part, limit)),
         ("left at the end", f"{left:.1e}°"), ("rate at the end, rad/s", f"{size(nodes[16][5:8]):.1e}"),
         ("iterations", path["iterations"]), ("forward runs", path["runs"]),
     ])
@@ -164,26 +177,27 @@ def document(title, lead, parts):
 
 
 def fluid(svg):
-    """A drawing that takes the page's width."""
+    """A drawing that takes the page's width; a long scan's keeps its own, and scrolls."""
     head, rest = svg.split(">", 1)
     words = dict(word.split("=", 1) for word in head.split() if word.startswith(("width=", "height=")))
     wide, high = (words[key].strip('"') for key in ("width", "height"))
     kept = " ".join(word for word in head.split() if not word.startswith(("width=", "height=")))
-    return f'{kept} viewBox="0 0 {wide} {high}" role="img">{rest}'
+    own = f' style="min-width: {wide}px"' if int(wide) > 1200 else ""
+    return f'{kept} viewBox="0 0 {wide} {high}" role="img"{own}>{rest}'
 
 
 def path_page(forms, floats, path, drawing):
     p = whole_problem(forms, floats)
     _, degrees = turn_between(p["q0"], p["qf"])
-    parts = [figures(p, path), "<h2>Along the way</h2>", f'<div class="wide">{fluid(drawing)}</div>', "<h2>Controls</h2>", controls_table(p, path)]
-    parts += ["<h2>Wheels</h2>", wheels_table(p, path)] if p["wheel"] else []
+    parts = [figures(p, path), "<h2>Along the way</h2>", SIDEWAYS, f'<div class="wide">{fluid(drawing)}</div>', "<h2>Controls</h2>", controls_table(p, path)]
+    parts += ["<h2>Momenta of the wheels</h2>", wheels_table(p, path)] if p["wheel"] else []
     proved = [(sentence, f"<code>{esc(where)}</code>") for sentence, where in PROVED]
     parts += ["<h2>The problem</h2>", problem_table(p), "<h2>What is proved of this path</h2>",
               "<p>Of every path that the planner answers, not of this one by measuring. docs/PROMISES.md has the theorems.</p>", table(("", "where"), proved)]
     return document(f"A slew of {num(degrees, 4)} degrees in {num(path['duration'], 4)} s", "Planned from rest to rest. Numbers are rounded for reading; the answer has every bit.", parts)
 
 
-def mosaic_page(answered, tiles, drawing, told):
+def mosaic_page(forms, floats, answered, tiles, drawing, told):
     """A mosaic's legs: their figures, and the drawing over the whole scan."""
     legs, begun, rows = answered["legs"], 0.0, []
     for k, leg in enumerate(legs):
@@ -193,10 +207,10 @@ def mosaic_page(answered, tiles, drawing, told):
         begun += leg["duration"]
     parts = [] if answered["refused"] is None else [f'<p class="refused">{esc(told)}</p>']
     parts += [cards([("legs answered", len(legs)), ("tiles", len(tiles)), ("duration of all legs", f"{num(answered['duration'])} s"), ("forward runs", answered["runs"])])]
-    parts += ["<h2>The scan</h2>", f'<div class="wide">{fluid(drawing)}</div>'] if drawing else []
+    parts += ["<h2>The scan</h2>", SIDEWAYS, f'<div class="wide">{fluid(drawing)}</div>'] if drawing else []
     parts += ["<h2>Legs</h2>", table(("#leg", "#begins, s", "#duration, s", "#turn, degrees", "#largest rate, degrees/s", "#left at the end, degrees", "#forward runs"), rows)] if rows else []
     proved = [(sentence, f"<code>{esc(where)}</code>") for sentence, where in MOSAIC_PROVED + PROVED]
-    parts += ["<h2>What is proved of every leg</h2>", table(("", "where"), proved)]
+    parts += ["<h2>The problem of every leg</h2>", problem_table(whole_problem(forms, floats), turned=False), "<h2>What is proved of every leg</h2>", table(("", "where"), proved)]
     return document(f"A mosaic of {len(tiles)} tiles", f"{len(legs)} of {max(0, len(tiles) - 1)} legs planned, each from the wheel momenta that the one before it ended with.", parts)
 
 

@@ -1,6 +1,7 @@
 #!/usr/bin/env python3
 """Tests of slewtext: python3 tools/test_slewtext.py"""
 
+import contextlib
 import html.parser
 import importlib.machinery
 import importlib.util
@@ -24,6 +25,13 @@ sys.dont_write_bytecode = True
 slewtext = importlib.util.module_from_spec(importlib.util.spec_from_loader("slewtext", loader))
 loader.exec_module(slewtext)
 
+import slewcontrols  # noqa: E402
+import slewdraw  # noqa: E402
+import slewforms  # noqa: E402
+import slewgame  # noqa: E402
+import slewplanes  # noqa: E402
+import slewproblem  # noqa: E402
+
 QUARTER = {
     "from": {"quaternion": [1, 0, 0, 0]},
     "to": {"axis": [0, 0, 2], "degrees": 90},
@@ -33,25 +41,29 @@ QUARTER = {
 
 
 def path_text(wheels=2, row="3FE BFE"):
-    node = " ".join(["0", "3FF"] + ["0"] * (12 + wheels))
-    lines = ["(path", " (runs 3)", " (iterations 1)", " (duration 3FF)"] + [f" (row {row})"] * 16 + [f" (node {node})"] * 17
+    nodes = [" ".join([slewforms.to_hex(k / 16), "3FF"] + ["0"] * (12 + wheels)) for k in range(17)]
+    lines = ["(path", " (runs 3)", " (iterations 1)", " (duration 3FF)"] + [f" (row {row})"] * 16 + [f" (node {node})" for node in nodes]
     return "\n".join(lines) + ")\n"
 
 
 def run(*words, text=""):
-    return subprocess.run([sys.executable, TOOL, *words], input=text, capture_output=True, text=True)
+    """The command with these words, in this process."""
+    given, out, err = io.TextIOWrapper(io.BytesIO(text.encode())), io.TextIOWrapper(io.BytesIO()), io.StringIO()
+    with unittest.mock.patch("sys.stdin", given), contextlib.redirect_stdout(out), contextlib.redirect_stderr(err):
+        status = slewtext.main(list(words))
+    return subprocess.CompletedProcess(words, status, out.buffer.getvalue().decode(), err.getvalue())
 
 
 class Floats(unittest.TestCase):
     def test_known_words(self):
         for x, word in ((0.0, "0"), (-0.0, "8"), (1.0, "3FF"), (10.0, "4024"), (0.5, "3FE"), (math.inf, "7FF"), (math.nan, "7FF8")):
-            self.assertEqual(slewtext.to_hex(x), word)
+            self.assertEqual(slewforms.to_hex(x), word)
 
     def test_every_float_comes_back(self):
         draw = random.Random(1)
         for _ in range(20000):
             x = struct.unpack(">d", draw.randbytes(8))[0]
-            y = slewtext.from_hex(slewtext.to_hex(x))
+            y = slewtext.from_hex(slewforms.to_hex(x))
             self.assertTrue(x == y and math.copysign(1, x) == math.copysign(1, y) or math.isnan(x) and math.isnan(y))
 
     def test_wrong_words(self):
@@ -70,7 +82,7 @@ class Problems(unittest.TestCase):
         self.assertEqual(lines[0], "(problem")
         self.assertEqual(lines[1], " (q0 3FF 0 0 0)")
         self.assertEqual(lines[3], " (inertia 4024 0 0 0 4028 0 0 0 402)")
-        self.assertEqual(lines[5], " (slew none)")
+        self.assertEqual(lines[5:7], [" (slew none)", " (weights 0 0 0 0 0 0)"])
         self.assertEqual(lines[8], " (momenta)")
         self.assertEqual(lines[-1], " (actuators))")
 
@@ -131,6 +143,26 @@ class Problems(unittest.TestCase):
                 slewtext.problem_text(QUARTER | change)
             self.assertTrue(str(caught.exception).endswith("."), change)
 
+    def test_quaternions_of_few_digits(self):
+        few = QUARTER | {"to": {"quaternion": [0.707, 0, 0, 0.707]}, "normalise": True}
+        half = slewforms.to_hex(0.707 / math.hypot(0.707, 0.707))
+        self.assertEqual(slewtext.problem_text(few).splitlines()[2], f" (qf {half} 0 0 {half})")
+        self.assertEqual(slewtext.problem_text(few | {"normalise": False}).splitlines()[2], f" (qf {slewforms.to_hex(0.707)} 0 0 {slewforms.to_hex(0.707)})")
+        self.assertEqual(slewtext.problem_text(QUARTER | {"normalise": True}), slewtext.problem_text(QUARTER))
+        for change in ({"normalise": 1}, {"to": {"quaternion": [0, 0, 0, 0]}}, {"to": {"quaternion": [math.inf, 0, 0, 0]}}):
+            self.assertRaises(slewtext.Fault, slewtext.problem_text, few | change)
+        for given, notes in ((few, 0), (few | {"normalise": False}, 1), (few | {"normalise": False, "norm_tolerance": 0.1}, 0)):
+            told = run("problem", "-", text=json.dumps(given))
+            self.assertEqual((told.returncode, told.stderr.count("\n"), "qf 0.999849" in told.stderr), (0, notes, notes == 1))
+        tiles = [{"quaternion": [2, 0, 0, 0]}, {"quaternion": [0, 0, 0, 3]}]
+        self.assertIn("is not: tile 0 2, tile 1 3.", run("mosaic", "-", text=json.dumps(BODY | {"tile": tiles})).stderr)
+        self.assertEqual(slewtext.mosaic_text(BODY | {"normalise": True}, tiles).splitlines()[-3:-1], [" (tile 3FF 0 0 0)", " (tile 0 0 0 3FF)"])
+
+    def test_a_key_behind_a_table(self):
+        with self.assertRaises(slewtext.Fault) as caught:
+            slewtext.problem_text(QUARTER | {"wheel": [{"axis": [1, 0, 0], "torque_nm": 0.5, "momentum_nms": 4, "weights": {}}]})
+        self.assertIn("stands before the first [table]", str(caught.exception))
+
     def test_command(self):
         with tempfile.NamedTemporaryFile("w", suffix=".toml") as file:
             file.write("from = { axis = [0, 0, 1], degrees = 0 }\nto = { axis = [0, 0, 1], degrees = 90 }\ninertia_kgm2 = [10, 12, 8]\ntorque_limit_nm = [0.5, 0.5, 0.5]\n")
@@ -139,7 +171,44 @@ class Problems(unittest.TestCase):
         fault = run("problem", "-", text="from = [")
         self.assertEqual((fault.returncode, fault.stdout), (1, ""))
         self.assertEqual(len(fault.stderr.splitlines()), 1)
-        self.assertEqual(run("fly").returncode, 2)
+
+    def test_words(self):
+        told = run("--help")
+        self.assertEqual((told.returncode, told.stderr), (0, ""))
+        for name in {name for name, _ in slewtext.COMMANDS} | {"order", "mosaic"}:
+            self.assertIn(f"  slewtext {name} ", told.stdout)
+            self.assertTrue(all(line.startswith((f"  slewtext {name} ", " " * 8)) for line in slewtext.usage(name).splitlines()[1:]), name)
+        for words, lines in (["fly"], 1), (["draw", "a"], 2), (["explain"], 2):
+            wrong = run(*words)
+            self.assertEqual((wrong.returncode, wrong.stdout, wrong.stderr.count("\n")), (2, "", lines))
+        self.assertEqual(run().returncode, 2)
+
+    def test_standard_input(self):
+        twice = run("draw", "-", "-", text=stored("quarter-turn.toml"))
+        self.assertEqual((twice.returncode, twice.stdout, twice.stderr.count("\n")), (1, "", 1))
+        answer = os.path.join(slewtext.ROOT, "examples", "quarter-turn.answer")
+        for name in ("quarter-turn.toml", "quarter-turn.slew"):
+            for command in ("stops", "report"):
+                self.assertEqual(run(command, "-", answer, text=stored(name)).stdout, slewtext.COMMANDS[command, 2](os.path.join(slewtext.ROOT, "examples", name), answer))
+        with_mark = subprocess.run([sys.executable, TOOL, "problem", "-"], input=b"\xef\xbb\xbf" + stored("quarter-turn.toml").replace("\n", "\r\n").encode(), capture_output=True)
+        self.assertEqual(with_mark.stdout.decode(), stored("quarter-turn.slew"))
+
+    def test_a_reader_that_goes_away(self):
+        with subprocess.Popen([sys.executable, TOOL, "report", "examples/nine-tiles.mosaic", "examples/nine-tiles.answer"], cwd=slewtext.ROOT, stdout=subprocess.PIPE, stderr=subprocess.PIPE) as tool:
+            tool.stdout.close()
+            self.assertEqual(tool.stderr.read(), b"")
+        with open("/dev/full", "w") as full:
+            told = subprocess.run([sys.executable, TOOL, "--help"], stdout=full, stderr=subprocess.PIPE, text=True)
+        self.assertEqual((told.returncode, told.stderr), (1, "slewtext: Standard output cannot be written: No space left on device.\n"))
+
+    def test_what_stands_in_the_wrong_place(self):
+        at = lambda name: os.path.join(slewtext.ROOT, "examples", name)
+        for words, said in ((["problem", at("quarter-turn.slew")], "is the program's text"), (["path", at("refused-half-turn.answer")], "the plan is refused. Refusal 7"),
+                            (["path", at("nine-tiles.answer")], "slewtext legs"), (["draw", at("nine-tiles.mosaic"), at("quarter-turn.answer")], "is a mosaic"), (["path", os.devnull], "it is empty"),
+                            (["path", slewtext.ROOT], "cannot be read: Is a directory."), (["problem", "nowhere"], "nowhere cannot be read: No such file or directory.")):
+            told = run(*words)
+            self.assertEqual((told.returncode, told.stdout, told.stderr.count("\n")), (1, "", 1))
+            self.assertIn(said, told.stderr)
 
 
 class Answers(unittest.TestCase):
@@ -208,8 +277,8 @@ class Records(unittest.TestCase):
 
     def path(self, began, ended):
         lines = path_text(len(began)).splitlines()
-        node = lambda momenta: " (node " + " ".join(["0", "3FF"] + ["0"] * 12 + momenta) + ")"
-        lines[20], lines[36] = node(began), node(ended) + ")"
+        node = lambda time, momenta: " (node " + " ".join([time, "3FF"] + ["0"] * 12 + momenta) + ")"
+        lines[20], lines[36] = node("0", began), node("3FF", ended) + ")"
         return "\n".join(lines) + "\n"
 
     def start(self, record, answer):
@@ -336,31 +405,31 @@ class Planes(unittest.TestCase):
         """The words and bytes of `example` in crates/byte_planes/specs/Laws.antt."""
         words = [0x3FF0_0000_0000_0000, 0x3FF8_0000_0000_0001, 0x7FF8_0000_0000_0001, 0xFFF0_0000_0000_00FF]
         planes = bytes([0x3F, 0x00, 0x40, 0x80, 0xF0, 0x08, 0x00, 0x08] + [0] * 20 + [0x00, 0x01, 0x00, 0xFE])
-        self.assertEqual(slewtext.encode_planes(words), planes)
-        self.assertEqual(slewtext.decode_planes(planes), words)
+        self.assertEqual(slewplanes.encode_planes(words), planes)
+        self.assertEqual(slewplanes.decode_planes(planes), words)
 
     def test_columns_and_bytes_come_back(self):
         draw = random.Random(2)
         for count in (0, 1, 2, 3, 17, 419, 4095, 4096):
             column, planes = [draw.getrandbits(64) for _ in range(count)], draw.randbytes(8 * count)
-            self.assertEqual(slewtext.decode_planes(slewtext.encode_planes(column)), column)
-            self.assertEqual(slewtext.encode_planes(slewtext.decode_planes(planes)), planes)
+            self.assertEqual(slewplanes.decode_planes(slewplanes.encode_planes(column)), column)
+            self.assertEqual(slewplanes.encode_planes(slewplanes.decode_planes(planes)), planes)
 
     def test_stored_samples_come_back(self):
         text = self.stored()
         made = slewtext.planes_of(text)
         self.assertEqual(len(made), 16 + 14 * 8 * 20)
-        self.assertEqual(slewtext.text_of_planes(made), text)
+        self.assertEqual(slewplanes.text_of_planes(made), text)
 
     def test_blocks(self):
         draw = random.Random(3)
         for count in (1, 4096, 4097, 8193):
             columns = [[draw.getrandbits(64) for _ in range(count)] for _ in range(14)]
-            text = slewtext.samples_text(columns)
+            text = slewplanes.samples_text(columns)
             made = slewtext.planes_of(text)
-            self.assertEqual(slewtext.text_of_planes(made), text)
+            self.assertEqual(slewplanes.text_of_planes(made), text)
             first = min(count, 4096)
-            self.assertEqual(made[16:16 + 8 * first], slewtext.encode_planes(columns[0][:first]))
+            self.assertEqual(made[16:16 + 8 * first], slewplanes.encode_planes(columns[0][:first]))
 
     def test_texts_that_would_not_come_back(self):
         text = self.stored()
@@ -375,7 +444,7 @@ class Planes(unittest.TestCase):
         made = slewtext.planes_of(self.stored())
         for damaged in (b"", made[:8], made[:-1], made + b"0", b"slewpln2" + made[8:], made[:8] + bytes(8), made[:8] + b"\xff" * 8, made[:15] + b"\x15" + made[16:]):
             with self.assertRaises(slewtext.Fault) as caught:
-                slewtext.text_of_planes(damaged)
+                slewplanes.text_of_planes(damaged)
             self.assertTrue(str(caught.exception).endswith("."))
 
     def test_commands(self):
@@ -394,7 +463,7 @@ TILES = {"tile": [{"quaternion": [1, 0, 0, 0], "name": "first"}, {"axis": [0, 0,
 
 def slew(seconds):
     """A program slew that answers one path of so many seconds, and a slew_order that answers one order."""
-    path = path_text().replace("(duration 3FF)", f"(duration {slewtext.to_hex(seconds)})")
+    path = path_text().replace("(duration 3FF)", f"(duration {slewforms.to_hex(seconds)})")
     return unittest.mock.patch.object(slewtext, "printed", lambda program, text: path if program == "slew" else ORDERED.format("no", 8000))
 
 
@@ -464,7 +533,7 @@ def stored(name):
 
 def turned(q, v):
     """The vector v of the body in the axes of the sky."""
-    return slewtext.product(slewtext.product(q, [0.0] + v), [q[0], -q[1], -q[2], -q[3]])[1:]
+    return slewproblem.product(slewproblem.product(q, [0.0] + v), [q[0], -q[1], -q[2], -q[3]])[1:]
 
 
 class Mosaics(unittest.TestCase):
@@ -533,8 +602,9 @@ class Mosaics(unittest.TestCase):
 
     def test_a_drawing_over_the_scan(self):
         root = xml.etree.ElementTree.fromstring(slewtext.scan_drawing(slewtext.read_legs(stored("nine-tiles.answer")), *slewtext.read_mosaic(stored("nine-tiles.mosaic"))))
-        lines = root.findall("{http://www.w3.org/2000/svg}polyline")
-        self.assertEqual((len(lines), {len(line.get("points").split()) for line in lines}), (1 + 4 + 3 + 3 + 3, {8 * 17, 2 * 8 * 17 - 1, 2 * 8 * 16}))
+        lines = [element.get("d") for element in root if element.get("class") == "line"]
+        self.assertEqual((len(lines), {(line.count("M"), line.count(",")) for line in lines}), (1 + 4 + 3 + 3 + 3, {(8, 8 * 17), (8, 2 * 8 * 16)}))
+        self.assertEqual(len([element for element in root if element.get("class") == "leg"]), 5 * 7)
         self.assertRaises(slewtext.Fault, slewtext.scan_drawing, slewtext.read_legs(stored("nine-tiles.answer")), *slewtext.read_mosaic(stored("refused-second-leg.mosaic")))
 
 
@@ -542,38 +612,68 @@ class Drawings(unittest.TestCase):
     def test_panels(self):
         problem = slewtext.read_problem(slewtext.problem_text(QUARTER | {"slew_limit_deg_s": 5, "wheel": [{"axis": [1, 0, 0], "torque_nm": 0.5, "momentum_nms": 4}] * 3}))
         self.assertEqual(problem["wheels"], [4.0, 4.0, 4.0])
-        svg = slewtext.drawing(slewtext.read_path(path_text(3, "3FE BFE 3FDFFFFFFFFFFFFF")), problem)
+        svg = slewdraw.drawing(slewtext.read_path(path_text(3, "3FE BFE 3FDFFFFFFFFFFFFF")), problem)
         root = xml.etree.ElementTree.fromstring(svg)
-        self.assertEqual(len([e for e in root if e.tag.endswith("polyline")]), 1 + 4 + 3 + 3 + 3)
+        self.assertEqual(len([e for e in root if e.get("class") == "line"]), 1 + 4 + 3 + 3 + 3)
         self.assertEqual(len([e for e in root if e.tag.endswith("circle")]), 2 * 16)
-        self.assertRaises(slewtext.Fault, slewtext.drawing, slewtext.read_path(path_text(3)), problem)
+        self.assertRaises(slewtext.Fault, slewdraw.drawing, slewtext.read_path(path_text(3)), problem)
 
     def test_controls_at_their_limits(self):
         wheel = {"axis": [1, 0, 0], "torque_nm": 0.5, "momentum_nms": 4}
         thruster = {"axis": [0, 1, 0], "torque_nm": 1}
         pyramid = {"skew_deg": 54.74, "momentum_nms": 1, "rate_deg_s": 60, "singularity_eps": 0.5}
         problem = lambda **more: slewtext.read_problem(slewtext.problem_text(QUARTER | more))
-        told = lambda row, **more: slewtext.stops(slewtext.read_path(path_text(0, row)), problem(**more)).splitlines()
+        told = lambda row, **more: slewtext.stops(slewtext.read_path(path_text(len(more.get("wheel", [])), row)), problem(**more)).splitlines()
         above, below = "3FE0000000000001", "3FDFFFFFFFFFFFFF"
         self.assertEqual(told(f"3FE {above} {below}"), [f"torque about {axis}: {n} of 16 controls at its limit of 0.5 N m." for axis, n in (("x", 16), ("y", 0), ("z", 0))])
         self.assertEqual(told("BFE 3FF", wheel=[wheel], thruster=[thruster]), ["wheel 0: 16 of 16 controls at its limit of 0.5 N m.", "thruster 0: 16 of 16 controls at its limit of 1 N m."])
         self.assertEqual(told("0 0 8 0", pyramid=pyramid)[3], "gimbal 3: 0 of 16 controls at its limit of 1.0472 rad/s.")
         self.assertRaises(slewtext.Fault, told, "3FE BFE")
 
+    def test_round_numbers_beside_an_axis(self):
+        for low, high, told in ((0.0, 10.03, ["0", "2", "4", "6", "8", "10"]), (-0.25, 0.25, ["-0.2", "-0.1", "0", "0.1", "0.2"]), (0.0, 1e-3, None), (-3e7, 3e7, None), (0.0, 1e-90, None), (-1e99, 0.0, None)):
+            found = slewdraw.ticks(low, high, 6)
+            self.assertTrue(2 <= len(found) <= 7 and all(low <= v <= high for v, _ in found), found)
+            self.assertTrue(told is None or [text for _, text in found] == told, found)
+
+    def test_limits_told_and_drawn(self):
+        problem = slewtext.read_problem(slewtext.problem_text(QUARTER | {"slew_limit_deg_s": 5, "torque_limit_nm": [0.5, 0.5, 90]}))
+        path = slewtext.read_path(path_text(0, "3FE BFE 0"))
+        for node in path["nodes"]:
+            node[5:11] = [0.05, 0.0, 0.0, 0.5, 0.25, 0.0]
+        svg = slewdraw.drawing(path, problem)
+        for text in ("limit of length", "limit of x, y", "body torque, N m (limit outside the drawing: z: 90)", "time, s"):
+            self.assertIn(text, svg)
+        path["nodes"][3][5] = 1e200
+        self.assertRaises(slewtext.Fault, slewdraw.drawing, path, problem)
+
+    def test_controls_as_csv(self):
+        for name, heads in (("three-wheels", ["wheel_0_nm", "wheel_1_nm", "wheel_2_nm"]), ("thrusters", [f"thruster_{i}_nm" for i in range(3)]), ("gyro-pyramid", [f"gimbal_{i}_rad_s" for i in range(4)]),
+                            ("quarter-turn", [f"torque_{axis}_nm" for axis in "xyz"])):
+            files = [os.path.join(slewtext.ROOT, "examples", name + ending) for ending in (".toml", ".answer")]
+            rows = [line.split(",") for line in run("controls", *files).stdout.splitlines()]
+            path = slewtext.read_path(stored(name + ".answer"))
+            self.assertEqual(rows[0], ["begins_s", "ends_s"] + heads)
+            self.assertEqual([list(map(float, row)) for row in rows[1:]], [[a[0], b[0], *row] for a, b, row in zip(path["nodes"], path["nodes"][1:], path["rows"])])
+        legs = slewtext.read_legs(stored("nine-tiles.answer"))
+        rows = slewcontrols.scan_controls_csv(legs["legs"], slewtext.scan_times(legs["legs"]), slewtext.read_mosaic(stored("nine-tiles.mosaic"))[0]).splitlines()
+        self.assertEqual((len(rows), rows[0].split(",")[:4], rows[128].split(",")[0]), (1 + 8 * 16, ["leg", "begins_s", "ends_s", "wheel_0_nm"], "7"))
+        self.assertEqual(float(rows[128].split(",")[2]), legs["duration"])
+
     def test_angle_left(self):
         half = math.sqrt(0.5)
-        self.assertAlmostEqual(slewtext.turn_left([1, 0, 0, 0], [half, 0, 0, half]), 90.0)
-        self.assertAlmostEqual(slewtext.turn_left([-1, 0, 0, 0], [1, 0, 0, 0]), 0.0)
+        self.assertAlmostEqual(slewdraw.turn_left([1, 0, 0, 0], [half, 0, 0, half]), 90.0)
+        self.assertAlmostEqual(slewdraw.turn_left([-1, 0, 0, 0], [1, 0, 0, 0]), 0.0)
 
 
 def minimax():
     """The fewest turns of every start by the rules alone, the choices that reach them, and whether the drive is home from a state in so many turns."""
-    states = [(a, r) for a in slewtext.ANGLES for r in slewtext.RATES]
-    won = [{s for s in states if slewtext.at_home(*s)}]
-    sure = lambda s, u, n: all(slewtext.after(*s, u, d) in won[n] for d in (-1, 0, 1))
+    states = [(a, r) for a in slewgame.ANGLES for r in slewgame.RATES]
+    won = [{s for s in states if slewgame.at_home(*s)}]
+    sure = lambda s, u, n: all(slewgame.after(*s, u, d) in won[n] for d in (-1, 0, 1))
     while len(won) <= 64 and (len(won) == 1 or won[-1] != won[-2]):
         won.append({s for s in states if s in won[-1] or any(sure(s, u, len(won) - 1) for u in (-2, -1, 0, 1, 2))})
-    turns = {s: next((n for n, w in enumerate(won) if s in w), slewtext.HELD) for s in states}
+    turns = {s: next((n for n, w in enumerate(won) if s in w), slewgame.HELD) for s in states}
     return turns, won
 
 
@@ -583,69 +683,69 @@ TURNS, WON = minimax()
 def fake_run(*words):
     """What the program prints, by the minimax."""
     if not words:
-        rows = [f"\n (angle {a} " + " ".join(str(TURNS[a, r]) for r in slewtext.RATES) + ")" for a in slewtext.ANGLES]
+        rows = [f"\n (angle {a} " + " ".join(str(TURNS[a, r]) for r in slewgame.RATES) + ")" for a in slewgame.ANGLES]
         return "(region" + "".join(rows) + ")\n"
     if words[0] == "reply":
         a, r, left, u = words[1:]
-        found = [d for d in (-1, 0, 1) if not slewtext.at_home(a, r) and slewtext.after(a, r, u, d) not in WON[min(left - 1, len(WON) - 1)]]
+        found = [d for d in (-1, 0, 1) if not slewgame.at_home(a, r) and slewgame.after(a, r, u, d) not in WON[min(left - 1, len(WON) - 1)]]
         return f"(reply\n (adds {found[0]}))\n" if found else "(reply\n (none))\n"
     n = TURNS[words]
-    if n in (0, slewtext.HELD):
+    if n in (0, slewgame.HELD):
         return "(start\n (home))\n" if n == 0 else "(start\n (held-off))\n"
-    u = next(u for u in (-2, -1, 0, 1, 2) if all(slewtext.after(*words, u, d) in WON[n - 1] for d in (-1, 0, 1)))
+    u = next(u for u in (-2, -1, 0, 1, 2) if all(slewgame.after(*words, u, d) in WON[n - 1] for d in (-1, 0, 1)))
     return f"(start\n (turns {n})\n (choice {u}))\n"
 
 
 class Region(unittest.TestCase):
     def setUp(self):
-        self.runs = slewtext.run_region
-        slewtext.run_region = fake_run
+        self.runs = slewgame.run_region
+        slewgame.run_region = fake_run
 
     def tearDown(self):
-        slewtext.run_region = self.runs
+        slewgame.run_region = self.runs
 
     def play(self, side, angle, rate, lines):
         """What a game prints whose person types these lines."""
         stdin, stdout = sys.stdin, sys.stdout
         sys.stdin, sys.stdout = io.StringIO(lines), io.StringIO()
         try:
-            slewtext.duel(side, angle, rate)
+            slewgame.duel(side, angle, rate)
             return sys.stdout.getvalue()
         finally:
             sys.stdin, sys.stdout = stdin, stdout
 
     def test_every_start_is_drawn(self):
-        turns = slewtext.read_region(fake_run())
-        self.assertEqual((len(turns), sum(n != slewtext.HELD for n in turns.values()), max(n for n in turns.values() if n != slewtext.HELD)), (2193, 2025, 25))
-        root = xml.etree.ElementTree.fromstring(slewtext.region_drawing(turns))
+        turns = slewgame.read_region(fake_run())
+        self.assertEqual((len(turns), sum(n != slewgame.HELD for n in turns.values()), max(n for n in turns.values() if n != slewgame.HELD)), (2193, 2025, 25))
+        root = xml.etree.ElementTree.fromstring(slewgame.region_drawing(turns))
         cells = [e for e in root.iter() if e.get("class") == "start"]
         colours = [e.get("fill") for e in cells]
-        self.assertEqual((len(cells), colours.count(slewtext.HOME), colours.count(slewtext.HELD_OFF)), (2193, 45, 168))
-        self.assertEqual(len(set(colours)), 2 + len(slewtext.SHADES))
+        self.assertEqual((len(cells), colours.count(slewgame.HOME), colours.count(slewgame.HELD_OFF)), (2193, 45, 168))
+        self.assertEqual(len(set(colours)), 2 + len(slewgame.SHADES))
 
     def test_turns_that_share_a_colour(self):
-        shared = slewtext.steps(25)
+        shared = slewgame.steps(25)
         self.assertEqual([n for low, high, _ in shared for n in range(low, high + 1)], list(range(1, 26)))
 
     def test_a_damaged_region(self):
         good = fake_run()
         for bad in (good.replace(" (angle 3 ", " (angle 99 ", 1), good.replace(" 255", "", 1), good.replace(" 255", " 65", 1), good.replace(" 255", " x", 1), "(start\n (home))\n", ""):
-            self.assertRaises(slewtext.Fault, slewtext.read_region, bad)
+            self.assertRaises(slewtext.Fault, slewgame.read_region, bad)
 
     def test_the_stored_region_is_the_minimax(self):
         with open(os.path.join(os.path.dirname(TOOL), "..", "crates", "slew_region", "stdout"), encoding="utf-8") as file:
-            self.assertEqual(slewtext.read_region(file.read()), TURNS)
+            self.assertEqual(slewgame.read_region(file.read()), TURNS)
 
     def test_no_draught_wins_where_home_is_forced(self):
         draw = random.Random(3)
-        for start in draw.sample(sorted(s for s, n in TURNS.items() if 0 < n < slewtext.HELD), 60):
+        for start in draw.sample(sorted(s for s, n in TURNS.items() if 0 < n < slewgame.HELD), 60):
             told = self.play("draught", *start, "".join(f"{draw.choice((-1, 0, 1))}\n" for _ in range(64)))
             self.assertTrue(told.endswith("home. The drive wins.\n"))
             self.assertLessEqual(told.count("turn ") - told.count("1 turn at"), TURNS[start] * 2)
 
     def test_no_drive_wins_where_it_is_held_off(self):
         draw = random.Random(4)
-        for start in draw.sample(sorted(s for s, n in TURNS.items() if n == slewtext.HELD), 30):
+        for start in draw.sample(sorted(s for s, n in TURNS.items() if n == slewgame.HELD), 30):
             told = self.play("drive", *start, "".join(f"{draw.choice((-2, -1, 0, 1, 2))}\n" for _ in range(64)))
             self.assertIn("the draught wins" if "64 turns, and" in told else "The draught wins", told)
 
@@ -726,6 +826,51 @@ class Run(unittest.TestCase):
             told = self.run_with(*words)
             self.assertEqual((told.returncode, told.stdout), (2, ""), words)
             self.assertIn("--help", told.stderr)
+        for words, said in ((["--samples", text], "./run --samples N FILE"), (["nowhere"], "there is no file nowhere"), (["--canonical", "/"], "/ is a folder"), (["--eigenaxis", "--gentle"], "no file --gentle")):
+            self.assertIn(said, self.run_with(*words).stderr)
+
+    def test_files_that_are_no_problem(self):
+        with tempfile.TemporaryDirectory() as folder:
+            for name, text, said in (("empty.slew", "", "is empty"), ("wrong.toml", "from = 3", "slewtext: from must be a table"), ("wrong.json", "{", "neither TOML nor JSON")):
+                with open(os.path.join(folder, name), "w", encoding="ascii") as file:
+                    file.write(text)
+                told = self.run_with(os.path.join(folder, name))
+                self.assertEqual((told.returncode, told.stdout), (2, ""))
+                self.assertIn(said, told.stderr)
+
+
+def is_built(*programs):
+    """Whether they are built, and no source is newer."""
+    made = [os.path.join(slewtext.ROOT, "target", "bin", program) for program in programs]
+    sources = [os.path.join(folder, name) for folder, _, names in os.walk(os.path.join(slewtext.ROOT, "crates")) for name in names] + [os.path.join(slewtext.ROOT, "crates.txt")]
+    return all(map(os.path.exists, made)) and min(map(os.path.getmtime, made)) > max(map(os.path.getmtime, sources))
+
+
+@unittest.skipUnless(is_built("slew", "slew_mosaic", "slew_samples"), "slew, slew_mosaic and slew_samples are not built")
+class Built(unittest.TestCase):
+    """./run over the built programs."""
+    def run_with(self, *words, text=None):
+        return subprocess.run([os.path.join(slewtext.ROOT, "run"), *words], input=text, capture_output=True, text=True)
+
+    def test_examples_in_decimal(self):
+        for name in sorted(os.listdir(os.path.join(slewtext.ROOT, "examples"))):
+            if name.endswith(".toml") and os.path.exists(os.path.join(slewtext.ROOT, "examples", name.removesuffix(".toml") + ".answer")):
+                told = self.run_with(os.path.join(slewtext.ROOT, "examples", name))
+                self.assertEqual((told.stdout, told.returncode, told.stderr == ""), (stored(name.removesuffix(".toml") + ".answer"), 3 * name.startswith("refused"), not name.startswith("refused")))
+
+    def test_standard_input(self):
+        for name, answer in (("quarter-turn.slew", "quarter-turn.answer"), ("refused-second-leg.mosaic", "refused-second-leg.answer")):
+            self.assertEqual(self.run_with("-", text=stored(name)).stdout, stored(answer))
+
+    def test_from_decimal_to_a_drawing(self):
+        problem = os.path.join(slewtext.ROOT, "examples", "three-wheels.toml")
+        for words in ([], ["--eigenaxis"], ["--eigenaxis", "--gentle"]):
+            answer = self.run_with(*words, problem).stdout
+            for command in ("draw", "stops", "controls", "report"):
+                self.assertEqual(run(command, problem, "-", text=answer).returncode, 0)
+        samples = self.run_with("--samples", "50", problem).stdout
+        self.assertEqual(run("unplanes", "-", text="").returncode, 1)
+        self.assertEqual(len(run("samples", "-", text=samples).stdout.splitlines()), 1 + samples.count("(sample "))
 
 
 if __name__ == "__main__":

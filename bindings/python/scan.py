@@ -1,28 +1,28 @@
 #!/usr/bin/env python3
 """A scan of four tiles, slew after slew, in Python: python3 bindings/python/scan.py
 
-Each slew starts where the one before ended, its wheels turning as that one left them. A slew that the search refuses is told, and tried again with less weight on time.
+Each slew starts where the one before ended, its wheels turning as that one left them. A slew that the search refuses is told, and planned about one axis.
 """
 
-from slew import Path, Planner, Problem, Refused, Weights, Wheel, after, replace, turn
+from slew import Path, Planner, Problem, Refused, Wheel, after, replace, turn
 
 # ---- the table: a sensor on three wheels
 wheels = tuple(Wheel(axis, torque_nm=0.6, momentum_nms=50.0) for axis in [(1, 0, 0), (0, 1, 0), (0, 0, 1)])
 table = Problem(q0=turn((0, 0, 1), 0), qf=turn((0, 0, 1), 0), inertia_kgm2=(10, 12, 8), torque_limit_nm=(0.5, 0.5, 0.5), wheels=wheels)
 
-# ---- the tiles: 5 degrees apart about the upright axis
-tiles = [turn((0, 0, 1), 5 * k) for k in range(4)]
+# ---- the tiles: 5 degrees apart about the upright axis, the last one half a turn away
+tiles = [turn((0, 0, 1), degrees) for degrees in (0, 5, 10, 190)]
 
 planner = Planner()
 
 
 def slew_to(problem: Problem) -> Path:
-    """The path, with weight on time where that is found, else with none."""
+    """The path that the search finds; else that about one axis."""
     try:
         return planner.plan(problem)
     except Refused as told:
         print(f"   {told}")
-        return planner.plan(replace(problem, weights=Weights(time=0)))
+        return planner.plan_eigenaxis(problem)
 
 
 for leg, (start, end) in enumerate(zip(tiles, tiles[1:])):

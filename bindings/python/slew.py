@@ -16,10 +16,11 @@ from __future__ import annotations
 import ctypes as c
 import math
 import os
+import struct
 from dataclasses import dataclass, field, replace
-from typing import Iterator, Optional, Sequence, Tuple, Union
+from typing import Any, Callable, Iterator, Optional, Sequence, Tuple, Union
 
-__all__ = ["Planner", "Problem", "Record", "Preview", "Weights", "Wheel", "Thruster", "Pyramid", "Path", "Node", "Sample", "Order", "Refused", "turn", "after"]
+__all__ = ["Planner", "Problem", "Record", "Preview", "Weights", "Wheel", "Thruster", "Pyramid", "Path", "Node", "Sample", "Order", "Refused", "turn", "after", "replace"]
 
 Vector = Tuple[float, float, float]
 Quaternion = Tuple[float, float, float, float]
@@ -52,8 +53,8 @@ def turn(axis: Sequence[float], degrees: float) -> Quaternion:
 
 @dataclass(frozen=True)
 class Weights:
-    """What the search makes small. All of them 0: the final attitude alone."""
-    time: float = 1.0
+    """What the search makes small. All of them 0, as where none is named: the final attitude alone, which it reaches most often."""
+    time: float = 0.0
     control: float = 0.0
     energy: float = 0.0
     pointing: float = 0.0
@@ -189,16 +190,27 @@ def _nine(inertia: Sequence[float]) -> "c.Array[c.c_double]":
     return _doubles(inertia, 9, "inertia_kgm2")
 
 
+def _floats(words: Sequence[str]) -> Any:
+    """Floats by their bits, as a text has them."""
+    return tuple(struct.unpack(">d", bytes.fromhex(word.ljust(16, "0")))[0] for word in words)
+
+
+def _wheel(words: Sequence[str], start: float) -> Wheel:
+    torque, momentum = _floats(words[3:5])
+    return Wheel(_floats(words[:3]), torque, momentum, None if words[5] == "none" else _floats(words[5:])[0], start)
+
+
 def _sample(numbers: Sequence[float]) -> Sample:
-    return Sample(numbers[0], tuple(numbers[1:5]), tuple(numbers[5:8]), tuple(numbers[8:11]), tuple(numbers[11:14]))
+    t, qw, qx, qy, qz, wx, wy, wz, tx, ty, tz, hx, hy, hz = numbers[:14]
+    return Sample(t, (qw, qx, qy, qz), (wx, wy, wz), (tx, ty, tz), (hx, hy, hz))
 
 
 def _nodes(numbers: Sequence[float], wheels: int) -> Tuple[Node, ...]:
     parts = [numbers[22 * k:22 * k + 22] for k in range(17)]
-    return tuple(Node(*vars(_sample(n)).values(), hw=tuple(n[14:14 + wheels])) for n in parts)
+    return tuple(Node(**vars(_sample(n)), hw=tuple(n[14:14 + wheels])) for n in parts)
 
 
-def _declared(problem: Problem) -> tuple:
+def _declared(problem: Problem) -> Tuple[Any, ...]:
     """The problem as the C interface takes it: counts, actuators, body, whether there is a slew limit."""
     wheels, thrusters, pyramid = problem.wheels, problem.thrusters, problem.pyramid
     counts = (c.c_size_t * 11)(len(wheels), len(thrusters), int(pyramid is not None))
@@ -293,14 +305,14 @@ class Planner:
         self._refuse(number, place.value, 0)
         return Record(tuple(at[:wheels.value]))
 
-    def _planned(self, problem: Problem, entry, more: tuple, leg: Optional[int] = None) -> Path:
+    def _planned(self, problem: Problem, entry: Callable[..., int], more: Tuple[Any, ...], leg: Optional[int] = None) -> Path:
         told, held, duration, defect = (c.c_size_t * 5)(), (c.c_size_t * 12)(), c.c_double(), c.c_double()
         decision, nodes = (c.c_double * 193)(), (c.c_double * 374)()
         number = entry(*_declared(problem), *more, self._workspace, c.c_size_t(WORKSPACE), told, c.byref(duration), c.byref(defect), decision, nodes, held)
         place, runs, controls, wheels, iterations = told
         self._refuse(number, place, runs, leg)
         rows = tuple(tuple(decision[1 + k * controls:1 + (k + 1) * controls]) for k in range(16))
-        return Path(problem, duration.value, iterations, runs, defect.value, rows, _nodes(nodes, wheels), tuple(held[:controls]), tuple(decision), tuple(nodes))
+        return Path(problem, duration.value, iterations, runs, defect.value, rows, _nodes(nodes[:], wheels), tuple(held[:controls]), tuple(decision), tuple(nodes))
 
     def rerun(self, path: Path) -> Tuple[Node, ...]:
         """The nodes of the path's decision, run once by the step law with no search. They are the path's own, bit for bit, by proof."""
@@ -308,7 +320,7 @@ class Planner:
         number = self._library.slew_reconstruct(*_declared(path.problem), _doubles(path.decision, 193, "the decision"), nodes,
                                                 c.byref(defect), c.byref(place), c.byref(runs))
         self._refuse(number, place.value, runs.value)
-        return _nodes(nodes, len(path.problem.wheels))
+        return _nodes(nodes[:], len(path.problem.wheels))
 
     def plan_text(self, text: Union[bytes, str]) -> bytes:
         """What the program `slew` prints of a problem's text, in a workspace that serves every problem."""
@@ -328,6 +340,19 @@ class Planner:
         self._refuse(number, place.value, 0)
         return bytes(out[:count.value])
 
+    def problem(self, text: Union[bytes, str]) -> Problem:
+        """The problem of a text; refusal 21 or 1 where it is wrong. Its plan is that of the text, bit for bit."""
+        rows = [line.strip(" ()").split() for line in self.canonical(text).decode("ascii").splitlines()[1:]]
+        one = {row[0]: _floats(row[1:]) for row in rows if row[0] not in ("slew", "wheel", "thruster", "cmg", "actuators")}
+        slew, (norm, tie) = [row[1] for row in rows if row[0] == "slew"][0], one["tolerance"]
+        wheels = [row[1:] for row in rows if row[0] == "wheel"]
+        pyramids = [Pyramid(*_floats(row[1:])) for row in rows if row[0] == "cmg"]
+        return Problem(
+            q0=one["q0"], qf=one["qf"], inertia_kgm2=one["inertia"], torque_limit_nm=one["limit"], slew_limit_rad_s=None if slew == "none" else _floats([slew])[0],
+            weights=Weights(*one["weights"]), norm_tolerance=norm, tie_tolerance=tie,
+            wheels=tuple(_wheel(words, start) for words, start in zip(wheels, one["momenta"])),
+            thrusters=tuple(Thruster(_floats(row[1:4]), _floats(row[4:])[0]) for row in rows if row[0] == "thruster"), pyramid=pyramids[0] if pyramids else None)
+
     # ---- dense samples
 
     def acceleration(self, problem: Problem) -> float:
@@ -336,10 +361,19 @@ class Planner:
         self._refuse(self._library.slew_problem_profile(*_declared(problem), profile, c.byref(place)), place.value, 0)
         return profile[1]
 
+    def _alpha(self, path: Path) -> float:
+        """The profile's acceleration; of a path whose problem has no profile (a half turn, no turn) the largest of its own."""
+        try:
+            return self.acceleration(path.problem)
+        except Refused as told:
+            if told.number != 7:
+                raise
+        return max(math.dist(a.w, b.w) / (b.t - a.t) for a, b in zip(path.nodes, path.nodes[1:]))
+
     def sample_count(self, path: Path, requested: int, alpha: Optional[float] = None) -> int:
         """How many dense samples a path has where `requested` are asked for; by the profile's acceleration where no alpha is named."""
         count = c.c_size_t()
-        alpha = self.acceleration(path.problem) if alpha is None else alpha
+        alpha = self._alpha(path) if alpha is None else alpha
         self._refuse(self._library.slew_sample_count(c.c_double(path.duration), c.c_size_t(requested), c.c_double(alpha), c.byref(count)), 0, 0)
         return count.value
 
@@ -357,8 +391,8 @@ class Planner:
             self._refuse(self._library.slew_board_sample(*arguments, numbers, c.byref(place)), place.value, 0)
             yield tuple(numbers)
 
-    def _each(self, path: Path, requested: int, alpha: Optional[float]) -> Iterator[tuple]:
-        alpha = self.acceleration(path.problem) if alpha is None else alpha
+    def _each(self, path: Path, requested: int, alpha: Optional[float]) -> Iterator[Tuple[Any, ...]]:
+        alpha = self._alpha(path) if alpha is None else alpha
         inertia, nodes = _nine(path.problem.inertia_kgm2), _doubles(path.numbers, 374, "the nodes")
         for index in range(self.sample_count(path, requested, alpha)):
             yield (inertia, c.c_double(path.problem.norm_tolerance), c.c_double(path.duration), nodes,

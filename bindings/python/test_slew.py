@@ -29,7 +29,7 @@ def hexed(x: float) -> str:
 
 def quarter() -> Problem:
     """The problem of examples/quarter-turn.slew."""
-    return Problem(q0=(1, 0, 0, 0), qf=(0.7071067811865476, 0, 0, 0.7071067811865475), inertia_kgm2=(10, 12, 8), torque_limit_nm=(0.5, 0.5, 0.5))
+    return Problem(q0=(1, 0, 0, 0), qf=(0.7071067811865476, 0, 0, 0.7071067811865475), inertia_kgm2=(10, 12, 8), torque_limit_nm=(0.5, 0.5, 0.5), weights=Weights(time=1))
 
 
 class Plans(unittest.TestCase):
@@ -53,6 +53,18 @@ class Plans(unittest.TestCase):
         for k, node in enumerate(path.nodes):
             numbers = [node.t, *node.q, *node.w, *node.tau, *node.h, *node.hw]
             self.assertEqual(f" (node {' '.join(map(hexed, numbers))})" + (")" if k == 16 else ""), lines[20 + k])
+
+    def test_a_texts_problem(self):
+        """The problem of a text is planned as the text is; a wrong text is refused."""
+        for name in sorted(glob.glob(os.path.join(TOP, "examples", "*.slew"))):
+            with open(name, "rb") as file:
+                text = file.read()
+            answer = self.planner.plan_text(text).decode().split("\n")
+            try:
+                path = self.planner.plan(self.planner.problem(text))
+                self.assertEqual([f" (node {' '.join(map(hexed, [n.t, *n.q, *n.w, *n.tau, *n.h, *n.hw]))})" for n in path.nodes], [line.replace("))", ")") for line in answer[20:37]])
+            except Refused as told:
+                self.assertEqual(answer[:4], ["(refused", f" (number {told.number})", f" (place {told.place})", f" (runs {told.runs}))"])
 
     def test_a_seed_of_ones_own(self):
         """The seed of another path leads somewhere, and a seed of 16 nodes is refusal 10."""
@@ -130,7 +142,10 @@ class Requests(unittest.TestCase):
         fast, gentle = self.planner.plan_eigenaxis(hard), self.planner.plan_eigenaxis(hard, gentle=True)
         self.assertLess(fast.duration, gentle.duration)
         self.assertEqual(self.planner.rerun(slew.replace(fast, problem=slew.replace(hard, weights=Weights(time=0)))), fast.nodes)
-        self.planner.plan_eigenaxis(slew.replace(quarter(), qf=turn((0, 1, 1), 180)))
+        half = self.planner.plan_eigenaxis(slew.replace(quarter(), qf=turn((0, 1, 1), 180)))
+        samples = list(self.planner.samples(half, 100))
+        self.assertEqual((len(samples), samples[-1].q), (self.planner.sample_count(half, 100), half.nodes[16].q))
+        self.assertLess(max(math.dist(a.w, b.w) for a, b in zip(samples, samples[1:])), 0.0016)
 
     def test_legs(self):
         """Each leg is the plan of that leg alone from the momenta that the one before it ended with; a refused leg is told with its index."""
@@ -254,10 +269,30 @@ class Beside(unittest.TestCase):
 
 
 class Example(unittest.TestCase):
-    def test_scan(self):
-        told = subprocess.run([sys.executable, os.path.join(HERE, "scan.py")], capture_output=True, text=True)
+    def printed(self, name):
+        told = subprocess.run([sys.executable, os.path.join(HERE, name)], capture_output=True, text=True)
         self.assertEqual((told.returncode, told.stderr), (0, ""))
-        self.assertIn("leg 1", told.stdout)
+        return told.stdout
+
+    def test_scan(self):
+        self.assertIn("leg 2", self.printed("scan.py"))
+
+    def test_drive(self):
+        problem = os.path.join(TOP, "examples", "three-wheels.toml")
+        run = lambda *words: subprocess.run([sys.executable, os.path.join(HERE, "drive.py"), *words], capture_output=True, text=True)
+        for words in ([problem, "100"], ["--gentle", problem, "100"]):
+            told = run(*words)
+            rows = [list(map(float, line.split(","))) for line in told.stdout.splitlines()[1:]]
+            self.assertEqual((told.returncode, told.stderr, len(rows) >= 100, {len(row) for row in rows}, rows[0][:5]), (0, "", True, {14}, [0, 1, 0, 0, 0]))
+            self.assertAlmostEqual(rows[-1][4], math.sin(math.radians(15)), 8)
+        for words, status in ((["nowhere", "100"], 2), ([problem], 2), ([os.path.join(TOP, "examples", "refused-two-wheels.toml"), "9"], 3)):
+            told = run(*words)
+            self.assertEqual((told.returncode, told.stdout, "Traceback" in told.stderr), (status, "", False))
+
+    def test_notebook(self):
+        told = self.printed("notebook.py")
+        for words in ("9.16 s, 21 forward runs", "refusal  7", "refusal 4, place 0", "slew 3: to  0 degrees", "the same nodes: True"):
+            self.assertIn(words, told)
 
 
 if __name__ == "__main__":
