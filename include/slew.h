@@ -30,7 +30,7 @@
 #define SLEW_H
 
 /* The interface's version: the first number changes where a caller has to, the second where something is added. */
-#define SLEW_VERSION "2.0.0"
+#define SLEW_VERSION "3.0.0"
 
 #include <stdbool.h>
 #include <stddef.h>
@@ -146,18 +146,25 @@ size_t slew_sample_path(const double inertia[9], double tolerance, double durati
                         double sample[14], size_t *place);
 
 /* A whole mosaic, in libexport_mosaic.a: 2 to 64 attitudes, a slew from rest to rest from each to the next (a leg), the first with the wheels turning as the body's momenta
- * say, each later one as the leg before it ended. The problem is declared as above; the attitudes of `body` are not read. Each leg is what slew_plan_numbers gives for that leg
- * alone, with these momenta in `body`. The first refused leg ends the mosaic; the legs before it stand.
+ * say, each later one as the leg before it ended. The problem is declared as above; the attitudes of `body` are not read. Each leg is what slew_plan_numbers, or by a way about one
+ * axis slew_plan_eigenaxis_numbers, gives for that leg alone, with these momenta in `body`. The first refused leg ends the mosaic; the legs before it stand.
  *
  * A cursor tells how a mosaic stands. cursor: the legs answered, which is also the index of the next leg or of the refused one; their forward runs; the number of a refusal, or
  *   0, its place, and the runs of the refused leg. sums: the duration of the answered legs, added in order; the momenta of eight wheels that the next leg starts with. */
 #define SLEW_TILES_MOST 64
 
+/* The way in which legs are planned: by the search from the planner's own seed; about one axis, as short as the limits allow; about one axis, gently. About one axis a leg's runs are
+ * those of every try. Another number is no way: 99 is returned, nothing is planned, and slew_mosaic_next leaves the cursor as it is. */
+#define SLEW_BY_SEARCH 0
+#define SLEW_BY_EIGENAXIS 1
+#define SLEW_BY_EIGENAXIS_GENTLE 2
+
 /* One leg, from one attitude to another, scalar first. A mosaic begins with `cursor` all 0, sums[0] 0 and the wheels' momenta behind it (the momenta of `body` are not read here).
- * Returns 0, or the leg's refusal; told, duration, max_defect, decision, nodes, held and the workspace as by slew_plan_numbers. A cursor that has 63 legs is refused with 23. After a
+ * Returns 0, or the leg's refusal; told, duration, max_defect, decision, nodes, held and the workspace as by slew_plan_numbers. A cursor that has 63 legs, or more than 15,000,000 runs (no
+ * mosaic has), is refused with 23. Legs of one mosaic may be planned by different ways. After a
  * refusal the cursor stays as it is: its number is returned again, with 0 runs, and nothing is planned. */
 size_t slew_mosaic_next(const size_t counts[11], const double actuators[100], const double body[37], bool limited,
-                        const double from[4], const double to[4], size_t cursor[5], double sums[9],
+                        size_t way, const double from[4], const double to[4], size_t cursor[5], double sums[9],
                         double *workspace, size_t workspace_count,
                         size_t told[5], double *duration, double *max_defect, double decision[193], double nodes[374],
                         size_t held[12]);
@@ -166,7 +173,7 @@ size_t slew_mosaic_next(const size_t counts[11], const double actuators[100], co
  * answered leg, in turn: forward runs, controls in a row, wheels, iterations; duration, largest defect; decision; nodes. (Which controls were held, slew_mosaic_next tells.) What stands behind those rows stays. A list of fewer rows
  * than there are legs (a leg fewer than attitudes): 99 is returned, and nothing is planned. The workspace is untouched where no leg began a run, and all +0.0 otherwise. */
 size_t slew_mosaic(const size_t counts[11], const double actuators[100], const double body[37], bool limited,
-                   const double (*tiles)[4], size_t tiles_count,
+                   size_t way, const double (*tiles)[4], size_t tiles_count,
                    size_t (*told)[4], size_t told_count, double (*times)[2], size_t times_count,
                    double (*decisions)[193], size_t decisions_count, double (*nodes)[374], size_t nodes_count,
                    double *workspace, size_t workspace_count,

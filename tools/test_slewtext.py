@@ -494,6 +494,12 @@ class Orders(unittest.TestCase):
                 tiles, names = slewtext.tile_list(TILES)
                 self.assertEqual(slewtext.planned_table(tiles, names, QUARTER), [[0 if i == j else milliseconds for j in range(3)] for i in range(3)])
 
+    def test_pairs_are_planned_by_the_search_or_about_one_axis(self):
+        for words, wanted in (([], "slew"), (["--eigenaxis"], "slew_eigenaxis"), (["--eigenaxis", "--budget", "7"], "slew_eigenaxis"), (["--budget", "7"], "slew")):
+            with unittest.mock.patch.object(slewtext, "order_tiles") as called:
+                slewtext.order_command(["--tiles", "a", "b", *words])()
+            called.assert_called_once_with(wanted, "a", "b", *words[-1:] * ("--budget" in words))
+
     def test_every_refused_pair_is_told(self):
         tiles, names = slewtext.tile_list(TILES)
         with unittest.mock.patch.object(slewtext, "printed", lambda program, text: "(refused\n (number 7)\n (place 0)\n (runs 0))\n"):
@@ -515,7 +521,7 @@ class Orders(unittest.TestCase):
     def test_bad_tiles_and_words(self):
         for table in ({}, {"tile": []}, {"tile": 3}, {"tile": [{"degrees": 3}]}, {"tile": [TILES["tile"][0]] * 11}, TILES | {"colour": 1}, {"tile": [{"quaternion": [1, 0, 0, 0], "axis": [1, 0, 0]}]}):
             self.assertRaises(slewtext.Fault, slewtext.tile_list, table)
-        for words in (["order"], ["order", "--tiles", "a"], ["order", "a", "b"], ["order", "a", "--budget"]):
+        for words in (["order"], ["order", "--tiles", "a"], ["order", "a", "b"], ["order", "a", "--budget"], ["order", "--tiles", "a", "b", "c"], ["order", "--tiles", "a", "b", "--eigenaxis", "c"]):
             self.assertEqual(run(*words).returncode, 2)
         for words in (["order", "-", "--budget", "-3"], ["order", "no-such-file"], ["order", "--tiles", "no-such-file", "none"]):
             fault = run(*words, text="0,1\n1,0\n")

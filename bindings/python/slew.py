@@ -32,6 +32,7 @@ COLUMN = 4_096  # words of a column of byte planes
 STARTS = 2_193  # of drive against draught
 NONE = 255  # no turns, no choice, no reply
 SHORT = 99  # the buffer lent for an answer is too short
+WAYS = ("search", "eigenaxis", "gentle")  # of planning a mosaic's legs, by the C interface's numbers
 
 
 class Refused(Exception):
@@ -278,15 +279,18 @@ class Planner:
         """The path about one axis, as short as the limits allow, or along one smooth wave. The weights are not read. Most slews that `plan` refuses are planned so."""
         return self._planned(problem, self._library.slew_plan_eigenaxis_numbers, (c.c_bool(gentle),))
 
-    def legs(self, problem: Problem, tiles: Sequence[Quaternion]) -> Iterator[Path]:
+    def legs(self, problem: Problem, tiles: Sequence[Quaternion], way: str = "search") -> Iterator[Path]:
         """The legs of a mosaic of 2 to 64 tiles, one after another, each from the momenta that the one before it ended with. The problem's own attitudes are not read.
-        A refused leg ends them with `Refused`, whose `leg` is its index; the legs before it stand."""
+        Way: "search", "eigenaxis" or "gentle", as `plan`, `plan_eigenaxis` and its gentle shape plan a leg. A refused leg ends them with `Refused`, whose `leg` is its index;
+        the legs before it stand."""
+        if way not in WAYS:
+            raise ValueError(f"a way is one of {', '.join(WAYS)}, not {way!r}")
         if not 2 <= len(tiles) <= 64:
             self._refuse(23, 0, 0)
         starts = [wheel.start_nms for wheel in problem.wheels[:8]]
         cursor, sums = (c.c_size_t * 5)(), (c.c_double * 9)(0.0, *starts)
         for leg, (q0, qf) in enumerate(zip(tiles, tiles[1:])):
-            ends = (_doubles(q0, 4, "a tile"), _doubles(qf, 4, "a tile"), cursor, sums)
+            ends = (c.c_size_t(WAYS.index(way)), _doubles(q0, 4, "a tile"), _doubles(qf, 4, "a tile"), cursor, sums)
             path = self._planned(replace(problem, q0=tuple(q0), qf=tuple(qf)), self._library.slew_mosaic_next, ends, leg)
             yield replace(path, problem=_turning(path.problem, path.nodes[0].hw))
 

@@ -166,6 +166,25 @@ class Requests(unittest.TestCase):
                 list(self.planner.legs(table, [tiles[0]] * count))
             self.assertEqual(told.exception.number, 23)
 
+    def test_legs_about_one_axis(self):
+        """Legs that the search refuses, with wheels that turn at the start, are planned about one axis; each is the eigenaxis plan of that leg alone."""
+        wheels = tuple(Wheel(a, 0.6, 50.0, start_nms=s) for a, s in [((1, 0, 0), 5.0), ((0, 1, 0), -3.0), ((0, 0, 1), 1.0)])
+        table = slew.replace(quarter(), wheels=wheels)
+        tiles = [turn((0, 0, 1), 0), turn((1, 2, 3), 40), turn((0, 1, -1), 70), turn((1, 0, 0), 10)]
+        with self.assertRaises(Refused):
+            list(self.planner.legs(table, tiles))
+        sums = {}
+        for way in ("eigenaxis", "gentle"):
+            at, sums[way] = table, 0.0
+            for k, leg in enumerate(self.planner.legs(table, tiles, way)):
+                alone = self.planner.plan_eigenaxis(slew.replace(at, q0=tiles[k], qf=tiles[k + 1]), gentle=way == "gentle")
+                self.assertEqual((leg.nodes, leg.duration, leg.runs, leg.held), (alone.nodes, alone.duration, alone.runs, alone.held))
+                at, sums[way] = after(table, leg), sums[way] + leg.duration
+            self.assertEqual(k, 2)
+        self.assertLess(sums["eigenaxis"], sums["gentle"])
+        with self.assertRaises(ValueError):
+            list(self.planner.legs(table, tiles, "fast"))
+
     def test_ask_then_commit(self):
         wheels = tuple(Wheel(a, 0.6, 50.0) for a in [(1, 0, 0), (0, 1, 0), (0, 0, 1)])
         record = slew.Record((0.0, 0.0, 0.25))

@@ -1,6 +1,6 @@
 /* Scans a row of tiles with a table that has three wheels. The legs are planned one by one, each as soon as the one before it would be flown: its start momenta are those that the
  * leg before ended with. Where a leg is refused the scan goes on with what it has: the refused tile is left out, and the next one is tried from where the table stands. At the end the
- * tiles that were reached are planned once more as a whole, which gives the same legs. */
+ * tiles that were reached are planned once more as a whole, which gives the same legs. All of it is done by the search, then about one axis. */
 #include <stdio.h>
 #include <string.h>
 
@@ -36,18 +36,19 @@ static double decision[193], nodes[374];
 static double reached[TILES][4];
 
 /* The whole of what was reached, beside the sums of the scan. */
-static int same_as_whole(size_t legs, const size_t cursor[5], const double sums[9])
+static int same_as_whole(size_t way, size_t legs, const size_t cursor[5], const double sums[9])
 {
     static size_t told[TILES][4];
     static double times[TILES][2], decisions[TILES][193], paths[TILES][374];
     size_t whole[5];
     double total[9];
-    slew_mosaic(counts, actuators, body, false, (const double(*)[4])reached, legs + 1, told, TILES, times, TILES, decisions, TILES, paths, TILES,
+    slew_mosaic(counts, actuators, body, false, way, (const double(*)[4])reached, legs + 1, told, TILES, times, TILES, decisions, TILES, paths, TILES,
                 workspace, SLEW_WORKSPACE(3, 28), whole, total);
     return memcmp(whole, cursor, sizeof whole) == 0 && memcmp(total, sums, sizeof total) == 0 && memcmp(paths[legs - 1], nodes, sizeof nodes) == 0;
 }
 
-int main(void)
+/* The scan by a way; whether it is the same mosaic as a whole. */
+static int scan(size_t way)
 {
     size_t cursor[5] = {0}, told[5], held[12];
     double sums[9] = {0}, duration, max_defect, last[374];
@@ -55,7 +56,7 @@ int main(void)
     memcpy(reached[0], tiles[0], sizeof reached[0]);
     for (size_t k = 1; k < TILES; k++) {
         const double *from = reached[cursor[0]];
-        size_t number = slew_mosaic_next(counts, actuators, body, false, from, tiles[k], cursor, sums, workspace, SLEW_WORKSPACE(3, 28), told, &duration, &max_defect, decision, nodes,
+        size_t number = slew_mosaic_next(counts, actuators, body, false, way, from, tiles[k], cursor, sums, workspace, SLEW_WORKSPACE(3, 28), told, &duration, &max_defect, decision, nodes,
                                          held);
         if (number) {
             printf("tile %zu: refused, number %zu, place %zu, %zu runs; left out\n", k, number, told[0], told[1]);
@@ -68,7 +69,16 @@ int main(void)
     }
     memcpy(nodes, last, sizeof last);
     printf("%zu legs, %.4f s, %zu runs\n", cursor[0], sums[0], cursor[1]);
-    if (!same_as_whole(cursor[0], cursor, sums)) {
+    return same_as_whole(way, cursor[0], cursor, sums);
+}
+
+int main(void)
+{
+    puts("by the search");
+    int same = scan(SLEW_BY_SEARCH);
+    puts("about one axis");
+    same &= scan(SLEW_BY_EIGENAXIS);
+    if (!same) {
         fprintf(stderr, "planned as a whole it is another mosaic\n");
         return 1;
     }

@@ -1,21 +1,16 @@
 -- Laws of what tries keep, in the code's steps. Assumes nothing.
-use Prim.Native.Nat.{ℕ, _+_}
+use Prim.Native.Nat.{ℕ}
 use mathlib.Core.Path.{_≡_, refl, sym, ap, _∙_}
 use mathlib.Core.Bool.{Bool, true, false, cond}
 use mathlib.Core.List.{List}
-use native.Mathlib.Omega.{arith}
-use borrow.Author.Tests.{eqb-true}
-use lib.Dec.{eqb}
-use lib.ListN.{length, replicate, length-replicate}
 use lib.Ieee.{Float}
 use Rattle.common.specs.Iter.{iter}
 use Rattle.common.specs.declared.Fate.{Fate}
 use Rattle.common.specs.declared.Fate.the-variants.{Going, Refused}
-use Rattle.geom.specs.Vec.{plusZero}
 use Rattle.problem.specs.Problems.{check}
 use Rattle.problem.specs.declared.Problem.{Problem}
 use Rattle.planner.specs.Plans as Plans
-use Rattle.planner.specs.PlanLaws.{leaves-none}
+use Rattle.planner.specs.PlanLaws.{leaves-none, leaves-twice}
 use Rattle.planner.specs.Promises as Promises
 use Rattle.planner.specs.declared.Planned.{Planned}
 use Rattle.eigenaxis_seed.specs.declared.Shape.{Shape}
@@ -23,22 +18,6 @@ use Rattle.eigenaxis_seed.specs.declared.Seeding.{Seeding}
 use Rattle.eigenaxis.specs.Ladders as Ladders
 use Rattle.eigenaxis.specs.Keeps.{Keeps, Begins}
 use Rattle.eigenaxis.specs.declared.Ladder.{Ladder}
-
--- the workspace after more runs
-pub leaves-more : (a b : ℕ) (ws : List Float) → Plans.leaves b (Plans.leaves a ws) ≡ Plans.leaves (a + b) ws
-unfolding Plans.leaves
-leaves-more a b ws = go (eqb a 0) (eqb b 0) (eqb (a + b) 0) refl refl refl
-  where
-    go : (x y z : Bool) → eqb a 0 ≡ x → eqb b 0 ≡ y → eqb (a + b) 0 ≡ z
-        → cond y (cond x ws (replicate (length ws) plusZero)) (replicate (length (cond x ws (replicate (length ws) plusZero))) plusZero) ≡ cond z ws (replicate (length ws) plusZero)
-    go true true true e f g = refl
-    go true true false e f g = let h : a ≡ 0 = eqb-true a 0 e in let k : b ≡ 0 = eqb-true b 0 f in let z : true ≡ false = rw (h, k) at g in cc
-    go true false true e f g = let h : a + b ≡ 0 = eqb-true (a + b) 0 g in let k : b ≡ 0 = omega arith in let z : true ≡ false = rw k at f in cc
-    go true false false e f g = refl
-    go false true true e f g = let h : a + b ≡ 0 = eqb-true (a + b) 0 g in let k : a ≡ 0 = omega arith in let z : true ≡ false = rw k at e in cc
-    go false true false e f g = refl
-    go false false true e f g = let h : a + b ≡ 0 = eqb-true (a + b) 0 g in let k : a ≡ 0 = omega arith in let z : true ≡ false = rw k at e in cc
-    go false false false e f g = rw (length-replicate (length ws) plusZero)
 
 -- nothing was done
 pub keeps-same : (q : Problem) (shape : Shape) {s r : Ladder} {ws : List Float} → r ≡ s → Keeps q shape s r ws ws
@@ -53,7 +32,7 @@ keeps-begin {a = a} f g = record { left = g .left a (f .left); stands = g .stand
 
 -- a duration that was refused after so many runs
 pub keeps-refused : (q : Problem) (shape : Shape) (s : Ladder) (t : Float) (runs : ℕ) {r : Ladder} {a b : List Float} → r ≡ Ladders.passed s t runs → b ≡ Plans.leaves runs a → Keeps q shape s r a b
-keeps-refused q shape s t runs e f = record { left = λ o h. rw e (f ∙ rw h (leaves-more (s .runs) runs o)); stands = λ h. rw e h }
+keeps-refused q shape s t runs e f = record { left = λ o h. rw e (f ∙ rw h (leaves-twice (s .runs) runs o)); stands = λ h. rw e h }
 
 -- a duration that was passed over
 pub keeps-over : (q : Problem) (shape : Shape) (s : Ladder) (t : Float) {r : Ladder} {ws : List Float} → r ≡ Ladders.passed s t 0 → Keeps q shape s r ws ws
@@ -62,7 +41,7 @@ keeps-over q shape s t {ws = ws} e = keeps-refused q shape s t 0 e (leaves-none 
 -- a duration that was answered
 pub keeps-reached : (q : Problem) (shape : Shape) (s : Ladder) (t : Float) (x : Planned) {z : Seeding} {r : Ladder} {a b : List Float} → r ≡ Ladders.reached s t x → b ≡ Plans.leaves (x .runs) a
     → z ≡ Ladders.seedAt q shape t → Promises.Answers q (Plans.seedOf (check q .problem) t (z .torques)) x → Keeps q shape s r a b
-keeps-reached q shape s t x e f g h = record { left = λ o k. rw e (f ∙ rw k (leaves-more (s .runs) (x .runs) o)); stands = λ k. rw e (rw g at h) }
+keeps-reached q shape s t x e f g h = record { left = λ o k. rw e (f ∙ rw k (leaves-twice (s .runs) (x .runs) o)); stands = λ k. rw e (rw g at h) }
 
 -- ---- a try, and the turns, in the code's steps
 module _ (q : Problem) (shape : Shape) (size : ℕ) (s : Ladder) where

@@ -252,7 +252,9 @@ fn counted(e: Eigenaxis) -> Planned
 
 // The eigenaxis plan in the form in which `plan` and `plan_from` answer: its runs are those of every try.
 pub fn plan_counted(p: Problem, shape: Shape, ws: &mut [f64]) -> Planned
-    ensures { λ r. ⌜ (r ≡ Ladders.counted (Ladders.planEigenaxis p shape (length (now (ws .entry))))) × (now (ws .exit) ≡ Plans.leaves (r .runs) (now (ws .entry))) ⌝ }
+    ensures { λ r. ⌜ r ≡ Ladders.counted (Ladders.planEigenaxis p shape (length (now (ws .entry)))) ⌝ }
+    ensures { λ r. ⌜ now (ws .exit) ≡ Plans.leaves (r .runs) (now (ws .entry)) ⌝ }
+    ensures { λ _. ⌜ Keeps.Answers p shape (Ladders.planEigenaxis p shape (length (now (ws .entry)))) ⌝ }
 {
     let e = plan_eigenaxis(p, shape, ws);
     counted(e)

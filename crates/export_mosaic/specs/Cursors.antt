@@ -1,5 +1,6 @@
--- A mosaic's cursor as the counts and numbers that a caller holds, and the mosaics of a problem as declared. Definitions only.
+-- A mosaic's cursor as the counts and numbers that a caller holds, its way as a number, and the mosaics of a problem as declared. Definitions only.
 use Prim.Native.Nat.{ℕ, _+_}
+use mathlib.Core.Path.{_≡_}
 use mathlib.Core.Bool.{Bool, cond}
 use mathlib.Core.List.{List, [], _∷_}
 use lib.Dec.{eqb}
@@ -8,14 +9,21 @@ use lib.Ieee.{Float}
 use Rattle.common.specs.Lists.{at}
 use Rattle.common.specs.declared.Fate.{Fate}
 use Rattle.common.specs.declared.Fate.the-variants.{Going, Refused}
+use Rattle.geom.specs.declared.Quat.{Quat}
+use Rattle.problem.specs.declared.Problem.{Problem}
 use Rattle.planner.specs.Plans as Plans
-use Rattle.mosaic.specs.Mosaics.{Planner, Flight, quatOf}
+use Rattle.eigenaxis_seed.specs.declared.Shape.the-variants.{Fastest, Gentle}
+use Rattle.mosaic.specs.Mosaics.{Flight, quatOf}
 use Rattle.mosaic.specs.Mosaics as Mosaics
+use Rattle.mosaic.specs.Ways.{plannerBy}
 use Rattle.mosaic.specs.declared.Advanced.{Advanced}
 use Rattle.mosaic.specs.declared.Cursor.{Cursor}
+use Rattle.mosaic.specs.declared.ways.Way.the-variants.{Search, Eigenaxis}
 use Rattle.whole_mosaic.specs.Layout as Layout
 use Rattle.export_problem.specs.Declared as Declared
 use Rattle.export_runs.specs.Paths as Paths
+use Rattle.export_mosaic.specs.declared.Asked.{Asked}
+use Rattle.export_mosaic.specs.declared.Asked.the-variants.{By, Unknown}
 
 -- a refusal's number and place, or number 0
 abbrev pub fate : ℕ → ℕ → Fate
@@ -49,21 +57,36 @@ sums c =
     ∷ at (c .momenta .at) 0 ∷ at (c .momenta .at) 1 ∷ at (c .momenta .at) 2 ∷ at (c .momenta .at) 3 ∷ at (c .momenta .at) 4 ∷ at (c .momenta .at) 5 ∷ at (c .momenta .at) 6 ∷ at (c .momenta .at) 7
     ∷ []
 
+-- ---- the way that a caller's number asks for: 0 the search; 1 about one axis, as short as the limits allow; 2 about one axis, gently; another number none
+abbrev pub asked : ℕ → Asked
+asked way = cond (eqb way 0) (By Search) (cond (eqb way 1) (By (Eigenaxis Fastest)) (cond (eqb way 2) (By (Eigenaxis Gentle)) Unknown))
+
+-- one leg: the cursor after it, and its answer. 99, which no refusal of document 01 is, where no way is asked for: nothing is planned, and the cursor stays.
+abbrev pub turnBy : Asked → Problem → Cursor → Quat → Quat → ℕ → Advanced
+turnBy (By way) p c from to size = record { cursor = Mosaics.next (plannerBy way size) p c from to; planned = Mosaics.planned (plannerBy way size) p c from to }
+turnBy Unknown p c from to size = record { cursor = c; planned = Plans.refused 99 0 0 }
+
+-- the whole mosaic of rows of tiles, from the problem's momenta, into lent lists of a, b, c and d rows; or 99 and no legs
+abbrev pub wholeBy : Asked → Problem → List (List Float) → ℕ → ℕ → ℕ → ℕ → ℕ → Flight
+wholeBy (By way) p tiles a b c d size = Layout.lent (plannerBy way size) p tiles (p .momenta) a b c d
+wholeBy Unknown p tiles a b c d size = Mosaics.nothing (p .momenta) 99 0
+
 -- ---- of a problem as declared, on a workspace of `size` numbers
-abbrev pub planner : ℕ → Planner
-planner size = λ q. Plans.plan q size
+abbrev pub turn : ℕ → List ℕ → List Float → List Float → Bool → List Float → List Float → List ℕ → List Float → ℕ → Advanced
+turn way c v b limited from to n s size = turnBy (asked way) (Declared.problem c v b limited) (cursor (count c 0) n s) (quatOf from) (quatOf to) size
 
--- one leg: the cursor after it, and its answer
-abbrev pub turn : List ℕ → List Float → List Float → Bool → List Float → List Float → List ℕ → List Float → ℕ → Advanced
-turn c v b limited from to n s size = record {
-  cursor = Mosaics.next (planner size) (Declared.problem c v b limited) (cursor (count c 0) n s) (quatOf from) (quatOf to);
-  planned = Mosaics.planned (planner size) (Declared.problem c v b limited) (cursor (count c 0) n s) (quatOf from) (quatOf to);
-}
-
--- the whole mosaic, from the problem's momenta
-abbrev pub whole : List ℕ → List Float → List Float → Bool → List (List Float) → ℕ → ℕ → ℕ → ℕ → ℕ → Flight
-whole c v b limited tiles rows₁ rows₂ rows₃ rows₄ size = Layout.lent (planner size) (Declared.problem c v b limited) tiles (Declared.problem c v b limited .momenta) rows₁ rows₂ rows₃ rows₄
+abbrev pub whole : ℕ → List ℕ → List Float → List Float → Bool → List (List Float) → ℕ → ℕ → ℕ → ℕ → ℕ → Flight
+whole way c v b limited tiles rows₁ rows₂ rows₃ rows₄ size = wholeBy (asked way) (Declared.problem c v b limited) tiles rows₁ rows₂ rows₃ rows₄ size
 
 -- the workspace after it: untouched where no leg began a run, else all +0
 abbrev pub leaves : Cursor → List Float → List Float
 leaves c ws = Plans.leaves (c .runs + c .«refused_runs») ws
+
+-- what a whole mosaic f leaves with the caller: its cursor, a row for each of its legs in each lent list, the workspace
+pub record Fills (f : Flight) (r : Cursor) (counts counts′ : List (List ℕ)) (times times′ decisions decisions′ : List (List Float)) (nodes nodes′ : List (List (List Float))) (ws ws′ : List Float) : Type 0 where
+  pub cursor : r ≡ f .cursor
+  pub counts-as : counts′ ≡ Layout.over Layout.counts (f .legs) counts
+  pub times-as : times′ ≡ Layout.over Layout.times (f .legs) times
+  pub decisions-as : decisions′ ≡ Layout.over Layout.decision (f .legs) decisions
+  pub nodes-as : nodes′ ≡ Layout.over Layout.nodes (f .legs) nodes
+  pub left : ws′ ≡ leaves (f .cursor) ws

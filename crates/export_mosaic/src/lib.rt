@@ -1,7 +1,8 @@
 // The C interface of a whole mosaic, thin over the proved libraries. `rt staticlib export_mosaic` makes the archive.
 //
 // The problem is declared as for a plan; its attitudes are not read. A cursor is five counts (legs answered, their runs; a refusal's number, else 0, its place and its
-// runs) and nine numbers (the answered legs' duration, and the momenta of eight wheels that the next leg starts with).
+// runs) and nine numbers (the answered legs' duration, and the momenta of eight wheels that the next leg starts with). The way to plan is a number: 0 the search, 1 about
+// one axis, 2 about one axis gently.
 ghost use mathlib.Core.Path.{_≡_};
 ghost use lib.ListN.{length};
 ghost use Rattle.planner.specs.Plans as Plans;
@@ -12,15 +13,44 @@ ghost use Rattle.export.specs.Entries as Entries;
 ghost use Rattle.export_leaves.specs.Outcomes as Outcomes;
 ghost use Rattle.export_mosaic.specs.Cursors as Cursors;
 use common::Fate;
+use eigenaxis_seed::Shape;
 use export::plans::put_planned;
 use export_problem::problem_of;
 use export_runs::paths::number_of;
 use export_runs::paths::place_of;
+use geom::Quat;
+use mosaic::Advanced;
 use mosaic::Cursor;
+use mosaic::halted;
 use mosaic::next;
+use mosaic::start;
+use mosaic::ways::Way;
+use planner::refused;
 use problem::Momenta;
+use problem::Problem;
 use whole_mosaic::plan_mosaic;
 use whole_mosaic::quat_of;
+
+// The way that a caller's number asks for, if any.
+pub enum Asked {
+    By(Way),
+    Unknown,
+}
+
+fn asked_of(way: usize) -> Asked
+    ensures { λ r. ⌜ r ≡ Cursors.asked way ⌝ }
+{
+    if way == 0 {
+        return Asked::By(Way::Search);
+    }
+    if way == 1 {
+        return Asked::By(Way::Eigenaxis(Shape::Fastest));
+    }
+    if way == 2 {
+        return Asked::By(Way::Eigenaxis(Shape::Gentle));
+    }
+    Asked::Unknown
+}
 
 // How a cursor goes on: a refusal's number and place, or number 0.
 fn fate_of(number: usize, place: usize) -> Fate
@@ -68,6 +98,42 @@ fn put_cursor(c: Cursor, counts: &mut [usize; 5], sums: &mut [f64; 9]) -> usize
     number
 }
 
+// One leg; or 99 where no way is asked for: nothing is planned, and the cursor stays.
+fn turn(p: Problem, way: usize, c: Cursor, from: Quat, to: Quat, ws: &mut [f64]) -> Advanced
+    ensures { λ r. ⌜ r ≡ Cursors.turnBy (Cursors.asked way) p c from to (length (now (ws .entry))) ⌝ }
+    ensures { λ r. ⌜ now (ws .exit) ≡ Plans.leaves (r .planned .runs) (now (ws .entry)) ⌝ }
+{
+    let asked = asked_of(way);
+    match asked {
+        Asked::By(by) => next(p, by, c, from, to, ws),
+        Asked::Unknown => Advanced {
+            cursor: c,
+            planned: refused(99, 0, 0),
+        },
+    }
+}
+
+// The whole mosaic from the momenta of the problem; or 99 where no way is asked for.
+fn fill(
+    p: Problem,
+    way: usize,
+    tiles: &[[f64; 4]],
+    counts: &mut [[usize; 4]],
+    times: &mut [[f64; 2]],
+    decisions: &mut [[f64; 193]],
+    nodes: &mut [[[f64; 22]; 17]],
+    ws: &mut [f64],
+) -> Cursor
+    ensures { λ r. ⌜ Cursors.Fills (Cursors.wholeBy (Cursors.asked way) p (now (tiles .entry)) (length (now (counts .entry))) (length (now (times .entry))) (length (now (decisions .entry))) (length (now (nodes .entry))) (length (now (ws .entry)))) r (now (counts .entry)) (now (counts .exit)) (now (times .entry)) (now (times .exit)) (now (decisions .entry)) (now (decisions .exit)) (now (nodes .entry)) (now (nodes .exit)) (now (ws .entry)) (now (ws .exit)) ⌝ }
+{
+    let m = p.momenta;
+    let asked = asked_of(way);
+    match asked {
+        Asked::By(by) => plan_mosaic(p, by, m, tiles, counts, times, decisions, nodes, ws),
+        Asked::Unknown => halted(start(m), 99, 0, 0),
+    }
+}
+
 // One leg, from one attitude to another: the cursor moves on, and the leg's answer is put into what is lent for it, as `slew_plan_numbers` does; the leg's refusal, or
 // 0. After a refusal the cursor stays, and that refusal's number is answered again, with 0 runs.
 #[no_mangle]
@@ -76,6 +142,7 @@ pub extern "C" fn slew_mosaic_next(
     v: &[f64; 100],
     b: &[f64; 37],
     limited: bool,
+    way: usize,
     from: &[f64; 4],
     to: &[f64; 4],
     cursor: &mut [usize; 5],
@@ -88,20 +155,20 @@ pub extern "C" fn slew_mosaic_next(
     nodes: &mut [[f64; 22]; 17],
     held: &mut [usize; 12],
 ) -> usize
-    ensures { λ _. ⌜ now (cursor .exit) ≡ Cursors.counts ((Cursors.turn (now (c .entry)) (now (v .entry)) (now (b .entry)) limited (now (from .entry)) (now (to .entry)) (now (cursor .entry)) (now (sums .entry)) (length (now (ws .entry)))) .cursor) ⌝ }
-    ensures { λ _. ⌜ now (sums .exit) ≡ Cursors.sums ((Cursors.turn (now (c .entry)) (now (v .entry)) (now (b .entry)) limited (now (from .entry)) (now (to .entry)) (now (cursor .entry)) (now (sums .entry)) (length (now (ws .entry)))) .cursor) ⌝ }
-    ensures { λ _. ⌜ now (ws .exit) ≡ Plans.leaves ((Cursors.turn (now (c .entry)) (now (v .entry)) (now (b .entry)) limited (now (from .entry)) (now (to .entry)) (now (cursor .entry)) (now (sums .entry)) (length (now (ws .entry)))) .planned .runs) (now (ws .entry)) ⌝ }
-    ensures { λ r. ⌜ r ≡ Outcomes.number (Plans.answer (Cursors.turn (now (c .entry)) (now (v .entry)) (now (b .entry)) limited (now (from .entry)) (now (to .entry)) (now (cursor .entry)) (now (sums .entry)) (length (now (ws .entry))) .planned)) ⌝ }
-    ensures { λ _. ⌜ now (counts .exit) ≡ Entries.counts (Cursors.turn (now (c .entry)) (now (v .entry)) (now (b .entry)) limited (now (from .entry)) (now (to .entry)) (now (cursor .entry)) (now (sums .entry)) (length (now (ws .entry))) .planned) ⌝ }
-    ensures { λ _. ⌜ now (duration .exit) ≡ Cursors.turn (now (c .entry)) (now (v .entry)) (now (b .entry)) limited (now (from .entry)) (now (to .entry)) (now (cursor .entry)) (now (sums .entry)) (length (now (ws .entry))) .planned .path .duration ⌝ }
-    ensures { λ _. ⌜ now («max_defect» .exit) ≡ Cursors.turn (now (c .entry)) (now (v .entry)) (now (b .entry)) limited (now (from .entry)) (now (to .entry)) (now (cursor .entry)) (now (sums .entry)) (length (now (ws .entry))) .planned .path .«max_defect» ⌝ }
-    ensures { λ _. ⌜ now (z .exit) ≡ Cursors.turn (now (c .entry)) (now (v .entry)) (now (b .entry)) limited (now (from .entry)) (now (to .entry)) (now (cursor .entry)) (now (sums .entry)) (length (now (ws .entry))) .planned .path .z ⌝ }
-    ensures { λ _. ⌜ now (nodes .exit) ≡ Rows.rows (Cursors.turn (now (c .entry)) (now (v .entry)) (now (b .entry)) limited (now (from .entry)) (now (to .entry)) (now (cursor .entry)) (now (sums .entry)) (length (now (ws .entry))) .planned .path .nodes) ⌝ }
-    ensures { λ _. ⌜ now (held .exit) ≡ Cursors.turn (now (c .entry)) (now (v .entry)) (now (b .entry)) limited (now (from .entry)) (now (to .entry)) (now (cursor .entry)) (now (sums .entry)) (length (now (ws .entry))) .planned .path .held ⌝ }
+    ensures { λ _. ⌜ now (cursor .exit) ≡ Cursors.counts ((Cursors.turn way (now (c .entry)) (now (v .entry)) (now (b .entry)) limited (now (from .entry)) (now (to .entry)) (now (cursor .entry)) (now (sums .entry)) (length (now (ws .entry)))) .cursor) ⌝ }
+    ensures { λ _. ⌜ now (sums .exit) ≡ Cursors.sums ((Cursors.turn way (now (c .entry)) (now (v .entry)) (now (b .entry)) limited (now (from .entry)) (now (to .entry)) (now (cursor .entry)) (now (sums .entry)) (length (now (ws .entry)))) .cursor) ⌝ }
+    ensures { λ _. ⌜ now (ws .exit) ≡ Plans.leaves ((Cursors.turn way (now (c .entry)) (now (v .entry)) (now (b .entry)) limited (now (from .entry)) (now (to .entry)) (now (cursor .entry)) (now (sums .entry)) (length (now (ws .entry)))) .planned .runs) (now (ws .entry)) ⌝ }
+    ensures { λ r. ⌜ r ≡ Outcomes.number (Plans.answer (Cursors.turn way (now (c .entry)) (now (v .entry)) (now (b .entry)) limited (now (from .entry)) (now (to .entry)) (now (cursor .entry)) (now (sums .entry)) (length (now (ws .entry))) .planned)) ⌝ }
+    ensures { λ _. ⌜ now (counts .exit) ≡ Entries.counts (Cursors.turn way (now (c .entry)) (now (v .entry)) (now (b .entry)) limited (now (from .entry)) (now (to .entry)) (now (cursor .entry)) (now (sums .entry)) (length (now (ws .entry))) .planned) ⌝ }
+    ensures { λ _. ⌜ now (duration .exit) ≡ Cursors.turn way (now (c .entry)) (now (v .entry)) (now (b .entry)) limited (now (from .entry)) (now (to .entry)) (now (cursor .entry)) (now (sums .entry)) (length (now (ws .entry))) .planned .path .duration ⌝ }
+    ensures { λ _. ⌜ now («max_defect» .exit) ≡ Cursors.turn way (now (c .entry)) (now (v .entry)) (now (b .entry)) limited (now (from .entry)) (now (to .entry)) (now (cursor .entry)) (now (sums .entry)) (length (now (ws .entry))) .planned .path .«max_defect» ⌝ }
+    ensures { λ _. ⌜ now (z .exit) ≡ Cursors.turn way (now (c .entry)) (now (v .entry)) (now (b .entry)) limited (now (from .entry)) (now (to .entry)) (now (cursor .entry)) (now (sums .entry)) (length (now (ws .entry))) .planned .path .z ⌝ }
+    ensures { λ _. ⌜ now (nodes .exit) ≡ Rows.rows (Cursors.turn way (now (c .entry)) (now (v .entry)) (now (b .entry)) limited (now (from .entry)) (now (to .entry)) (now (cursor .entry)) (now (sums .entry)) (length (now (ws .entry))) .planned .path .nodes) ⌝ }
+    ensures { λ _. ⌜ now (held .exit) ≡ Cursors.turn way (now (c .entry)) (now (v .entry)) (now (b .entry)) limited (now (from .entry)) (now (to .entry)) (now (cursor .entry)) (now (sums .entry)) (length (now (ws .entry))) .planned .path .held ⌝ }
 {
     let p = problem_of(c, v, b, limited);
     let at = cursor_of(c[0], *cursor, *sums);
-    let made = next(p, at, quat_of(*from), quat_of(*to), ws);
+    let made = turn(p, way, at, quat_of(*from), quat_of(*to), ws);
     let moved = made.cursor;
     let leg = made.planned;
     put_cursor(moved, cursor, sums);
@@ -115,6 +182,7 @@ pub extern "C" fn slew_mosaic(
     v: &[f64; 100],
     b: &[f64; 37],
     limited: bool,
+    way: usize,
     tiles: &[[f64; 4]],
     counts: &mut [[usize; 4]],
     times: &mut [[f64; 2]],
@@ -124,17 +192,16 @@ pub extern "C" fn slew_mosaic(
     cursor: &mut [usize; 5],
     sums: &mut [f64; 9],
 ) -> usize
-    ensures { λ r. ⌜ r ≡ Cursors.number (Cursors.whole (now (c .entry)) (now (v .entry)) (now (b .entry)) limited (now (tiles .entry)) (length (now (counts .entry))) (length (now (times .entry))) (length (now (decisions .entry))) (length (now (nodes .entry))) (length (now (ws .entry))) .cursor) ⌝ }
-    ensures { λ _. ⌜ now (cursor .exit) ≡ Cursors.counts (Cursors.whole (now (c .entry)) (now (v .entry)) (now (b .entry)) limited (now (tiles .entry)) (length (now (counts .entry))) (length (now (times .entry))) (length (now (decisions .entry))) (length (now (nodes .entry))) (length (now (ws .entry))) .cursor) ⌝ }
-    ensures { λ _. ⌜ now (sums .exit) ≡ Cursors.sums (Cursors.whole (now (c .entry)) (now (v .entry)) (now (b .entry)) limited (now (tiles .entry)) (length (now (counts .entry))) (length (now (times .entry))) (length (now (decisions .entry))) (length (now (nodes .entry))) (length (now (ws .entry))) .cursor) ⌝ }
-    ensures { λ _. ⌜ now (counts .exit) ≡ Layout.over Layout.counts (Cursors.whole (now (c .entry)) (now (v .entry)) (now (b .entry)) limited (now (tiles .entry)) (length (now (counts .entry))) (length (now (times .entry))) (length (now (decisions .entry))) (length (now (nodes .entry))) (length (now (ws .entry))) .legs) (now (counts .entry)) ⌝ }
-    ensures { λ _. ⌜ now (times .exit) ≡ Layout.over Layout.times (Cursors.whole (now (c .entry)) (now (v .entry)) (now (b .entry)) limited (now (tiles .entry)) (length (now (counts .entry))) (length (now (times .entry))) (length (now (decisions .entry))) (length (now (nodes .entry))) (length (now (ws .entry))) .legs) (now (times .entry)) ⌝ }
-    ensures { λ _. ⌜ now (decisions .exit) ≡ Layout.over Layout.decision (Cursors.whole (now (c .entry)) (now (v .entry)) (now (b .entry)) limited (now (tiles .entry)) (length (now (counts .entry))) (length (now (times .entry))) (length (now (decisions .entry))) (length (now (nodes .entry))) (length (now (ws .entry))) .legs) (now (decisions .entry)) ⌝ }
-    ensures { λ _. ⌜ now (nodes .exit) ≡ Layout.over Layout.nodes (Cursors.whole (now (c .entry)) (now (v .entry)) (now (b .entry)) limited (now (tiles .entry)) (length (now (counts .entry))) (length (now (times .entry))) (length (now (decisions .entry))) (length (now (nodes .entry))) (length (now (ws .entry))) .legs) (now (nodes .entry)) ⌝ }
-    ensures { λ _. ⌜ now (ws .exit) ≡ Cursors.leaves (Cursors.whole (now (c .entry)) (now (v .entry)) (now (b .entry)) limited (now (tiles .entry)) (length (now (counts .entry))) (length (now (times .entry))) (length (now (decisions .entry))) (length (now (nodes .entry))) (length (now (ws .entry))) .cursor) (now (ws .entry)) ⌝ }
+    ensures { λ r. ⌜ r ≡ Cursors.number (Cursors.whole way (now (c .entry)) (now (v .entry)) (now (b .entry)) limited (now (tiles .entry)) (length (now (counts .entry))) (length (now (times .entry))) (length (now (decisions .entry))) (length (now (nodes .entry))) (length (now (ws .entry))) .cursor) ⌝ }
+    ensures { λ _. ⌜ now (cursor .exit) ≡ Cursors.counts (Cursors.whole way (now (c .entry)) (now (v .entry)) (now (b .entry)) limited (now (tiles .entry)) (length (now (counts .entry))) (length (now (times .entry))) (length (now (decisions .entry))) (length (now (nodes .entry))) (length (now (ws .entry))) .cursor) ⌝ }
+    ensures { λ _. ⌜ now (sums .exit) ≡ Cursors.sums (Cursors.whole way (now (c .entry)) (now (v .entry)) (now (b .entry)) limited (now (tiles .entry)) (length (now (counts .entry))) (length (now (times .entry))) (length (now (decisions .entry))) (length (now (nodes .entry))) (length (now (ws .entry))) .cursor) ⌝ }
+    ensures { λ _. ⌜ now (counts .exit) ≡ Layout.over Layout.counts (Cursors.whole way (now (c .entry)) (now (v .entry)) (now (b .entry)) limited (now (tiles .entry)) (length (now (counts .entry))) (length (now (times .entry))) (length (now (decisions .entry))) (length (now (nodes .entry))) (length (now (ws .entry))) .legs) (now (counts .entry)) ⌝ }
+    ensures { λ _. ⌜ now (times .exit) ≡ Layout.over Layout.times (Cursors.whole way (now (c .entry)) (now (v .entry)) (now (b .entry)) limited (now (tiles .entry)) (length (now (counts .entry))) (length (now (times .entry))) (length (now (decisions .entry))) (length (now (nodes .entry))) (length (now (ws .entry))) .legs) (now (times .entry)) ⌝ }
+    ensures { λ _. ⌜ now (decisions .exit) ≡ Layout.over Layout.decision (Cursors.whole way (now (c .entry)) (now (v .entry)) (now (b .entry)) limited (now (tiles .entry)) (length (now (counts .entry))) (length (now (times .entry))) (length (now (decisions .entry))) (length (now (nodes .entry))) (length (now (ws .entry))) .legs) (now (decisions .entry)) ⌝ }
+    ensures { λ _. ⌜ now (nodes .exit) ≡ Layout.over Layout.nodes (Cursors.whole way (now (c .entry)) (now (v .entry)) (now (b .entry)) limited (now (tiles .entry)) (length (now (counts .entry))) (length (now (times .entry))) (length (now (decisions .entry))) (length (now (nodes .entry))) (length (now (ws .entry))) .legs) (now (nodes .entry)) ⌝ }
+    ensures { λ _. ⌜ now (ws .exit) ≡ Cursors.leaves (Cursors.whole way (now (c .entry)) (now (v .entry)) (now (b .entry)) limited (now (tiles .entry)) (length (now (counts .entry))) (length (now (times .entry))) (length (now (decisions .entry))) (length (now (nodes .entry))) (length (now (ws .entry))) .cursor) (now (ws .entry)) ⌝ }
 {
     let p = problem_of(c, v, b, limited);
-    let m = p.momenta;
-    let made = plan_mosaic(p, m, tiles, counts, times, decisions, nodes, ws);
+    let made = fill(p, way, tiles, counts, times, decisions, nodes, ws);
     put_cursor(made, cursor, sums)
 }

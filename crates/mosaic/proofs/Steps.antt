@@ -11,19 +11,17 @@ use lib.Ieee.{Float}
 use Rattle.common.specs.declared.Fate.{Fate}
 use Rattle.common.specs.declared.Fate.the-variants.{Going, Refused}
 use Rattle.geom.specs.declared.Quat.{Quat}
-use Rattle.problem.specs.Problems.{check}
 use Rattle.problem.specs.declared.Problem.{Problem}
-use Rattle.forward.specs.StepLaws.{refused-going}
 use Rattle.planner.specs.Plans as Plans
 use Rattle.planner.specs.PlanLaws.{leaves-none}
-use Rattle.planner.specs.Promises.{ownSeed}
-use Rattle.planner.specs.Promises as Promises
 use Rattle.planner.specs.declared.Planned.{Planned}
-use Rattle.mosaic.specs.Few.{answered-few}
-use Rattle.mosaic.specs.Mosaics.{Planner, legProblem, halted, moved, isFull, opened, plannedBy, nextBy, countFate}
+use Rattle.mosaic.specs.Mosaics.{Planner, fullRuns, legProblem, halted, moved, isFull, opened, plannedBy, nextBy, countFate}
 use Rattle.mosaic.specs.Turns.{Open, Turned, Advances}
+use Rattle.mosaic.specs.WayLaws.{refused-answers}
+use Rattle.mosaic.specs.Ways.{plannerBy, AnswersBy}
 use Rattle.mosaic.specs.declared.Advanced.{Advanced}
 use Rattle.mosaic.specs.declared.Cursor.{Cursor}
+use Rattle.mosaic.specs.declared.ways.Way.{Way}
 
 -- ---- 23
 pub count-few : (n : ℕ) → n < 2 → Refused 23 0 ≡ countFate n
@@ -39,7 +37,7 @@ count-fits n h k = rw (le-ltb n 2 h, le-ltb 64 n k) refl
 pub full-index : (c : Cursor) → 62 < c .index → true ≡ isFull c
 full-index c h = rw (lt-ltb 62 (c .index) h) refl
 
-pub full-runs : (c : Cursor) → c .index ≤ 62 → ltb 1000000 (c .runs) ≡ isFull c
+pub full-runs : (c : Cursor) → c .index ≤ 62 → ltb fullRuns (c .runs) ≡ isFull c
 full-runs c h = rw (le-ltb 62 (c .index) h) refl
 
 neither : (a b : Bool) → a || b ≡ false → (a ≡ false) × (b ≡ false)
@@ -48,27 +46,20 @@ neither false b e = (refl, e)
 
 pub open-of : (c : Cursor) {b : Bool} → b ≡ isFull c → b ≡ false → Open c
 open-of c e f =
-    let g = neither (ltb 62 (c .index)) (ltb 1000000 (c .runs)) (sym e ∙ f) in
+    let g = neither (ltb 62 (c .index)) (ltb fullRuns (c .runs)) (sym e ∙ f) in
     record { index = ltb-false _ _ (g .0); runs = ltb-false _ _ (g .1) }
 
--- ---- a refusal that no run led to
-refused-answers : (p : Problem) (seed : List Float) (n k : ℕ) → Promises.Answers p seed (Plans.refused n k 0)
-refused-answers p seed n k = record {
-  given = λ path e. let z : _≡_ {A = ℕ} 0 1 = cc in absurd (omega arith);
-  refused = λ a b c e. let x : n ≡ a = cc in let y : k ≡ b = cc in let z : _≡_ {A = ℕ} 0 c = cc in rw (← x, ← y, ← z) refl;
-}
-
 -- ---- a turn
-module _ {p : Problem} {c : Cursor} {from to : Quat} {ws : List Float} where
+module _ {way : Way} {p : Problem} {c : Cursor} {from to : Quat} {ws : List Float} where
   -- the next leg was planned
-  pub turned : {q : Problem} {r : Planned} {d : Cursor} {exit : List Float} → q ≡ legProblem p from to (c .momenta) → r ≡ Plans.plan q (length ws) → exit ≡ Plans.leaves (r .runs) ws
-      → Promises.Answers q (ownSeed (check q .problem)) r → d ≡ moved c r → Turned (Plans.plan (legProblem p from to (c .momenta)) (length ws)) p c from to ws (record { cursor = d; planned = r }) exit
+  pub turned : {q : Problem} {r : Planned} {d : Cursor} {exit : List Float} → q ≡ legProblem p from to (c .momenta) → r ≡ plannerBy way (length ws) q → exit ≡ Plans.leaves (r .runs) ws
+      → AnswersBy way (length ws) q r → d ≡ moved c r → Turned (plannerBy way (length ws) (legProblem p from to (c .momenta))) way p c from to ws (record { cursor = d; planned = r }) exit
   turned {q} {r} e f g a h =
-      let s : r ≡ Plans.plan (legProblem p from to (c .momenta)) (length ws) = rw e at f in
-      record { planned = s; cursor = h ∙ ap (moved c) s; left = g; answers = rw e at a; few = λ t. answered-few a t }
+      let s : r ≡ plannerBy way (length ws) (legProblem p from to (c .momenta)) = rw e at f in
+      record { planned = s; cursor = h ∙ ap (moved c) s; left = g; answers = rw e at a }
 
   -- there is none
-  pub turned-full : (plan : Planner) {b : Bool} {r : Planned} {d : Cursor} → b ≡ isFull c → b ≡ true → d ≡ halted c 23 0 0 → r ≡ Plans.refused 23 0 0 → Turned (opened plan p c from to) p c from to ws (record { cursor = d; planned = r }) ws
+  pub turned-full : (plan : Planner) {b : Bool} {r : Planned} {d : Cursor} → b ≡ isFull c → b ≡ true → d ≡ halted c 23 0 0 → r ≡ Plans.refused 23 0 0 → Turned (opened plan p c from to) way p c from to ws (record { cursor = d; planned = r }) ws
   unfolding opened moved
   turned-full plan e f g h =
       let t : isFull c ≡ true = sym e ∙ f in
@@ -76,29 +67,28 @@ module _ {p : Problem} {c : Cursor} {from to : Quat} {ws : List Float} where
         planned = rw t h;
         cursor = rw t g;
         left = rw h (leaves-none ws);
-        answers = rw h (refused-answers (legProblem p from to (c .momenta)) (ownSeed (check (legProblem p from to (c .momenta)) .problem)) 23 0);
-        few = λ z. absurd (refused-going (rw h at z));
+        answers = rw h (refused-answers way (length ws) (legProblem p from to (c .momenta)) 23 0);
       }
 
   -- there is one
-  pub turned-open : (plan : Planner) {b : Bool} {r : Advanced} {exit : List Float} → b ≡ isFull c → b ≡ false → Turned (plan (legProblem p from to (c .momenta))) p c from to ws r exit → Turned (opened plan p c from to) p c from to ws r exit
+  pub turned-open : (plan : Planner) {b : Bool} {r : Advanced} {exit : List Float} → b ≡ isFull c → b ≡ false → Turned (plan (legProblem p from to (c .momenta))) way p c from to ws r exit → Turned (opened plan p c from to) way p c from to ws r exit
   unfolding opened
   turned-open plan e f t = let g : isFull c ≡ false = sym e ∙ f in rw g t
 
   -- `next`, where the mosaic goes on
-  pub advances : (plan : Planner) {r : Advanced} {exit : List Float} → c .fate ≡ Going → Turned (opened plan p c from to) p c from to ws r exit → Advances plan p c from to ws r exit
-  advances plan e t = record {
-    cursor = t .cursor ∙ sym (ap (λ (f : Fate). nextBy f c (plannedBy f plan p c from to)) e);
-    planned = t .planned ∙ sym (ap (λ (f : Fate). plannedBy f plan p c from to) e);
+  pub advances : {r : Advanced} {exit : List Float} → c .fate ≡ Going → Turned (opened (plannerBy way (length ws)) p c from to) way p c from to ws r exit → Advances way p c from to ws r exit
+  advances e t = record {
+    cursor = t .cursor ∙ sym (ap (λ (f : Fate). nextBy f c (plannedBy f (plannerBy way (length ws)) p c from to)) e);
+    planned = t .planned ∙ sym (ap (λ (f : Fate). plannedBy f (plannerBy way (length ws)) p c from to) e);
     left = t .left;
     answers = t .answers;
   }
 
   -- and where it has ended
-  pub advances-not : {plan : Planner} {r : Planned} {n k : ℕ} → c .fate ≡ Refused n k → r ≡ Plans.refused n k 0 → Advances plan p c from to ws (record { cursor = c; planned = r }) ws
-  advances-not {plan} {r} {n} {k} e h = record {
+  pub advances-not : {r : Planned} {n k : ℕ} → c .fate ≡ Refused n k → r ≡ Plans.refused n k 0 → Advances way p c from to ws (record { cursor = c; planned = r }) ws
+  advances-not {r} {n} {k} e h = record {
     cursor = rw e refl;
     planned = rw e h;
     left = rw h (leaves-none ws);
-    answers = rw h (refused-answers (legProblem p from to (c .momenta)) (ownSeed (check (legProblem p from to (c .momenta)) .problem)) n k);
+    answers = rw h (refused-answers way (length ws) (legProblem p from to (c .momenta)) n k);
   }

@@ -1,4 +1,5 @@
--- A whole mosaic. Mosaics: what it is, over any planner of one slew. Turns: what the code's turns ask for and answer. Few: laws of an answered leg.
+-- A whole mosaic. Mosaics: what it is, over any planner of one slew. Ways: our planners. Turns: what the code's turns ask for and answer. WayLaws: laws of our planners.
 pub mod Mosaics
+pub mod Ways
 pub mod Turns
-pub mod Few
+pub mod WayLaws

@@ -20,7 +20,7 @@ use Rattle.planner.specs.declared.Planned.{Planned}
 use Rattle.wheel_momenta.specs.Successive.{lastMomenta, withMomenta}
 use Rattle.mosaic.specs.declared.Cursor.{Cursor}
 
--- any planner of one slew: what it answers for a problem. `Plans.plan` on a workspace of a given size is one.
+-- any planner of one slew: what it answers for a problem. `Ways.plannerBy` has ours, on a workspace of a given size.
 abbrev pub Planner : Type 0
 Planner = Problem → Planned
 
@@ -83,9 +83,17 @@ moved c leg = movedBy (leg .fate) c leg
 
 -- ---- ONE LEG: a turn of a cursor that a caller holds
 
--- No further leg: a 64th would need a 65th attitude. (No cursor that 63 legs lead to has a million runs: such a one is forged, and its refusal is free.)
+-- the most runs of one leg, by either way: 29 tries of 7,802 (`WayLaws.runs-most`)
+abbrev pub mostRuns : ℕ
+mostRuns = 226258
+
+-- more than 63 legs can have
+abbrev pub fullRuns : ℕ
+fullRuns = 15000000
+
+-- No further leg: a 64th would need a 65th attitude. (No cursor that 63 legs lead to has so many runs: such a one is forged, and its refusal is free.)
 abbrev pub isFull : Cursor → Bool
-isFull c = ltb 62 (c .index) || ltb 1000000 (c .runs)
+isFull c = ltb 62 (c .index) || ltb fullRuns (c .runs)
 
 -- what is answered for the leg where the mosaic goes on: 23, or the planner's answer
 unfoldable pub opened : Planner → Problem → Cursor → Quat → Quat → Planned

@@ -1,20 +1,24 @@
 // A whole mosaic: 2 to 64 attitudes, a leg from each to the next, every leg a slew from rest to rest whose wheels start with the momenta that the leg before it
-// ended with. A cursor by value plans one leg a turn. It sees the planner only by its contracts.
+// ended with, planned by the search or about one axis as the caller says. A cursor by value plans one leg a turn.
 ghost use mathlib.Core.Path.{_≡_};
 ghost use Prim.Native.Nat.{_≤_};
 ghost use lib.ListN.{length};
-ghost use Rattle.planner.specs.Plans as Plans;
 ghost use Rattle.mosaic.specs.Mosaics as Mosaics;
 ghost use Rattle.mosaic.specs.Turns as Turns;
+ghost use Rattle.mosaic.specs.Ways as Ways;
 use common::Fate;
 use geom::Quat;
 use planner::Planned;
-use planner::plan;
 use planner::refused;
 use problem::Momenta;
 use problem::Problem;
 use wheel_momenta::last_momenta;
 use wheel_momenta::with_momenta;
+
+pub mod ways;
+
+use ways::Way;
+use ways::plan_by;
 
 // How a mosaic stands: the legs answered so far, which is also the index of the leg that comes next or that was refused; the momenta that the next leg starts
 // with; the durations and the runs of the answered legs, summed in order; how it goes on; and the runs of the refused leg, 0 while none is.
@@ -87,7 +91,7 @@ pub fn halted(c: Cursor, number: usize, place: usize, runs: usize) -> Cursor
 
 // A leg was answered: it is added to the sums, and the next one starts with its last momenta.
 fn took(c: Cursor, leg: Planned) -> Cursor
-    requires { ⌜ (Turns.Open c) × (leg .runs ≤ 7802) ⌝ }
+    requires { ⌜ (Turns.Open c) × (leg .runs ≤ Mosaics.mostRuns) ⌝ }
     ensures { λ r. ⌜ r ≡ Mosaics.took c leg ⌝ }
 {
     let path = leg.path;
@@ -103,7 +107,7 @@ fn took(c: Cursor, leg: Planned) -> Cursor
 
 // The cursor after the planner's answer for the next leg.
 fn moved(c: Cursor, leg: Planned) -> Cursor
-    requires { ⌜ (Turns.Open c) × (Turns.Few leg) ⌝ }
+    requires { ⌜ (Turns.Open c) × (leg .runs ≤ Mosaics.mostRuns) ⌝ }
     ensures { λ r. ⌜ r ≡ Mosaics.moved c leg ⌝ }
 {
     let fate = leg.fate;
@@ -114,12 +118,12 @@ fn moved(c: Cursor, leg: Planned) -> Cursor
 }
 
 // The plan of the next leg of a mosaic that goes on, and the cursor after it.
-fn advance(p: Problem, c: Cursor, from: Quat, to: Quat, ws: &mut [f64]) -> Advanced
+fn advance(p: Problem, way: Way, c: Cursor, from: Quat, to: Quat, ws: &mut [f64]) -> Advanced
     requires { ⌜ Turns.Open c ⌝ }
-    ensures { λ r. ⌜ Turns.Turned (Plans.plan (Mosaics.legProblem p from to (c .momenta)) (length (now (ws .entry)))) p c from to (now (ws .entry)) r (now (ws .exit)) ⌝ }
+    ensures { λ r. ⌜ Turns.Turned (Ways.plannerBy way (length (now (ws .entry))) (Mosaics.legProblem p from to (c .momenta))) way p c from to (now (ws .entry)) r (now (ws .exit)) ⌝ }
 {
     let m = c.momenta;
-    let planned = plan(leg_problem(p, from, to, m), ws);
+    let planned = plan_by(leg_problem(p, from, to, m), way, ws);
     Advanced {
         cursor: moved(c, planned),
         planned: planned,
@@ -133,12 +137,12 @@ fn is_full(c: Cursor) -> bool
     if c.index > 62 {
         return true;
     }
-    c.runs > 1000000
+    c.runs > 15_000_000
 }
 
 // The next leg of a mosaic that goes on, where it has one.
-fn advance_open(p: Problem, c: Cursor, from: Quat, to: Quat, ws: &mut [f64]) -> Advanced
-    ensures { λ r. ⌜ Turns.Turned (Mosaics.opened (λ q. Plans.plan q (length (now (ws .entry)))) p c from to) p c from to (now (ws .entry)) r (now (ws .exit)) ⌝ }
+fn advance_open(p: Problem, way: Way, c: Cursor, from: Quat, to: Quat, ws: &mut [f64]) -> Advanced
+    ensures { λ r. ⌜ Turns.Turned (Mosaics.opened (Ways.plannerBy way (length (now (ws .entry)))) p c from to) way p c from to (now (ws .entry)) r (now (ws .exit)) ⌝ }
 {
     if is_full(c) {
         return Advanced {
@@ -146,12 +150,12 @@ fn advance_open(p: Problem, c: Cursor, from: Quat, to: Quat, ws: &mut [f64]) -> 
             planned: refused(23, 0, 0),
         };
     }
-    advance(p, c, from, to, ws)
+    advance(p, way, c, from, to, ws)
 }
 
-// One turn: plans the leg from one attitude to another. After a refusal the cursor stays as it is, and nothing is planned.
-pub fn next(p: Problem, c: Cursor, from: Quat, to: Quat, ws: &mut [f64]) -> Advanced
-    ensures { λ r. ⌜ Turns.Advances (λ q. Plans.plan q (length (now (ws .entry)))) p c from to (now (ws .entry)) r (now (ws .exit)) ⌝ }
+// One turn: plans the leg from one attitude to another by a way. After a refusal the cursor stays as it is, and nothing is planned.
+pub fn next(p: Problem, way: Way, c: Cursor, from: Quat, to: Quat, ws: &mut [f64]) -> Advanced
+    ensures { λ r. ⌜ Turns.Advances way p c from to (now (ws .entry)) r (now (ws .exit)) ⌝ }
 {
     let fate = c.fate;
     match fate {
@@ -159,6 +163,6 @@ pub fn next(p: Problem, c: Cursor, from: Quat, to: Quat, ws: &mut [f64]) -> Adva
             cursor: c,
             planned: refused(number, place, 0),
         },
-        Fate::Going => advance_open(p, c, from, to, ws),
+        Fate::Going => advance_open(p, way, c, from, to, ws),
     }
 }

@@ -4,12 +4,12 @@ use native.Mathlib.Omega.{arith}
 use mathlib.Core.Path.{_≡_, refl}
 use mathlib.Core.Bool.{true}
 use mathlib.Core.List.{List, []}
+use lib.ListN.{length}
 use lib.Ieee.{Float}
 use Rattle.common.specs.Iter.{iter-none, iter-next, iter-stays}
 use Rattle.common.specs.declared.Fate.{Fate}
 use Rattle.common.specs.declared.Fate.the-variants.{Going, Refused}
 use Rattle.geom.specs.declared.Quat.{Quat}
-use Rattle.planner.specs.Plans as Plans
 use Rattle.text_writer.specs.Puts.{Puts}
 use Rattle.text_writer.specs.Texts as Texts
 use Rattle.plan_text.specs.PlanTexts.{Prints}
@@ -17,7 +17,9 @@ use Rattle.plan_text.specs.declared.Told.{Told}
 use Rattle.mosaic.specs.Mosaics as Mosaics
 use Rattle.mosaic.specs.Mosaics.{Planner}
 use Rattle.mosaic.specs.Turns.{Advances}
+use Rattle.mosaic.specs.Ways.{plannerBy}
 use Rattle.mosaic.specs.declared.Cursor.{Cursor}
+use Rattle.mosaic.specs.declared.ways.Way.{Way}
 use Rattle.mosaic.specs.declared.Advanced.{Advanced}
 use Rattle.mosaic_text.specs.TileLines.{tileAt}
 use Rattle.mosaic_text.specs.declared.ReadMosaic.{ReadMosaic}
@@ -25,15 +27,15 @@ use Rattle.mosaic_answer.specs.LegLines.{heading}
 use Rattle.mosaic_answer.specs.MosaicAnswers.{counted, after, legText, sentenceBy, cursorAt, isRefused, legBy, legAt, legsText, answer, slewMosaic, Writes}
 
 -- a leg that was planned, and its three texts
-module _ (plan : Planner) (m : ReadMosaic) (c : Cursor) where
+module _ (way : Way) (m : ReadMosaic) (c : Cursor) where
   pub leg-written : {from to : Quat} {a : Advanced} {t : Told} {ws ws′ : List Float} {headed out said headed′ out′ said′ : List ℕ} {i j : ℕ}
       → from ≡ tileAt (m .tiles) (c .index)
       → to ≡ tileAt (m .tiles) (c .index + 1)
-      → Advances plan (m .problem) c from to ws a ws′
+      → Advances way (m .problem) c from to ws a ws′
       → Puts headed 0 (heading (c .index)) 27 headed′ i
       → Prints (a .planned) out t out′
       → Puts said 0 (sentenceBy (t .fate)) 212 said′ j
-      → Writes plan m c ws headed out said (record { cursor = a .cursor; heading = i; bytes = t .bytes; said = j }) ws′ headed′ out′ said′
+      → Writes (plannerBy way (length ws)) m c ws headed out said (record { cursor = a .cursor; heading = i; bytes = t .bytes; said = j }) ws′ headed′ out′ said′
   leg-written {from} {to} {a} {t} e f d h p s =
       let n = rw (e, f) at (d .planned) in
       let g : t .fate ≡ a .planned .fate = rw (p .is) in
@@ -74,11 +76,11 @@ module _ (plan : Planner) (m : ReadMosaic) where
       go Going f = let z : _≡_ {A = ℕ} 0 1 = cc in absurd (omega arith)
 
 -- ---- the whole: a refusal of the text alone, or the legs in turn and the sums
-module _ (text : List ℕ) where
-  pub slew-refused : {n k : ℕ} → counted text .fate ≡ Refused n k → slewMosaic text ≡ Texts.refused n k 0
+module _ (way : Way) (text : List ℕ) where
+  pub slew-refused : {n k : ℕ} → counted text .fate ≡ Refused n k → slewMosaic way text ≡ Texts.refused n k 0
   unfolding answer
   slew-refused e = rw e
 
-  pub slew-legs : counted text .fate ≡ Going → slewMosaic text ≡ legsText (λ p. Plans.plan p 8000) (counted text)
+  pub slew-legs : counted text .fate ≡ Going → slewMosaic way text ≡ legsText (plannerBy way 8000) (counted text)
   unfolding answer
   slew-legs e = rw e

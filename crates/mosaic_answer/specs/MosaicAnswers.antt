@@ -14,7 +14,9 @@ use Rattle.text_writer.specs.Texts as Texts
 use Rattle.plan_text.specs.PlanTexts as PlanTexts
 use Rattle.mosaic.specs.Mosaics as Mosaics
 use Rattle.mosaic.specs.Mosaics.{Planner}
+use Rattle.mosaic.specs.Ways.{plannerBy}
 use Rattle.mosaic.specs.declared.Cursor.{Cursor}
+use Rattle.mosaic.specs.declared.ways.Way.{Way}
 use Rattle.mosaic_text.specs.TileLines.{tileAt}
 use Rattle.mosaic_text.specs.MosaicTexts.{readMosaic}
 use Rattle.mosaic_text.specs.declared.ReadMosaic.{ReadMosaic}
@@ -84,9 +86,9 @@ answerBy Going plan m = legsText plan m
 unfoldable pub answer : Planner → List ℕ → List ℕ
 answer plan text = answerBy (counted text .fate) plan (counted text)
 
--- what program `slew_mosaic` writes to standard output: it lends 8,000 numbers, as `slew` does
-abbrev pub slewMosaic : List ℕ → List ℕ
-slewMosaic text = answer (λ p. Plans.plan p 8000) text
+-- what program `slew_mosaic` writes to standard output, asked to plan by a way: it lends 8,000 numbers, as `slew` does
+abbrev pub slewMosaic : Way → List ℕ → List ℕ
+slewMosaic way text = answer (plannerBy way 8000) text
 
 -- ---- a contract: the next leg is planned and written into lent buffers as far as these reach; the workspace is untouched where no run began, else every number +0
 pub record Writes (plan : Planner) (m : ReadMosaic) (c : Cursor) (ws : List Float) (headed out said : List ℕ) (r : Leg) (ws′ : List Float) (headed′ out′ said′ : List ℕ) : Type 0 where

@@ -2,7 +2,7 @@
 // legs that stand. It is written leg by leg into lent buffers.
 ghost use mathlib.Core.Path.{_≡_};
 ghost use lib.ListN.{length};
-ghost use Rattle.planner.specs.Plans as Plans;
+ghost use Rattle.mosaic.specs.Ways as Ways;
 ghost use Rattle.text_writer.specs.Puts.{Puts};
 ghost use Rattle.mosaic_answer.specs.MosaicAnswers as MosaicAnswers;
 ghost use Rattle.mosaic_answer.specs.MosaicAnswers.{Writes};
@@ -10,6 +10,7 @@ use common::Fate;
 use mosaic::Cursor;
 use mosaic::check_count;
 use mosaic::next;
+use mosaic::ways::Way;
 use mosaic_text::ReadMosaic;
 use mosaic_text::read_mosaic;
 use plan_text::tell;
@@ -65,23 +66,24 @@ fn say_leg(fate: Fate, said: &mut [u8]) -> usize
     }
 }
 
-// Plans the next leg, and writes it.
+// Plans the next leg by a way, and writes it.
 pub fn write_leg(
     m: ReadMosaic,
+    way: Way,
     c: Cursor,
     ws: &mut [f64],
     heading: &mut [u8],
     out: &mut [u8],
     said: &mut [u8],
 ) -> Leg
-    ensures { λ r. ⌜ Writes (λ p. Plans.plan p (length (now (ws .entry)))) m c (now (ws .entry)) (now (heading .entry)) (now (out .entry)) (now (said .entry)) r (now (ws .exit)) (now (heading .exit)) (now (out .exit)) (now (said .exit)) ⌝ }
+    ensures { λ r. ⌜ Writes (Ways.plannerBy way (length (now (ws .entry)))) m c (now (ws .entry)) (now (heading .entry)) (now (out .entry)) (now (said .entry)) r (now (ws .exit)) (now (heading .exit)) (now (out .exit)) (now (said .exit)) ⌝ }
 {
     let k = c.index;
     let tiles = m.tiles;
     let from = tile_at(tiles, k);
     let to = tile_after(tiles, k);
     let p = m.problem;
-    let advanced = next(p, c, from, to, ws);
+    let advanced = next(p, way, c, from, to, ws);
     let headed = write_heading(heading, k);
     let planned = advanced.planned;
     let told = tell(planned, out);

@@ -1,6 +1,7 @@
 -- The planner's two entries: definitions and promises.
 pub mod Plans
 pub mod PlanLaws
+pub mod RunsMost
 pub mod Promises
 pub mod Outcomes
 pub mod HeldKept

@@ -1,12 +1,13 @@
 -- What the stages answer, in the code's steps, and what is left in the workspace. Assumes nothing.
-use Prim.Native.Nat.{ℕ, _<_, _≤_}
-use mathlib.Core.Path.{_≡_, refl, sym, _∙_}
+use Prim.Native.Nat.{ℕ, zero, suc, _+_, _<_, _≤_}
+use mathlib.Core.Path.{_≡_, refl, sym, ap, _∙_}
 use mathlib.Core.Bool.{Bool, true, false, cond, _&&_}
 use mathlib.Core.List.{List}
+use native.Mathlib.Nat.{zero-add, add-zero}
 use native.Mathlib.Omega.{arith}
 use borrow.Author.Tests.{eqb-true, eq-eqb, ne-eqb, lt-ltb, le-ltb}
 use lib.Dec.{eqb}
-use lib.ListN.{length, replicate}
+use lib.ListN.{length, replicate, length-replicate}
 use lib.Ieee.{Float}
 use Rattle.common.specs.declared.Fate.{Fate}
 use Rattle.common.specs.declared.Fate.the-variants.{Going, Refused}
@@ -86,3 +87,16 @@ leaves-begun runs ws h = go (eqb runs 0) refl
     go : (b : Bool) → eqb runs 0 ≡ b → replicate (length ws) plusZero ≡ cond b ws (replicate (length ws) plusZero)
     go true e = let z : runs ≡ 0 = eqb-true runs 0 e in absurd (omega arith)
     go false e = refl
+
+-- it stays as long as it is, and what two calls leave is what their runs together leave
+pub leaves-length : (n : ℕ) (ws : List Float) → length (Plans.leaves n ws) ≡ length ws
+leaves-length zero ws = ap length (sym (leaves-none ws))
+leaves-length (suc n) ws = ap length (sym (leaves-begun (suc n) ws (omega arith))) ∙ length-replicate (length ws) plusZero
+
+pub leaves-twice : (a b : ℕ) (ws : List Float) → Plans.leaves b (Plans.leaves a ws) ≡ Plans.leaves (a + b) ws
+leaves-twice zero b ws = rw (← leaves-none ws, zero-add b) refl
+leaves-twice (suc a) zero ws = rw (add-zero (suc a)) (sym (leaves-none (Plans.leaves (suc a) ws)))
+leaves-twice (suc a) (suc b) ws =
+    sym (leaves-begun (suc b) (Plans.leaves (suc a) ws) (omega arith))
+    ∙ ap (λ (n : ℕ). replicate n plusZero) (leaves-length (suc a) ws)
+    ∙ leaves-begun (suc a + suc b) ws (omega arith)

@@ -5,6 +5,7 @@ ghost use Rattle.programs.specs.Programs as Programs;
 ghost use Rattle.programs.specs.Programs.{AnswersBy};
 use super::plans::Answered;
 use super::plans::say;
+use super::words::asks;
 use eigenaxis_seed::Shape;
 use eigenaxis_text::plan_eigenaxis_text;
 use libc::STDERR_FILENO;
@@ -38,26 +39,13 @@ fn print_plan(shape: Shape) {
     io::write_all(STDERR_FILENO, &said[..sentence]);
 }
 
-// Whether argument number 1 is the word `gentle`. The first of the program's arguments is its own name.
-fn asks_gentle() -> bool {
-    let mut word = [0u8; 64];
-    let length = os::arg(1, &mut word);
-    length == 6
-        && word[0] == b'g'
-        && word[1] == b'e'
-        && word[2] == b'n'
-        && word[3] == b't'
-        && word[4] == b'l'
-        && word[5] == b'e'
-}
-
 pub fn run() {
     let given = os::arg_count();
     if given < 2 {
         print_plan(Shape::Fastest);
         return;
     }
-    if given == 2 && asks_gentle() {
+    if given == 2 && asks(1, b"gentle") {
         print_plan(Shape::Gentle);
         return;
     }

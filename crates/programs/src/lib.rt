@@ -3,3 +3,4 @@ pub mod axis_plans;
 pub mod mosaics;
 pub mod plans;
 pub mod samples;
+pub mod words;

@@ -1,17 +1,22 @@
 // Program `slew_mosaic`: plans the mosaic whose text stands on standard input, leg by leg, and prints each leg when it is planned: a heading, then the path as `slew` prints
 // one. A refused leg is printed in the path's place, with a sentence on standard error, and is the last. Then come the sums of the legs that stand. A text that is refused is
-// answered as `slew` answers one.
+// answered as `slew` answers one. The word `eigenaxis` asks for legs about one axis, and behind it `gentle` for the gentle shape. A program of this language has no exit
+// status: other arguments show by their sentence, and by nothing on standard output.
 ghost use mathlib.Core.Path.{_≡_};
 ghost use Prim.Native.Nat.{_-_, _≤_};
 ghost use lib.ListN.{length};
-ghost use Rattle.planner.specs.Plans as Plans;
+ghost use Rattle.mosaic.specs.Ways as Ways;
 ghost use Rattle.mosaic_answer.specs.MosaicAnswers as MosaicAnswers;
 use crate::samples::show;
+use crate::words::asks;
 use common::Fate;
+use eigenaxis_seed::Shape;
+use libc::STDERR_FILENO;
 use libc::STDIN_FILENO;
 use libc::STDOUT_FILENO;
 use mosaic::Cursor;
 use mosaic::start;
+use mosaic::ways::Way;
 use mosaic_answer::lines::say;
 use mosaic_answer::lines::write_total;
 use mosaic_answer::read_counted;
@@ -36,14 +41,14 @@ fn print_refused(number: usize, place: usize) {
 }
 
 // Plans the next leg in 8,000 numbers, and prints it.
-fn print_leg(m: ReadMosaic, c: Cursor) -> Cursor
-    ensures { λ r. ⌜ r ≡ MosaicAnswers.after (λ p. Plans.plan p 8000) m c ⌝ }
+fn print_leg(m: ReadMosaic, way: Way, c: Cursor) -> Cursor
+    ensures { λ r. ⌜ r ≡ MosaicAnswers.after (Ways.plannerBy way 8000) m c ⌝ }
 {
     let mut ws = [0.0; 8000];
     let mut heading = [0u8; 27];
     let mut out = [0u8; 9970];
     let mut said = [0u8; 212];
-    let leg = write_leg(m, c, &mut ws, &mut heading, &mut out, &mut said);
+    let leg = write_leg(m, way, c, &mut ws, &mut heading, &mut out, &mut said);
     print(&heading, leg.heading);
     show(&out, leg.bytes, &said, leg.said);
     let cursor = leg.cursor;
@@ -68,15 +73,15 @@ fn is_refused(c: Cursor) -> bool
 }
 
 // The legs of a mosaic from tile to tile, and the cursor after them.
-fn print_legs(m: ReadMosaic) -> Cursor
-    ensures { λ r. ⌜ r ≡ MosaicAnswers.cursorAt (λ p. Plans.plan p 8000) m (m .count - 1) ⌝ }
+fn print_legs(m: ReadMosaic, way: Way) -> Cursor
+    ensures { λ r. ⌜ r ≡ MosaicAnswers.cursorAt (Ways.plannerBy way 8000) m (m .count - 1) ⌝ }
 {
     let p = m.problem;
     let momenta = p.momenta;
     let mut c = start(momenta);
     let mut k: usize = 1;
     while k < m.count {
-        c = print_leg(m, c);
+        c = print_leg(m, way, c);
         if is_refused(c) {
             return c;
         }
@@ -85,19 +90,39 @@ fn print_legs(m: ReadMosaic) -> Cursor
     c
 }
 
-// The answer to a mosaic's text.
-pub fn print_mosaic(text: &[u8]) {
+// The answer to a mosaic's text, planned by a way.
+pub fn print_mosaic(text: &[u8], way: Way) {
     let m = read_counted(text);
     let fate = m.fate;
     match fate {
         Fate::Refused(number, place) => print_refused(number, place),
-        Fate::Going => print_total(print_legs(m)),
+        Fate::Going => print_total(print_legs(m, way)),
     }
 }
 
 // A text longer than 16,384 bytes is refused, so one byte more is all that is looked at.
-pub fn run() {
+fn print_input(way: Way) {
     let mut text = [0u8; 16385];
     let length = io::read_full(STDIN_FILENO, &mut text);
-    print_mosaic(&text[..length]);
+    print_mosaic(&text[..length], way);
+}
+
+pub fn run() {
+    let given = os::arg_count();
+    if given < 2 {
+        print_input(Way::Search);
+        return;
+    }
+    if given == 2 && asks(1, b"eigenaxis") {
+        print_input(Way::Eigenaxis(Shape::Fastest));
+        return;
+    }
+    if given == 3 && asks(1, b"eigenaxis") && asks(2, b"gentle") {
+        print_input(Way::Eigenaxis(Shape::Gentle));
+        return;
+    }
+    io::write_all(
+        STDERR_FILENO,
+        b"slew_mosaic takes no argument, or the word eigenaxis to plan each leg about one axis, and behind it gentle for the gentle shape.\n",
+    );
 }

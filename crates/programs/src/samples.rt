@@ -5,6 +5,7 @@ ghost use mathlib.Core.Path.{_≡_};
 ghost use Prim.Native.Nat.{_≤_};
 ghost use lib.ListN.{length};
 ghost use Rattle.sample_text.specs.SampleTexts as SampleTexts;
+use crate::words::asks;
 use board_text::write_numbers;
 use libc::STDERR_FILENO;
 use libc::STDIN_FILENO;
@@ -75,19 +76,7 @@ fn print_samples(board: bool, requested: usize) {
     print_steps(board, c, requested);
 }
 
-// Whether argument number 2 is the word `board`.
-fn asks_board() -> bool {
-    let mut word = [0u8; 64];
-    let length = os::arg(2, &mut word);
-    length == 5
-        && word[0] == b'b'
-        && word[1] == b'o'
-        && word[2] == b'a'
-        && word[3] == b'r'
-        && word[4] == b'd'
-}
-
-// The number of samples asked for. The first of the program's arguments is its own name.
+// The number of samples asked for.
 fn asked(given: usize) -> Requested {
     if given < 2 {
         return Requested::Of(17);
@@ -95,7 +84,7 @@ fn asked(given: usize) -> Requested {
     if given > 3 {
         return Requested::Not;
     }
-    if given == 3 && !asks_board() {
+    if given == 3 && !asks(2, b"board") {
         return Requested::Not;
     }
     let mut word = [0u8; 64];

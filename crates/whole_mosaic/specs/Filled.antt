@@ -3,7 +3,7 @@ use Prim.Native.Nat.{ℕ, _+_, _≤_}
 use mathlib.Core.Path.{_≡_}
 use mathlib.Core.List.{List}
 use mathlib.Core.Option.{some}
-use lib.ListN.{getElem?}
+use lib.ListN.{length, getElem?}
 use lib.Ieee.{Float}
 use Rattle.geom.specs.declared.Quat.{Quat}
 use Rattle.problem.specs.declared.Momenta.{Momenta}
@@ -13,6 +13,7 @@ use Rattle.planner.specs.declared.Planned.{Planned}
 use Rattle.mosaic.specs.Mosaics.{Flight, momentaAt}
 use Rattle.mosaic.specs.Turns.{LegPromised}
 use Rattle.mosaic.specs.declared.Cursor.{Cursor}
+use Rattle.mosaic.specs.declared.ways.Way.{Way}
 use Rattle.whole_mosaic.specs.Layout as Layout
 
 -- there is a tile more than legs, at most 63 legs, and a row for each leg in lists of a, b, c and d rows
@@ -26,11 +27,11 @@ pub record Lends (legs tiles a b c d : ℕ) : Type 0 where
 
 -- WHAT `plan_mosaic` ANSWERS: the flight's cursor; in each lent list a row for each of its legs, in turn, and behind them what stood there; the workspace (untouched
 -- where no leg began a run, else all +0); and demand 3 of every leg
-pub record Filled (f : Flight) (p : Problem) (tile : ℕ → Quat) (m : Momenta) (r : Cursor) (counts counts′ : List (List ℕ)) (times times′ decisions decisions′ : List (List Float)) (nodes nodes′ : List (List (List Float))) (ws ws′ : List Float) : Type 0 where
+pub record Filled (f : Flight) (way : Way) (p : Problem) (tile : ℕ → Quat) (m : Momenta) (r : Cursor) (counts counts′ : List (List ℕ)) (times times′ decisions decisions′ : List (List Float)) (nodes nodes′ : List (List (List Float))) (ws ws′ : List Float) : Type 0 where
   pub cursor : r ≡ f .cursor
   pub counts-as : counts′ ≡ Layout.over Layout.counts (f .legs) counts
   pub times-as : times′ ≡ Layout.over Layout.times (f .legs) times
   pub decisions-as : decisions′ ≡ Layout.over Layout.decision (f .legs) decisions
   pub nodes-as : nodes′ ≡ Layout.over Layout.nodes (f .legs) nodes
   pub left : ws′ ≡ leaves (r .runs + r .«refused_runs») ws
-  pub promised : (i : ℕ) (leg : Planned) → getElem? (f .legs) i ≡ some leg → LegPromised p (tile i) (tile (i + 1)) (momentaAt m (f .legs) i) leg
+  pub promised : (i : ℕ) (leg : Planned) → getElem? (f .legs) i ≡ some leg → LegPromised way (length ws) p (tile i) (tile (i + 1)) (momentaAt m (f .legs) i) leg

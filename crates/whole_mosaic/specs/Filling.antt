@@ -13,17 +13,18 @@ use Rattle.common.specs.declared.Fate.the-variants.{Going, Refused}
 use Rattle.geom.specs.declared.Quat.{Quat}
 use Rattle.problem.specs.declared.Momenta.{Momenta}
 use Rattle.problem.specs.declared.Problem.{Problem}
-use Rattle.planner.specs.PlanLaws.{leaves-none}
+use Rattle.planner.specs.PlanLaws.{leaves-none, leaves-length, leaves-twice}
 use Rattle.planner.specs.Plans.{leaves}
-use Rattle.planner.specs.Plans as Plans
 use Rattle.planner.specs.declared.Planned.{Planned}
-use Rattle.mosaic.specs.Few.{answered-promised, answered-few}
-use Rattle.mosaic.specs.Mosaics.{Planner, Flight, start, took, halted, moved, addedBy, legProblem, legFrom, flown, momentaAt}
+use Rattle.mosaic.specs.Mosaics.{Planner, Flight, mostRuns, fullRuns, start, took, halted, moved, addedBy, legProblem, legFrom, flown, momentaAt}
 use Rattle.mosaic.specs.Turns.{LegPromised, Advances}
+use Rattle.mosaic.specs.WayLaws.{runs-most}
+use Rattle.mosaic.specs.Ways.{plannerBy}
 use Rattle.mosaic.specs.declared.Advanced.{Advanced}
 use Rattle.mosaic.specs.declared.Cursor.{Cursor}
+use Rattle.mosaic.specs.declared.ways.Way.{Way}
 use Rattle.mosaic_laws.specs.Legs.{legal, going-index, flown-next, stays, each-more}
-use Rattle.mosaic_laws.specs.Turns.{leaves-length, leaves-twice, planned-open, next-open}
+use Rattle.mosaic_laws.specs.Turns.{planned-open, next-open}
 use Rattle.whole_mosaic.specs.Filled.{Filled}
 use Rattle.whole_mosaic.specs.Layout as Layout
 use Rattle.whole_mosaic.specs.Layout.{over}
@@ -39,30 +40,30 @@ row-as : {A : Type 0} (f : Planned → A) (legs : List Planned) (k : ℕ) → le
 row-as f legs k n leg out out′ e h = rw (e, ← n) (put-row f legs leg out (omega arith))
 
 -- demand 3 of a leg, by its place
-promised-as : (p : Problem) (tile : ℕ → Quat) (m : Momenta) (legs : List Planned) (k : ℕ) (from to : Quat) (n : Momenta) (leg : Planned) → length legs ≡ k → from ≡ tile k → to ≡ tile (k + 1) → n ≡ momentaAt m legs k
-    → LegPromised p from to n leg → LegPromised p (tile (length legs)) (tile (length legs + 1)) (momentaAt m legs (length legs)) leg
-promised-as p tile m legs k from to n leg e f g h x = rw (e, ← f, ← g, ← h) x
+promised-as : (way : Way) (size : ℕ) (p : Problem) (tile : ℕ → Quat) (m : Momenta) (legs : List Planned) (k : ℕ) (from to : Quat) (n : Momenta) (leg : Planned) → length legs ≡ k → from ≡ tile k → to ≡ tile (k + 1) → n ≡ momentaAt m legs k
+    → LegPromised way size p from to n leg → LegPromised way size p (tile (length legs)) (tile (length legs + 1)) (momentaAt m legs (length legs)) leg
+promised-as way size p tile m legs k from to n leg e f g h x = rw (e, ← f, ← g, ← h) x
 
 -- a mosaic begins with its own momenta
 pub start-own : {c : Cursor} {m : Momenta} → c ≡ start m → c ≡ start (c .momenta)
 start-own e = e ∙ ap start (sym (ap (λ (x : Cursor). x .momenta) e))
 
-module _ (p : Problem) (tile : ℕ → Quat) (m : Momenta) (ws : List Float) where
+module _ (way : Way) (p : Problem) (tile : ℕ → Quat) (m : Momenta) (ws : List Float) where
   abbrev pub plan : Planner
-  plan = λ q. Plans.plan q (length ws)
+  plan = plannerBy way (length ws)
 
   -- k legs are answered
   pub record Filling (k : ℕ) (c : Cursor) (counts counts′ : List (List ℕ)) (times times′ decisions decisions′ : List (List Float)) (nodes nodes′ : List (List (List Float))) (ws′ : List Float) : Type 0 where
     pub legs : List Planned
     pub is : record { cursor = c; legs = legs } ≡ flown plan p tile m k
     pub goes : c .fate ≡ Going
-    pub runs : c .runs ≤ k * 7802
+    pub runs : c .runs ≤ k * mostRuns
     pub counts-as : counts′ ≡ over Layout.counts legs counts
     pub times-as : times′ ≡ over Layout.times legs times
     pub decisions-as : decisions′ ≡ over Layout.decision legs decisions
     pub nodes-as : nodes′ ≡ over Layout.nodes legs nodes
     pub left : ws′ ≡ leaves (c .runs) ws
-    pub promised : (i : ℕ) (leg : Planned) → getElem? legs i ≡ some leg → LegPromised p (tile i) (tile (i + 1)) (momentaAt m legs i) leg
+    pub promised : (i : ℕ) (leg : Planned) → getElem? legs i ≡ some leg → LegPromised way (length ws) p (tile i) (tile (i + 1)) (momentaAt m legs i) leg
 
   pub filling-first : (counts : List (List ℕ)) (times decisions : List (List Float)) (nodes : List (List (List Float))) {c : Cursor} → c ≡ start m → Filling 0 c counts counts times times decisions decisions nodes nodes ws
   unfolding flown iter
@@ -100,7 +101,7 @@ module _ (p : Problem) (tile : ℕ → Quat) (m : Momenta) (ws : List Float) whe
     filling-size = ap length (F .left) ∙ leaves-length (c .runs) ws
 
     -- all legs
-    pub filling-whole : Filled (flown plan p tile m k) p tile m c counts counts′ times times′ decisions decisions′ nodes nodes′ ws ws′
+    pub filling-whole : Filled (flown plan p tile m k) way p tile m c counts counts′ times times′ decisions decisions′ nodes nodes′ ws ws′
     filling-whole = rw (← F .is) (record {
       cursor = refl;
       counts-as = F .counts-as;
@@ -112,24 +113,24 @@ module _ (p : Problem) (tile : ℕ → Quat) (m : Momenta) (ws : List Float) whe
     })
 
     -- the next leg was planned
-    module _ {from to : Quat} {r : Advanced} {exit : List Float} (room : k ≤ 62) (f : from ≡ tile k) (t : to ≡ tile (k + 1)) (a : Advances (λ q. Plans.plan q (length ws′)) p c from to ws′ r exit) where
+    module _ {from to : Quat} {r : Advanced} {exit : List Float} (room : k ≤ 62) (f : from ≡ tile k) (t : to ≡ tile (k + 1)) (a : Advances way p c from to ws′ r exit) where
       abbrev leg : Planned
       leg = legFrom plan p tile k (c .momenta)
 
-      few : c .runs ≤ 1000000
+      few : c .runs ≤ fullRuns
       few = omega (arith, F .runs)
 
       low : c .index ≤ 62
       low = omega (arith, index)
 
-      same : Plans.plan (legProblem p from to (c .momenta)) (length ws′) ≡ leg
+      same : plannerBy way (length ws′) (legProblem p from to (c .momenta)) ≡ leg
       same = rw (f, t, filling-size) refl
 
       planned-is : r .planned ≡ leg
-      planned-is = a .planned ∙ planned-open (λ q. Plans.plan q (length ws′)) p c from to (F .goes) low few ∙ same
+      planned-is = a .planned ∙ planned-open (plannerBy way (length ws′)) p c from to (F .goes) low few ∙ same
 
       cursor-is : r .cursor ≡ moved c leg
-      cursor-is = a .cursor ∙ next-open (λ q. Plans.plan q (length ws′)) p c from to (F .goes) low few ∙ ap (moved c) same
+      cursor-is = a .cursor ∙ next-open (plannerBy way (length ws′)) p c from to (F .goes) low few ∙ ap (moved c) same
 
       more : flown plan p tile m (k + 1) ≡ record { cursor = moved c leg; legs = addedBy (leg .fate) (F .legs) leg }
       more = rw (← F .is) at (flown-next plan p tile m k stands)
@@ -156,13 +157,13 @@ module _ (p : Problem) (tile : ℕ → Quat) (m : Momenta) (ws : List Float) whe
           legs = F .legs ++ r .planned ∷ [];
           is = (λ i. record { cursor = cursor-is i; legs = F .legs ++ planned-is i ∷ [] }) ∙ sym more-as;
           goes = ap (λ (x : Cursor). x .fate) took-as;
-          runs = let b : r .planned .runs ≤ 7802 = answered-few (a .answers) g in let e : r .cursor .runs ≡ c .runs + r .planned .runs = ap (λ (x : Cursor). x .runs) took-as in omega (arith, F .runs);
+          runs = let b : r .planned .runs ≤ mostRuns = rw planned-is (runs-most way (length ws) _) in let e : r .cursor .runs ≡ c .runs + r .planned .runs = ap (λ (x : Cursor). x .runs) took-as in omega (arith, F .runs);
           counts-as = row-as Layout.counts (F .legs) k count (r .planned) counts counts′ (F .counts-as) h1;
           times-as = row-as Layout.times (F .legs) k count (r .planned) times times′ (F .times-as) h2;
           decisions-as = row-as Layout.decision (F .legs) k count (r .planned) decisions decisions′ (F .decisions-as) h3;
           nodes-as = row-as Layout.nodes (F .legs) k count (r .planned) nodes nodes′ (F .nodes-as) h4;
           left = exit-is ∙ ap (λ (n : ℕ). leaves n ws) (sym (ap (λ (x : Cursor). x .runs) took-as));
-          promised = each-more m (λ i n l. LegPromised p (tile i) (tile (i + 1)) n l) (F .legs) (r .planned) (F .promised) (promised-as p tile m (F .legs) k from to (c .momenta) (r .planned) count f t held (answered-promised (a .answers) g));
+          promised = each-more m (λ i n l. LegPromised way (length ws) p (tile i) (tile (i + 1)) n l) (F .legs) (r .planned) (F .promised) (promised-as way (length ws) p tile m (F .legs) k from to (c .momenta) (r .planned) count f t held (rw filling-size at (a .answers .given g)));
         })
 
       -- it was refused, and ends the mosaic of n legs
@@ -180,7 +181,7 @@ module _ (p : Problem) (tile : ℕ → Quat) (m : Momenta) (ws : List Float) whe
         stops : flown plan p tile m (k + 1) .cursor .fate ≡ Refused number place
         stops = ap (λ (x : Flight). x .cursor .fate) last-as ∙ ap (λ (x : Cursor). x .fate) halted-as
 
-        pub filling-cut : Filled (flown plan p tile m n) p tile m (r .cursor) counts counts′ times times′ decisions decisions′ nodes nodes′ ws exit
+        pub filling-cut : Filled (flown plan p tile m n) way p tile m (r .cursor) counts counts′ times times′ decisions decisions′ nodes nodes′ ws exit
         filling-cut = rw (stays plan p tile m (k + 1) n number place (omega arith) stops, last-as) (record {
           cursor = refl;
           counts-as = F .counts-as;
@@ -192,7 +193,7 @@ module _ (p : Problem) (tile : ℕ → Quat) (m : Momenta) (ws : List Float) whe
         })
 
 -- a mosaic from the same momenta
-pub filled-from : (plan : Planner) (p : Problem) (tile : ℕ → Quat) (k : ℕ) {m n : Momenta} → m ≡ n → {r : Cursor} {counts counts′ : List (List ℕ)} {times times′ decisions decisions′ : List (List Float)} {nodes nodes′ : List (List (List Float))} {ws ws′ : List Float}
-    → Filled (flown plan p tile m k) p tile m r counts counts′ times times′ decisions decisions′ nodes nodes′ ws ws′
-    → Filled (flown plan p tile n k) p tile n r counts counts′ times times′ decisions decisions′ nodes nodes′ ws ws′
-filled-from plan p tile k e h = rw e at h
+pub filled-from : (plan : Planner) (way : Way) (p : Problem) (tile : ℕ → Quat) (k : ℕ) {m n : Momenta} → m ≡ n → {r : Cursor} {counts counts′ : List (List ℕ)} {times times′ decisions decisions′ : List (List Float)} {nodes nodes′ : List (List (List Float))} {ws ws′ : List Float}
+    → Filled (flown plan p tile m k) way p tile m r counts counts′ times times′ decisions decisions′ nodes nodes′ ws ws′
+    → Filled (flown plan p tile n k) way p tile n r counts counts′ times times′ decisions decisions′ nodes nodes′ ws ws′
+filled-from plan way p tile k e h = rw e at h

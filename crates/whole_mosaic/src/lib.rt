@@ -1,8 +1,8 @@
 // The whole mosaic into lent lists, a row for each answered leg, over a mosaic's turns.
 ghost use mathlib.Core.Path.{_≡_};
 ghost use lib.ListN.{length};
-ghost use Rattle.planner.specs.Plans as Plans;
 ghost use Rattle.mosaic.specs.Mosaics as Mosaics;
+ghost use Rattle.mosaic.specs.Ways as Ways;
 ghost use Rattle.whole_mosaic.specs.Filled as Filled;
 ghost use Rattle.whole_mosaic.specs.Layout as Layout;
 use common::Fate;
@@ -12,6 +12,7 @@ use mosaic::check_count;
 use mosaic::halted;
 use mosaic::next;
 use mosaic::start;
+use mosaic::ways::Way;
 use planner::Planned;
 use problem::Momenta;
 use problem::Problem;
@@ -48,6 +49,7 @@ fn times_of(leg: Planned) -> [f64; 2]
 // The legs over the tiles 0 to `legs`, up to the first that is refused.
 fn put_legs(
     p: Problem,
+    way: Way,
     m: Momenta,
     tiles: &[[f64; 4]],
     legs: usize,
@@ -58,14 +60,14 @@ fn put_legs(
     ws: &mut [f64],
 ) -> Cursor
     requires { ⌜ Filled.Lends legs (length (now tiles)) (length (now counts)) (length (now times)) (length (now decisions)) (length (now nodes)) ⌝ }
-    ensures { λ r. ⌜ Filled.Filled (Mosaics.flown (λ q. Plans.plan q (length (now (ws .entry)))) p (Mosaics.tileOf (now (tiles .entry))) m legs) p (Mosaics.tileOf (now (tiles .entry))) m r (now (counts .entry)) (now (counts .exit)) (now (times .entry)) (now (times .exit)) (now (decisions .entry)) (now (decisions .exit)) (now (nodes .entry)) (now (nodes .exit)) (now (ws .entry)) (now (ws .exit)) ⌝ }
+    ensures { λ r. ⌜ Filled.Filled (Mosaics.flown (Ways.plannerBy way (length (now (ws .entry)))) p (Mosaics.tileOf (now (tiles .entry))) m legs) way p (Mosaics.tileOf (now (tiles .entry))) m r (now (counts .entry)) (now (counts .exit)) (now (times .entry)) (now (times .exit)) (now (decisions .entry)) (now (decisions .exit)) (now (nodes .entry)) (now (nodes .exit)) (now (ws .entry)) (now (ws .exit)) ⌝ }
 {
     let mut c = start(m);
     let mut k: usize = 0;
     while k < legs {
         let from = quat_of(tiles[k]);
         let to = quat_of(tiles[k + 1]);
-        let made = next(p, c, from, to, ws);
+        let made = next(p, way, c, from, to, ws);
         let moved = made.cursor;
         let leg = made.planned;
         let fate = leg.fate;
@@ -121,10 +123,11 @@ fn check_tiles(tiles: usize, counts: usize, times: usize, decisions: usize, node
     }
 }
 
-// The whole mosaic of 2 to 64 tiles from the momenta m: 23, then 99 where too few rows are lent, then the legs. A refused leg ends it, and the rows of the legs
+// The whole mosaic of 2 to 64 tiles from the momenta m, by a way: 23, then 99 where too few rows are lent, then the legs. A refused leg ends it, and the rows of the legs
 // before it stand. What stands behind the answered legs' rows stays as it was.
 pub fn plan_mosaic(
     p: Problem,
+    way: Way,
     m: Momenta,
     tiles: &[[f64; 4]],
     counts: &mut [[usize; 4]],
@@ -133,7 +136,7 @@ pub fn plan_mosaic(
     nodes: &mut [[[f64; 22]; 17]],
     ws: &mut [f64],
 ) -> Cursor
-    ensures { λ r. ⌜ Filled.Filled (Layout.lent (λ q. Plans.plan q (length (now (ws .entry)))) p (now (tiles .entry)) m (length (now (counts .entry))) (length (now (times .entry))) (length (now (decisions .entry))) (length (now (nodes .entry)))) p (Mosaics.tileOf (now (tiles .entry))) m r (now (counts .entry)) (now (counts .exit)) (now (times .entry)) (now (times .exit)) (now (decisions .entry)) (now (decisions .exit)) (now (nodes .entry)) (now (nodes .exit)) (now (ws .entry)) (now (ws .exit)) ⌝ }
+    ensures { λ r. ⌜ Filled.Filled (Layout.lent (Ways.plannerBy way (length (now (ws .entry)))) p (now (tiles .entry)) m (length (now (counts .entry))) (length (now (times .entry))) (length (now (decisions .entry))) (length (now (nodes .entry)))) way p (Mosaics.tileOf (now (tiles .entry))) m r (now (counts .entry)) (now (counts .exit)) (now (times .entry)) (now (times .exit)) (now (decisions .entry)) (now (decisions .exit)) (now (nodes .entry)) (now (nodes .exit)) (now (ws .entry)) (now (ws .exit)) ⌝ }
 {
     let fate = check_tiles(
         tiles.len(),
@@ -146,6 +149,7 @@ pub fn plan_mosaic(
         Fate::Refused(number, place) => halted(start(m), number, place, 0),
         Fate::Going => put_legs(
             p,
+            way,
             m,
             tiles,
             tiles.len() - 1,

@@ -352,6 +352,7 @@ mod mosaics {
             v: &Numbers,
             b: &[f64; 37],
             limited: bool,
+            way: usize,
             from: &A4,
             to: &A4,
             cursor: &mut [usize; 5],
@@ -370,6 +371,7 @@ mod mosaics {
             v: &Numbers,
             b: &[f64; 37],
             limited: bool,
+            way: usize,
             tiles: *const A4,
             tiles_len: usize,
             counts: *mut [usize; 4],
@@ -388,20 +390,21 @@ mod mosaics {
     }
 }
 
-/// One leg of a mosaic; the workspace is a slice.
+/// One leg of a mosaic by a way; the workspace is a slice.
 #[expect(clippy::too_many_arguments)]
-pub fn slew_mosaic_next(flat: &crate::maps::Flat, b: &[f64; 37], limited: bool, from: &A4, to: &A4, at: &mut Cursor, ws: &mut [f64], o: &mut Planned) -> usize {
+pub fn slew_mosaic_next(flat: &crate::maps::Flat, b: &[f64; 37], limited: bool, way: usize, from: &A4, to: &A4, at: &mut Cursor, ws: &mut [f64], o: &mut Planned) -> usize {
     let (c, v) = (&flat.counts, &flat.numbers);
     let lent = (ws.as_mut_ptr(), ws.len());
     unsafe {
         mosaics::slew_mosaic_next(
-            c, v, b, limited, from, to, &mut at.counts, &mut at.sums, lent.0, lent.1, &mut o.counts, &mut o.duration, &mut o.max_defect, &mut o.z, &mut o.nodes, &mut o.held,
+            c, v, b, limited, way, from, to, &mut at.counts, &mut at.sums, lent.0, lent.1, &mut o.counts, &mut o.duration, &mut o.max_defect, &mut o.z, &mut o.nodes, &mut o.held,
         )
     }
 }
 
-/// A whole mosaic: slices that do not overlap, each with its own length.
-pub fn slew_mosaic(flat: &crate::maps::Flat, b: &[f64; 37], limited: bool, tiles: &[A4], o: &mut Lent, ws: &mut [f64], at: &mut Cursor) -> usize {
+/// A whole mosaic by a way: slices that do not overlap, each with its own length.
+#[expect(clippy::too_many_arguments)]
+pub fn slew_mosaic(flat: &crate::maps::Flat, b: &[f64; 37], limited: bool, way: usize, tiles: &[A4], o: &mut Lent, ws: &mut [f64], at: &mut Cursor) -> usize {
     let (c, v) = (&flat.counts, &flat.numbers);
     unsafe {
         mosaics::slew_mosaic(
@@ -409,6 +412,7 @@ pub fn slew_mosaic(flat: &crate::maps::Flat, b: &[f64; 37], limited: bool, tiles
             v,
             b,
             limited,
+            way,
             tiles.as_ptr(),
             tiles.len(),
             o.counts.as_mut_ptr(),

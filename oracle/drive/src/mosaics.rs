@@ -1,16 +1,24 @@
-//! Whole mosaics: the port's, whole and leg by leg, beside legs chained through the published `solve`; and the port's cut at every inner tile.
+//! Whole mosaics, by the search and by eigenaxis plans: the port's, whole and leg by leg, beside legs chained through the published `solve`, for eigenaxis plans from the seed and ladder written apart;
+//! and the port's cut at every inner tile.
 
+use crate::eigenaxis;
 use crate::ffi::{Cursor, Lent, Planned, slew_mosaic, slew_mosaic_next};
-use crate::plans::{Family, Plan, by_rust, tame};
+use crate::plans::{Family, Found, Plan, by_rust, tame};
 use crate::problems::{about, family, log_uniform, times};
 use crate::random::Random;
 use crate::runs::put_nodes;
 use crate::words::{Entry, Reader, Words};
 
-/// A mosaic: a plan whose attitudes are not read, the tiles, and how many rows are lent.
+/// The number of a way: the search, eigenaxis plans, gentle ones. Another number is none.
+pub const BY_SEARCH: usize = 0;
+pub const BY_EIGENAXIS: usize = 1;
+pub const GENTLY: usize = 2;
+
+/// A mosaic: a plan whose attitudes are not read, the way, the tiles, and how many rows are lent.
 #[derive(Clone)]
 pub struct Mosaic {
     pub plan: Plan,
+    pub way: usize,
     pub tiles: Vec<[f64; 4]>,
     pub rows: usize,
 }
@@ -18,6 +26,7 @@ pub struct Mosaic {
 impl Mosaic {
     fn put(&self, w: &mut Words) {
         self.plan.put(w);
+        w.n(self.way as u64);
         w.n(self.tiles.len() as u64);
         w.n(self.rows as u64);
         self.tiles.iter().for_each(|q| w.all(q));
@@ -25,8 +34,8 @@ impl Mosaic {
 
     fn take(i: &[u64]) -> Self {
         let mut r = Reader(i);
-        let (plan, count, rows) = (Plan::take(&mut r), r.n() as usize, r.n() as usize);
-        Mosaic { plan, tiles: (0..count).map(|_| r.a()).collect(), rows }
+        let (plan, way, count, rows) = (Plan::take(&mut r), r.n() as usize, r.n() as usize, r.n() as usize);
+        Mosaic { plan, way, tiles: (0..count).map(|_| r.a()).collect(), rows }
     }
 }
 
@@ -65,7 +74,7 @@ fn tile(r: &mut Random, last: [f64; 4], axis: [f64; 3], odd: u64) -> [f64; 4] {
     }
 }
 
-/// A mosaic of any kind: 2 to 64 tiles, few of them in three of four; seldom another count, or too few rows.
+/// A mosaic of any kind: 2 to 64 tiles, few of them in three of four; seldom another count, too few rows, or a number that is no way.
 pub fn any(r: &mut Random) -> Mosaic {
     let f = chosen(r);
     let mut plan = tame(r, f);
@@ -89,7 +98,8 @@ pub fn any(r: &mut Random) -> Mosaic {
     let legs = count.saturating_sub(1);
     let rows = if r.one_in(30) { r.below(legs as u64 + 1) as usize } else { legs + r.below(3) as usize };
     plan.body[..8].fill(r.hostile());
-    Mosaic { plan, tiles, rows }
+    let way = if r.one_in(30) { [3, 77, usize::MAX][r.below(3) as usize] } else { r.below(3) as usize };
+    Mosaic { plan, way, tiles, rows }
 }
 
 /// The problem of a leg: its attitudes and the momenta that its wheels start with.
@@ -109,20 +119,27 @@ fn put_end(o: &mut Words, counts: [u64; 5], sums: &[f64]) {
     o.all(sums);
 }
 
-/// 23, 99, then the legs in turn, each by the published `solve`, from the momenta of node 16 of the leg before.
+/// A leg by its way, through the published `solve`.
+fn leg_by_rust(leg: &Plan, way: usize) -> Found {
+    if way == BY_SEARCH { by_rust(leg, false) } else { eigenaxis::by_rust(leg, way == GENTLY) }
+}
+
+/// 99 for no way, 23, 99 for too few rows, then the legs in turn, each from the momenta of node 16 of the leg before.
 fn chained(i: &[u64], o: &mut Words) -> bool {
     let m = Mosaic::take(i);
     let (mut duration, mut runs, mut index) = (0.0, 0, 0);
     let mut momenta = m.plan.body[29..].to_vec();
     let (mut end, mut legs, mut held) = ((0, 0, 0), Words::default(), Words::default());
     let count = m.tiles.len();
-    if !(2..=64).contains(&count) {
+    if m.way > GENTLY {
+        end = (99, 0, 0);
+    } else if !(2..=64).contains(&count) {
         end = (23, 0, 0);
     } else if m.rows < count - 1 {
         end = (99, 0, 0);
     } else {
         for pair in m.tiles.windows(2) {
-            let found = by_rust(&leg_of(&m.plan, pair[0], pair[1], &momenta), false);
+            let found = leg_by_rust(&leg_of(&m.plan, pair[0], pair[1], &momenta), m.way);
             let Some((nodes, decision)) = &found.path else {
                 end = (found.number, found.place, found.tally.runs);
                 break;
@@ -146,7 +163,7 @@ fn chained(i: &[u64], o: &mut Words) -> bool {
     o.n(1);
     o.0.extend(legs.0);
     o.0.extend(held.0);
-    o.met("legs answered", index);
+    o.met(["legs answered by the search", "legs answered by eigenaxis", "legs answered by eigenaxis, gently", "no way"][m.way.min(3)], index.max(u64::from(m.way > GENTLY)));
     o.met("mosaics whole", u64::from(end.0 == 0));
     o.met("refused past the first leg", u64::from(end.0 != 0 && index > 0));
     o.met("of more than 32 tiles", u64::from(count > 32 && count <= 64));
@@ -159,7 +176,7 @@ fn whole(m: &Mosaic) -> (Cursor, Lent, bool) {
     let mut lent = Lent::of(m.rows);
     let mut ws = vec![m.plan.fill; m.plan.lent];
     let mut cursor = Cursor { counts: [77; 5], sums: [7.0; 9] };
-    let number = slew_mosaic(&m.plan.flat, &m.plan.body, m.plan.limited, &m.tiles, &mut lent, &mut ws, &mut cursor);
+    let number = slew_mosaic(&m.plan.flat, &m.plan.body, m.plan.limited, m.way, &m.tiles, &mut lent, &mut ws, &mut cursor);
     let [index, runs, told, _, refused] = cursor.counts;
     let left = if runs + refused == 0 { m.plan.fill.to_bits() } else { 0 };
     let kept = ws.iter().all(|x| x.to_bits() == left) && number == told && lent.untouched_from(index);
@@ -175,7 +192,7 @@ fn one_by_one(m: &Mosaic, rows: &Lent) -> (Cursor, bool, Vec<[usize; 12]>) {
     for (k, pair) in m.tiles.windows(2).enumerate() {
         let mut leg = Planned { counts: [77; 5], duration: 1.0, max_defect: 1.0, z: [1.0; 193], nodes: [[1.0; 22]; 17], held: [77; 12] };
         let ended = cursor.counts[2] != 0;
-        let number = slew_mosaic_next(&m.plan.flat, &m.plan.body, m.plan.limited, &pair[0], &pair[1], &mut cursor, &mut ws, &mut leg);
+        let number = slew_mosaic_next(&m.plan.flat, &m.plan.body, m.plan.limited, m.way, &pair[0], &pair[1], &mut cursor, &mut ws, &mut leg);
         if number == 0 {
             held.push(leg.held);
         }
@@ -184,14 +201,23 @@ fn one_by_one(m: &Mosaic, rows: &Lent) -> (Cursor, bool, Vec<[usize; 12]>) {
     (cursor, same, held)
 }
 
+/// Whether a leg by no way is 99 with 0 runs, and leaves the cursor and the workspace.
+fn stays(m: &Mosaic) -> bool {
+    let start = Cursor { counts: [3, 9, 0, 0, 0], sums: std::array::from_fn(|k| k as f64) };
+    let (mut cursor, mut ws) = (start.clone(), vec![m.plan.fill; m.plan.lent]);
+    let mut leg = Planned { counts: [77; 5], duration: 1.0, max_defect: 1.0, z: [1.0; 193], nodes: [[1.0; 22]; 17], held: [77; 12] };
+    let number = slew_mosaic_next(&m.plan.flat, &m.plan.body, m.plan.limited, m.way, &[1.0, 0.0, 0.0, 0.0], &[0.0, 1.0, 0.0, 0.0], &mut cursor, &mut ws, &mut leg);
+    number == 99 && leg.counts == [0; 5] && cursor.same(&start) && ws.iter().all(|x| x.to_bits() == m.plan.fill.to_bits())
+}
+
 fn by_port(i: &[u64], o: &mut Words) {
     let m = Mosaic::take(i);
     let (cursor, lent, kept) = whole(&m);
     put_end(o, cursor.counts.map(|n| n as u64), &cursor.sums);
     o.n(u64::from(kept));
-    // 23 and 99 are the whole mosaic's own
+    // 23 and 99 are the whole mosaic's own; leg by leg no way is 99 too, and the cursor stays
     let (each, held) = if matches!(cursor.counts[2], 23 | 99) {
-        (true, Vec::new())
+        (m.way <= GENTLY || stays(&m), Vec::new())
     } else {
         let (other, same, held) = one_by_one(&m, &lent);
         (same && other.same(&cursor), held)
@@ -224,11 +250,11 @@ fn cut(m: &Mosaic, c: usize, all: &Cursor, rows: &Lent) -> bool {
     joined.same(all) && left.same(rows, 0, 0, c) && right.same(rows, 0, c, two.counts[0])
 }
 
-/// A mosaic of the right count with rows enough.
+/// A mosaic of the right count with a way and rows enough.
 fn sound(r: &mut Random, w: &mut Words) {
     loop {
         let m = any(r);
-        if (3..=64).contains(&m.tiles.len()) && m.rows + 1 >= m.tiles.len() {
+        if m.way <= GENTLY && (3..=64).contains(&m.tiles.len()) && m.rows + 1 >= m.tiles.len() {
             return m.put(w);
         }
     }

@@ -6,7 +6,7 @@ use Rattle.eigenaxis.proofs.plan_counted.Tie as tie
 returns : tie.Need-returns
 returns c =
     let e = c .before .before .before .plan-eigenaxis .ensures in
-    (rw (c .counted .ensures, e .0), rw (c .counted .ensures) (e .1 .0))
+    (rw (c .counted .ensures, e .0), (rw (c .counted .ensures) (e .1 .0), rw (e .0) at (e .1 .1)))
 
 pub plan-counted-spec : {M : Type 1} → statement M
 plan-counted-spec = tie.close (tie.spec (λ c κs. search needs) (λ c κs. search needs) (λ c. search needs) returns)

@@ -1,5 +1,5 @@
 -- `tried` meets its contract. Assumes nothing.
-use Rattle.eigenaxis.specs.Bounds.{plan-from-most}
+use Rattle.planner.specs.RunsMost.{plan-from-most}
 use borrow.Author.Needs.{needs}
 use Rattle.eigenaxis.proofs.tried.Statement.{statement}
 use Rattle.eigenaxis.proofs.tried.Tie as tie

@@ -18,7 +18,7 @@ returns-3 : tie.Need-returns-3
 returns-3 c =
     let start = c .before .before .before .before .before .before .before .before .before .before .before .before .before .before .before .before .args in
     let made = c .before .before .before .before .before .before .plan-counted .ensures in
-    tells-planned (start .text .now) (λ p. counted (planEigenaxis p (start .shape) (length (start .ws .now)))) (start .ws .now) (c .before .before .before .before .before .before .before .before .before .before .before .read .ensures) (c .before .before .before .before .before .before .before .before .before .before .before .before .if1 .left) (c .before .before .before .before .before .before .before .before .before .enum-told .given .1) (made .0) (made .1) (c .before .before .tell .ensures)
+    tells-planned (start .text .now) (λ p. counted (planEigenaxis p (start .shape) (length (start .ws .now)))) (start .ws .now) (c .before .before .before .before .before .before .before .before .before .before .before .read .ensures) (c .before .before .before .before .before .before .before .before .before .before .before .before .if1 .left) (c .before .before .before .before .before .before .before .before .before .enum-told .given .1) (made .0) (made .1 .0) (c .before .before .tell .ensures)
 
 pub plan-eigenaxis-text-spec : {M : Type 1} → statement M
 plan-eigenaxis-text-spec = tie.close (tie.spec (λ c κs. search needs) returns (λ c κs. search needs) (λ c. search needs) (λ c κs. search needs) (λ c. search needs) (λ c κs. search needs) (λ c κs. search needs) (λ c. search needs) returns-2 (λ c. search needs) (λ c. search needs) returns-3)

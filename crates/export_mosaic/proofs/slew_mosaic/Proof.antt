@@ -8,8 +8,8 @@ use Rattle.export_mosaic.proofs.slew_mosaic.Tie as tie
 returns : tie.Need-returns
 returns c =
     let made = c .before .before .before .before .before .before .before .before .before in
-    let p = made .before .before .before .before .before .before .before in
-    let e = rw (p .problem-of .ensures) at (made .plan-mosaic .ensures) in
+    let p = made .before .before .before .before .before .before in
+    let e = rw (p .problem-of .ensures) at (made .fill .ensures) in
     let o = c .put-cursor .ensures in (
       o .0 ∙ ap Cursors.number (e .cursor),
       (
@@ -24,7 +24,7 @@ returns c =
                 e .decisions-as,
                 (
                   e .nodes-as,
-                  rw (← e .cursor) (e .left),
+                  e .left,
                 ),
               ),
             ),

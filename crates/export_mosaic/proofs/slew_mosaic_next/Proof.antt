@@ -20,13 +20,13 @@ returns c =
     let at = from .before .before in
     let p = at .before .before .before .before in
     let a = p .before .before .args in
-    let e = turn-is (a .c .now) (a .v .now) (a .b .now) (a .limited) (a .from .now) (a .to .now) (a .cursor .now) (a .sums .now) (p .problem-of .ensures) (at .cursor-of .ensures) (from .quat-of .ensures) (to .quat-of2 .ensures) (made .next .ensures) in
+    let e = turn-is (a .way) (a .c .now) (a .v .now) (a .b .now) (a .limited) (a .from .now) (a .to .now) (a .cursor .now) (a .sums .now) _ (p .problem-of .ensures) (at .cursor-of .ensures) (from .quat-of .ensures) (to .quat-of2 .ensures) (made .turn .ensures .0) in
     let o = c .put-planned .ensures in (
       put .put-cursor .ensures .1 .0 ∙ ap (λ (x : Advanced). Cursors.counts (x .cursor)) e,
       (
         put .put-cursor .ensures .1 .1 ∙ ap (λ (x : Advanced). Cursors.sums (x .cursor)) e,
         (
-          made .next .ensures .left ∙ ap (λ (x : Advanced). Plans.leaves (x .planned .runs) (a .ws .now)) e,
+          made .turn .ensures .1 ∙ ap (λ (x : Advanced). Plans.leaves (x .planned .runs) (a .ws .now)) e,
           (
             o .0 ∙ ap (λ (x : Advanced). Outcomes.number (Plans.answer (x .planned))) e,
             (

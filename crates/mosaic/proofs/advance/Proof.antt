@@ -1,5 +1,5 @@
 -- `mosaic::advance` meets its contract. Assumes nothing.
-use Rattle.mosaic.specs.Few.{answered-few}
+use Rattle.mosaic.specs.WayLaws.{runs-most}
 use Rattle.mosaic.proofs.Steps.{turned}
 use borrow.Author.Needs.{needs}
 use Rattle.mosaic.proofs.advance.Statement.{statement}
@@ -9,12 +9,12 @@ moved-requires : tie.Need-moved-requires
 moved-requires c κs =
     let planned = c .before .before in
     let start = planned .before .before .before .before .before in
-    (start .pre, λ g. answered-few (planned .plan .ensures .1 .1) g)
+    (start .pre, rw (planned .plan-by .ensures .0) (runs-most _ _ _))
 
 returns : tie.Need-returns
 returns c =
     let planned = c .before .before .before in
-    turned (planned .before .before .leg-problem .ensures) (planned .plan .ensures .0) (planned .plan .ensures .1 .0) (planned .plan .ensures .1 .1) (c .moved .ensures)
+    turned (planned .before .before .leg-problem .ensures) (planned .plan-by .ensures .0) (planned .plan-by .ensures .1 .0) (planned .plan-by .ensures .1 .1) (c .moved .ensures)
 
 pub advance-spec : {M : Type 1} → statement M
 advance-spec = tie.close (tie.spec (λ c κs. search needs) (λ c κs. search needs) moved-requires (λ c. search needs) returns)

@@ -6,7 +6,7 @@ use Rattle.mosaic.proofs.moved.Statement.{statement}
 use Rattle.mosaic.proofs.moved.Tie as tie
 
 took-requires : tie.Need-took-requires
-took-requires c κs = (c .before .before .pre .0, c .before .before .pre .1 (c .enum-told .given .1))
+took-requires c κs = c .before .before .pre
 
 returns : tie.Need-returns
 unfolding moved

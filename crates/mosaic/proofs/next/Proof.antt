@@ -10,7 +10,7 @@ returns c = advances-not (c .before .before .fate .given .1) (c .refused .ensure
 returns-2 : tie.Need-returns-2
 returns-2 c =
     let advanced = c .before .before in
-    advances _ (advanced .before .before .enum-told .given .1) (advanced .advance-open .ensures)
+    advances (advanced .before .before .enum-told .given .1) (advanced .advance-open .ensures)
 
 pub next-spec : {M : Type 1} → statement M
 next-spec =

@@ -14,13 +14,13 @@ put-legs-requires c κs =
     lends _ _ _ _ _ (told .before .before .check-tiles .ensures) (told .enum-told .given .1)
 
 returns : tie.Need-returns
-returns c = filled-not _ _ _ _ _ _ _ _ _ (c .before .before .before .before .before .check-tiles .ensures) (c .before .before .before .fate .given .1) (c .before .start .ensures) (c .halted .ensures)
+returns c = filled-not _ _ _ _ _ _ _ _ _ _ (c .before .before .before .before .before .check-tiles .ensures) (c .before .before .before .fate .given .1) (c .before .start .ensures) (c .halted .ensures)
 
 returns-2 : tie.Need-returns-2
 returns-2 c =
     let put = c .before .before .before .before .before .before in
     let told = put .before .before .before .before .before .before in
-    filled-all _ _ _ _ _ _ _ _ _ (told .before .before .check-tiles .ensures) (told .enum-told .given .1) (put .put-legs .ensures)
+    filled-all _ _ _ _ _ _ _ _ _ _ (told .before .before .check-tiles .ensures) (told .enum-told .given .1) (put .put-legs .ensures)
 
 pub plan-mosaic-spec : {M : Type 1} → statement M
 plan-mosaic-spec =

@@ -3,8 +3,8 @@
 //! left as promised; a call allocates nothing, and the process does not grow. Each call runs on a painted stack, so that its depth is known. Exit status 1 where one of these fails.
 //! At last the processor's time of legs over that of the same slews as plans, by turns, the middle of fifteen.
 
-use drive::ffi::{Cursor, Planned, slew_mosaic_next, slew_plan_from_numbers, slew_plan_numbers};
-use drive::mosaics::{self, Mosaic, leg_of};
+use drive::ffi::{Cursor, Planned, slew_mosaic_next, slew_plan_eigenaxis_numbers, slew_plan_from_numbers, slew_plan_numbers};
+use drive::mosaics::{self, BY_SEARCH, GENTLY, Mosaic, leg_of};
 use drive::plans::{self, Plan};
 use drive::random::Random;
 use std::alloc::{GlobalAlloc, Layout, System};
@@ -44,6 +44,14 @@ fn plan_into(plan: &Plan, ws: &mut [f64], answer: &mut Answer) {
         None => slew_plan_numbers(&plan.flat, &plan.body, plan.limited, ws, &mut answer.out),
         Some(seed) => slew_plan_from_numbers(&plan.flat, &plan.body, plan.limited, seed, ws, &mut answer.out),
     };
+}
+
+/// The plan of one leg alone, by its way.
+fn alone_into(leg: &Plan, way: usize, ws: &mut [f64], answer: &mut Answer) {
+    if way == BY_SEARCH {
+        return plan_into(leg, ws, answer);
+    }
+    answer.number = slew_plan_eigenaxis_numbers(&leg.flat, &leg.body, leg.limited, way == GENTLY, ws, &mut answer.out);
 }
 
 fn same(a: &Answer, b: &Answer) -> bool {
@@ -178,12 +186,12 @@ fn leg(m: &Mosaic, k: usize, cursor: &mut Cursor, b: &mut Bench, seen: &mut Seen
     let alone = leg_of(&m.plan, m.tiles[k], m.tiles[k + 1], &cursor.sums[1..]);
     b.before.copy_from_slice(&b.lent);
     let (mut answer, mut fresh) = (blank(), blank());
-    let mut call = || answer.number = slew_mosaic_next(&m.plan.flat, &m.plan.body, m.plan.limited, &m.tiles[k], &m.tiles[k + 1], cursor, &mut b.lent[..lent], &mut answer.out);
+    let mut call = || answer.number = slew_mosaic_next(&m.plan.flat, &m.plan.body, m.plan.limited, m.way, &m.tiles[k], &m.tiles[k + 1], cursor, &mut b.lent[..lent], &mut answer.out);
     let mut job = Job { call: Some(&mut call), allocations: 0 };
     let deep = depth(&mut b.stack, &mut job);
     seen.allocations += job.allocations;
     seen.deepest = seen.deepest.max(deep.saturating_sub(b.idle));
-    plan_into(&alone, &mut vec![0.0; lent], &mut fresh);
+    alone_into(&alone, m.way, &mut vec![0.0; lent], &mut fresh);
     seen.plans += 1;
     seen.numbers[answer.number.min(31)] += 1;
     seen.runs += answer.out.counts[1] as u64;
@@ -203,7 +211,7 @@ fn legs(count: u64, random: &mut Random, b: &mut Bench) -> bool {
     let (mut seen, mut sizes, mut drawn) = (Seen::default(), Vec::new(), 0);
     while seen.plans < count {
         let m = mosaics::any(random);
-        if !(2..=64).contains(&m.tiles.len()) {
+        if m.way > GENTLY || !(2..=64).contains(&m.tiles.len()) {
             continue;
         }
         drawn += 1;
@@ -239,7 +247,7 @@ fn ratio(random: &mut Random) {
         let mut cursor = begun(&m);
         let mut ws = vec![0.0; m.plan.lent];
         let mut out = blank();
-        let whole = (2..=64).contains(&m.tiles.len()) && m.tiles.windows(2).all(|t| slew_mosaic_next(&m.plan.flat, &m.plan.body, m.plan.limited, &t[0], &t[1], &mut cursor, &mut ws, &mut out.out) == 0);
+        let whole = m.way <= GENTLY && (2..=64).contains(&m.tiles.len()) && m.tiles.windows(2).all(|t| slew_mosaic_next(&m.plan.flat, &m.plan.body, m.plan.limited, m.way, &t[0], &t[1], &mut cursor, &mut ws, &mut out.out) == 0);
         if whole && m.tiles.len() > 16 && cursor.counts[1] > 20_000 {
             break m;
         }
@@ -251,14 +259,14 @@ fn ratio(random: &mut Random) {
             let mut started = Vec::new();
             for t in m.tiles.windows(2) {
                 started.push(cursor.sums);
-                slew_mosaic_next(&m.plan.flat, &m.plan.body, m.plan.limited, &t[0], &t[1], &mut cursor, &mut ws, &mut out.out);
+                slew_mosaic_next(&m.plan.flat, &m.plan.body, m.plan.limited, m.way, &t[0], &t[1], &mut cursor, &mut ws, &mut out.out);
             }
             let legs = seconds() - at;
             if alone.is_empty() {
                 alone = m.tiles.windows(2).zip(&started).map(|(t, s)| leg_of(&m.plan, t[0], t[1], &s[1..])).collect();
             }
             let at = seconds();
-            alone.iter().for_each(|plan| plan_into(plan, &mut ws, &mut out));
+            alone.iter().for_each(|plan| alone_into(plan, m.way, &mut ws, &mut out));
             legs / (seconds() - at)
         })
         .collect();

@@ -3,17 +3,17 @@ use Prim.Native.Nat.{_+_, _-_, _≤_}
 use native.Mathlib.Omega.{arith}
 use mathlib.Core.Path.{_≡_, sym, _∙_}
 use borrow.Author.Needs.{needs}
-use Rattle.planner.specs.Plans as Plans
+use Rattle.mosaic.specs.Ways.{plannerBy}
 use Rattle.mosaic_answer.specs.MosaicAnswers.{cursorAt}
 use Rattle.mosaic_answer.specs.MosaicAnswerLaws.{cursor-first, cursor-next, cursor-stays}
 use Rattle.programs.proofs.mosaics.print_legs.Statement.{statement}
 use Rattle.programs.proofs.mosaics.print_legs.Tie as tie
 
 abbrev Inv-loop : tie.InvT-loop
-Inv-loop m c₀ k₀ c k = (1 ≤ k) × (k - 1 ≤ m .count - 1) × (c ≡ cursorAt (λ p. Plans.plan p 8000) m (k - 1))
+Inv-loop m way c₀ k₀ c k = (1 ≤ k) × (k - 1 ≤ m .count - 1) × (c ≡ cursorAt (plannerBy way 8000) m (k - 1))
 
 abbrev μ-loop : tie.MeasureT-loop
-μ-loop m c₀ k₀ c k = m .count - k
+μ-loop m way c₀ k₀ c k = m .count - k
 
 loop-holds : tie.Need-loop-holds Inv-loop μ-loop
 loop-holds c = (omega arith, omega arith, c .start .ensures ∙ cursor-first _ _)
