@@ -9,8 +9,13 @@ use Rattle.planner.specs.declared.Planned.{Planned}
 use Rattle.text_writer.specs.Puts.{Puts}
 use Rattle.refusal_text.specs.Sentences as Sentences
 use Rattle.plan_text.specs.PlanTexts as PlanTexts
+use Rattle.sample_text.specs.SampleTexts.{planCourse}
+use Rattle.sample_text.specs.declared.Course.{Course}
 use Rattle.eigenaxis_seed.specs.declared.Shape.{Shape}
+use Rattle.mosaic.specs.declared.ways.Way.{Way}
+use Rattle.mosaic.specs.declared.ways.Way.the-variants.{Search, Eigenaxis}
 use Rattle.eigenaxis_text.specs.EigenaxisTexts as EigenaxisTexts
+use Rattle.eigenaxis_samples.specs.Courses.{eigenaxisCourse}
 use Rattle.programs.specs.declared.plans.Answered.{Answered}
 
 abbrev pub slew : List ℕ → Planned
@@ -19,6 +24,11 @@ slew text = PlanTexts.planned text 8000
 -- what program `slew_eigenaxis` answers: the eigenaxis plan, as many numbers lent
 abbrev pub slewEigenaxis : List ℕ → Shape → Planned
 slewEigenaxis text shape = EigenaxisTexts.planned text shape 8000
+
+-- what program `slew_samples` takes samples of, by the way that its arguments ask for, as many numbers lent
+abbrev pub courseBy : Way → List ℕ → Course
+courseBy Search text = planCourse text 8000
+courseBy (Eigenaxis shape) text = eigenaxisCourse text shape 8000
 
 -- for standard error
 abbrev pub sentence : Fate → List ℕ

@@ -5,9 +5,9 @@ use mathlib.Core.List.{List}
 use lib.Dec.{eqb, ltb}
 use lib.IntN.{pos, _-ℤ_}
 use lib.ListN.{length, getD, drop}
-use Rattle.sample_text.specs.Requests.{requested}
-use Rattle.sample_text.specs.declared.requests.Requested.{Requested}
-use Rattle.sample_text.specs.declared.requests.Requested.the-variants as Requested
+use Rattle.arguments.specs.Requests.{requested}
+use Rattle.arguments.specs.declared.Requested.{Requested}
+use Rattle.arguments.specs.declared.Requested.the-variants as Requested
 use Rattle.region_text.specs.declared.words.Whole.{Whole}
 use Rattle.region_text.specs.declared.words.Whole.the-variants.{Is, Not}
 

@@ -2,8 +2,8 @@
 ghost use mathlib.Core.Path.{_≡_};
 ghost use Prim.Native.Nat.{_≤_};
 ghost use Rattle.region_text.specs.Words as Words;
-use sample_text::requests::Requested;
-use sample_text::requests::read_requested;
+use arguments::Requested;
+use arguments::read_requested;
 
 // What a word says: a number, or it is none.
 pub enum Whole {

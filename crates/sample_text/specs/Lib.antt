@@ -3,4 +3,3 @@ pub mod SampleTexts
 pub mod SampleTextLaws
 pub mod SampleLines
 pub mod SampleLineLaws
-pub mod Requests

@@ -24,7 +24,6 @@ use std::num::nearest_u64_to_f64;
 use text_writer::forms::state_of;
 
 pub mod lines;
-pub mod requests;
 
 // A text's plan: how it ended, the forward runs begun, and what dense samples are taken of and with. A refused plan has no nodes but blank ones.
 pub struct Course {

@@ -3,6 +3,8 @@
 // error. A program of this language has no exit status: bad arguments show by their sentence, and by nothing on standard output.
 ghost use Prim.Native.Nat.{_≤_};
 ghost use lib.ListN.{length};
+use arguments::Requested;
+use arguments::read_requested;
 use libc::STDERR_FILENO;
 use libc::STDOUT_FILENO;
 use region_text::words::Whole;
@@ -10,8 +12,6 @@ use region_text::words::read_whole;
 use region_text::write_region;
 use region_text::write_reply;
 use region_text::write_start;
-use sample_text::requests::Requested;
-use sample_text::requests::read_requested;
 
 // What a word that is no number is read as: no number that is read is so large.
 const NONE: i64 = 9999;

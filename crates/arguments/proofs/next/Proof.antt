@@ -1,8 +1,8 @@
--- `sample_text::requests::next` meets its contract. Assumes nothing.
-use Rattle.sample_text.specs.Requests.{next}
+-- `arguments::next` meets its contract. Assumes nothing.
+use Rattle.arguments.specs.Requests.{next}
 use borrow.Author.Needs.{needs}
-use Rattle.sample_text.proofs.requests.next.Statement.{statement}
-use Rattle.sample_text.proofs.requests.next.Tie as tie
+use Rattle.arguments.proofs.next.Statement.{statement}
+use Rattle.arguments.proofs.next.Tie as tie
 
 returns : tie.Need-returns
 unfolding next

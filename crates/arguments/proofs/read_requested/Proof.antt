@@ -1,15 +1,15 @@
--- `sample_text::requests::read_requested` meets its contract. Assumes nothing.
+-- `arguments::read_requested` meets its contract. Assumes nothing.
 use Prim.Native.Nat.{_-_, _≤_}
 use native.Mathlib.Omega.{arith}
 use mathlib.Core.Path.{_≡_}
 use borrow.Author.Tests.{eq-eqb, ne-eqb}
 use lib.ListN.{length}
 use Rattle.common.specs.Iter.{iter, iter-none, iter-next}
-use Rattle.sample_text.specs.Requests.{turn, requested}
-use Rattle.sample_text.specs.declared.requests.Requested.the-variants.{Of}
+use Rattle.arguments.specs.Requests.{turn, requested}
+use Rattle.arguments.specs.declared.Requested.the-variants.{Of}
 use borrow.Author.Needs.{needs}
-use Rattle.sample_text.proofs.requests.read_requested.Statement.{statement}
-use Rattle.sample_text.proofs.requests.read_requested.Tie as tie
+use Rattle.arguments.proofs.read_requested.Statement.{statement}
+use Rattle.arguments.proofs.read_requested.Tie as tie
 
 abbrev Inv-loop : tie.InvT-loop
 Inv-loop word r₀ k₀ r k = (k ≤ length word) × (r ≡ iter (turn word) (Of 0) k)

@@ -5,8 +5,8 @@ use mathlib.Core.List.{List}
 use lib.Dec.{eqb, ltb}
 use lib.ListN.{length, getD}
 use Rattle.common.specs.Iter.{iter}
-use Rattle.sample_text.specs.declared.requests.Requested.{Requested}
-use Rattle.sample_text.specs.declared.requests.Requested.the-variants.{Of, Not}
+use Rattle.arguments.specs.declared.Requested.{Requested}
+use Rattle.arguments.specs.declared.Requested.the-variants.{Of, Not}
 
 -- One more digit. A number above 10,000 that goes on is above 100,000, for which 100,001 stands: more samples than any path is given.
 unfoldable pub withDigit : ℕ → ℕ → Requested

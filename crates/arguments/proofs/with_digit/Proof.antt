@@ -1,9 +1,9 @@
--- `sample_text::requests::with_digit` meets its contract. Assumes nothing.
+-- `arguments::with_digit` meets its contract. Assumes nothing.
 use borrow.Author.Tests.{lt-ltb, le-ltb}
-use Rattle.sample_text.specs.Requests.{withDigit}
+use Rattle.arguments.specs.Requests.{withDigit}
 use borrow.Author.Needs.{needs}
-use Rattle.sample_text.proofs.requests.with_digit.Statement.{statement}
-use Rattle.sample_text.proofs.requests.with_digit.Tie as tie
+use Rattle.arguments.proofs.with_digit.Statement.{statement}
+use Rattle.arguments.proofs.with_digit.Tie as tie
 
 returns : tie.Need-returns
 unfolding withDigit

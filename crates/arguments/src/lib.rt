@@ -1,6 +1,6 @@
-// A number of samples in decimal digits, as the program's argument has it.
+// What a program's argument says: a number in decimal digits. It stands apart so that a program that plans nothing is not built of the planner.
 ghost use mathlib.Core.Path.{_≡_};
-ghost use Rattle.sample_text.specs.Requests as Requests;
+ghost use Rattle.arguments.specs.Requests as Requests;
 
 // What a word asks for: a number, or it is none.
 pub enum Requested {

@@ -1,0 +1,44 @@
+-- Dense samples of the eigenaxis plan of a problem's text: what they are taken of, and the acceleration that they are asked for with. Definitions only.
+use Prim.Native.Nat.{ℕ, _+_}
+use mathlib.Core.List.{List}
+use lib.Ieee.{Float, binary64, div}
+use Rattle.common.specs.Iter.{iter}
+use Rattle.float.specs.Ops.{max}
+use Rattle.geom.specs.Vec.{plusZero}
+use Rattle.problem.specs.declared.Problem.{Problem}
+use Rattle.forward.specs.Decisions.{sixteen}
+use Rattle.forward.specs.declared.Node.{Node}
+use Rattle.residuals.specs.Sums.{nodeAt, change}
+use Rattle.planner.specs.declared.Planned.{Planned}
+use Rattle.problem_text.specs.Reader.{readProblem}
+use Rattle.sample_text.specs.declared.Course.{Course}
+use Rattle.eigenaxis_seed.specs.declared.Shape.{Shape}
+use Rattle.eigenaxis_text.specs.EigenaxisTexts.{planned}
+
+-- the larger of a and the length of the rate's change from w to w2 over a time dt
+unfoldable pub steeper : List Float → List Float → Float → Float → Float
+steeper w w2 dt a = max a (change w w2 dt)
+
+abbrev pub steepTurn : List Node → Float → ℕ → Float → Float
+steepTurn ns dt k a = steeper (nodeAt ns k .w) (nodeAt ns (k + 1) .w) dt a
+
+-- the largest over the 16 steps of a path
+unfoldable pub steepest : List Node → Float → Float
+steepest ns dt = iter (steepTurn ns dt) plusZero 16
+
+-- What an eigenaxis plan is to its samples. They are asked for with the path's own largest acceleration: the profile knows nothing of actuators, and a half turn
+-- has none.
+unfoldable pub courseOf : Problem → Planned → Course
+courseOf p a = record {
+  fate = a .fate;
+  runs = a .runs;
+  inertia = p .inertia;
+  tolerance = p .«norm_tolerance»;
+  alpha = steepest (a .path .nodes) (div binary64 (a .path .duration) sixteen);
+  duration = a .path .duration;
+  nodes = a .path .nodes;
+}
+
+-- the eigenaxis plan of a text, in a workspace of `size` numbers; 21 comes before every other refusal
+unfoldable pub eigenaxisCourse : List ℕ → Shape → ℕ → Course
+eigenaxisCourse text shape size = courseOf (readProblem text .problem) (planned text shape size)
