@@ -1,4 +1,4 @@
--- What each answer of this crate is in document 01's numbers: the value, or a refusal's number and place with 0 runs. Definitions only.
+-- What each answer of this crate is in the specification's numbers: the value, or a refusal's number and place with 0 runs. Definitions only.
 use mathlib.Core.List.{List}
 use lib.Ieee.{Float}
 use lib.ListN.{take}

@@ -98,6 +98,6 @@ unfoldable pub isSized : ActuatorMap → Bool
 isSized m = leb (m .«wheel_count») 8 && leb (m .«thruster_count») 12
 
 -- Controls per row: body torques with no actuators, else one a wheel, one a thruster and four of a pyramid. A map that is not sized has no meaning in
--- the papers: its width is free, and is 0 here.
+-- the specification: its width is free, and is 0 here.
 unfoldable pub controlDim : ActuatorMap → ℕ
 controlDim m = cond (isSized m) (cond (isEmpty m) 3 (m .«wheel_count» + m .«thruster_count» + gimbals (m .cmgs))) 0

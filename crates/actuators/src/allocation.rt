@@ -1,5 +1,5 @@
-// Carried over from quatopsy-plan/src/actuators.rs (Apache-2.0), changed: the row is twenty numbers of which the first `control_dim` count, a refusal is a
-// number and a place. Which controls give a body torque.
+// Which controls give a body torque. Carried over from quatopsy-plan/src/actuators.rs (Apache-2.0), changed: the row is twenty numbers of which the first
+// `control_dim` count, a refusal is a number and a place.
 ghost use mathlib.Core.Path.{_≡_};
 ghost use Prim.Native.Nat.{_<_};
 ghost use Rattle.actuators.specs.Allocate as Allocate;

@@ -1,5 +1,5 @@
-// Carried over from quatopsy-plan/src/actuators.rs (Apache-2.0), changed: the prepared actuators go into flat tables, a refusal is a number and a place.
 // Preparing what a user declares: counts, then each actuator's numbers and its axis, in the order in which they are declared.
+// Carried over from quatopsy-plan/src/actuators.rs (Apache-2.0), changed: the prepared actuators go into flat tables, a refusal is a number and a place.
 ghost use mathlib.Core.Path.{_≡_};
 ghost use Prim.Native.Nat.{_≤_, _<_};
 ghost use Rattle.actuators.specs.Prepare as Prepare;

@@ -1,5 +1,5 @@
-// Carried over from quatopsy-plan/src/actuators.rs (Apache-2.0), changed: lists are arrays with a count, prepared actuators are flat tables,
-// a refusal is a number and a place. What a user declares of wheels, thrusters and a CMG pyramid, and the map that the solver reads. Axes are body-fixed.
+// What a user declares of wheels, thrusters and a CMG pyramid, and the map that the solver reads. Axes are body-fixed.
+// Carried over from quatopsy-plan/src/actuators.rs (Apache-2.0), changed: lists are arrays with a count, prepared actuators are flat tables, a refusal is a number and a place.
 ghost use mathlib.Core.Path.{_≡_};
 ghost use Rattle.actuators.specs.Maps as Maps;
 use common::Fate;

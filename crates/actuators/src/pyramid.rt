@@ -1,5 +1,5 @@
-// Carried over from quatopsy-plan/src/actuators.rs (Apache-2.0), changed: an angle outside the recipe's range is refused, the skew's sine and cosine may be
-// made once and handed in. The Jacobian of a four-CMG pyramid and how far it is from singular.
+// The Jacobian of a four-CMG pyramid and how far it is from singular. Carried over from quatopsy-plan/src/actuators.rs (Apache-2.0), changed: an angle outside
+// the recipe's range is refused, the skew's sine and cosine may be made once and handed in.
 ghost use mathlib.Core.Path.{_≡_};
 ghost use Rattle.actuators.specs.Pyramid as Pyramid;
 use crate::ActuatorMap;

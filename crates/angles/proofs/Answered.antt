@@ -9,8 +9,8 @@ use Rattle.angles.specs.declared.Zone.{Zone}
 use Rattle.angles.specs.Angles.{signed, scaled, quarters, rest, ring, toFloat, sineAt, cosineAt, regionOf, sinBy, cosBy, sinOf, cosOf}
 use Rattle.angles.specs.Both.{both, bothOf}
 use Rattle.angles.specs.Ended.{sineEnded, cosineEnded, endOf, seriesBy, sineSeries, cosineSeries, pair, bothSeries}
-use Rattle.angles.specs.Sizes.{Reduced}
-use Rattle.angles.specs.Reduction.{mod4-next}
+use Rattle.angles.specs.SizesInner.{Reduced}
+use Rattle.angles.specs.ReductionLaws.{mod4-next}
 
 module _ (x : Float) {g v : Zone} (e : g ≡ regionOf x) (f : g ≡ v) where
   pub sin-by : sinBy v x ≡ sinOf x

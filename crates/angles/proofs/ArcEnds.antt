@@ -9,7 +9,7 @@ use borrow.Author.Count.{below-more}
 use Rattle.angles.specs.declared.arc.Arc.{Arc}
 use Rattle.angles.specs.declared.arc.Part.{Part}
 use Rattle.angles.specs.Arcs.{arcTerm, arcSum}
-use Rattle.angles.specs.Sizes.{ArcAt}
+use Rattle.angles.specs.SizesInner.{ArcAt}
 use Rattle.angles.specs.Ended.{Formed, arcPart}
 use Rattle.angles.specs.EndedInner.{ArcRun}
 use Rattle.angles.specs.EndedLaws.{zero-of, below-of, arc-on, formed-at}

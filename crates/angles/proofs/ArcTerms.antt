@@ -7,7 +7,7 @@ use native.Mathlib.Omega.{arith}
 use lib.Dec.{lit<}
 use Rattle.angles.specs.declared.arc.Arc.{Arc}
 use Rattle.angles.specs.Arcs.{arcTerm, arcSum}
-use Rattle.angles.specs.Sizes.{ArcAt, ArcFits}
+use Rattle.angles.specs.SizesInner.{ArcAt, ArcFits}
 use Rattle.angles.specs.EndedLaws.{half, less}
 use Rattle.angles.proofs.Division.{reciprocal}
 

@@ -7,8 +7,8 @@ use lib.Dec.{lit<}
 use lib.Pow.{pow-mono, pow-add}
 use lib.Ieee.Nearest.{div-same}
 use Rattle.angles.specs.Angles.{Q}
-use Rattle.angles.specs.Sizes.{nextOf}
-use Rattle.angles.specs.Series.{shifts-le}
+use Rattle.angles.specs.SizesInner.{nextOf}
+use Rattle.angles.specs.SeriesLaws.{shifts-le}
 
 pub shift-16 : (t u : ℕ) → t * (u * 16) / 2 ^ 64 ≡ t * u / 2 ^ 60
 shift-16 t u = div-same (t * (u * 16)) (2 ^ 64) (t * u) (2 ^ 60) (lit< tt) (lit< tt) (go (t * (u * 16)) (t * u) (sym (mul-assoc t u 16)))

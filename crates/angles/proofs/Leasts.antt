@@ -5,7 +5,7 @@ use native.Mathlib.Nat.{le-refl, le-trans, mul-le-mul, le-div-iff-mul-le, div-mu
 use native.Mathlib.Omega.{arith}
 use lib.Dec.{lit<, lit≤}
 use Rattle.angles.specs.Angles.{divisor}
-use Rattle.angles.specs.Sizes.{nextOf, termOf}
+use Rattle.angles.specs.SizesInner.{nextOf, termOf}
 use Rattle.angles.specs.EndedInner.{firstOf, partOf, leastOf}
 
 div-more : (a b d : ℕ) → 0 < d → a ≤ b → a / d ≤ b / d

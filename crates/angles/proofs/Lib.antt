@@ -1,3 +1,4 @@
+-- Lemmas that the proofs share: tests on floats, products and division, terms and ends of the series, the answers.
 mod Tests
 mod Division
 mod Quick

@@ -6,8 +6,8 @@ use native.Mathlib.Omega.{arith}
 use lib.Dec.{leb}
 use lib.Ieee.{Float, unlike}
 use Rattle.angles.specs.Angles.{signed, ring, toFloat}
-use Rattle.angles.specs.Sizes.{negativeAt, sizeAt}
-use Rattle.angles.specs.Series.{ring-is}
+use Rattle.angles.specs.SizesInner.{negativeAt, sizeAt}
+use Rattle.angles.specs.SeriesLaws.{ring-is}
 
 pub even-size : (q u : ℕ) → q < 4 → q % 2 ≡ 0 → sizeAt 0 u ≡ sizeAt q u
 even-size zero u l e = refl

@@ -4,7 +4,7 @@ use Prim.Native.Nat.{ℕ, _+_, _-_, _*_, _/_, _%_, _^_, _≤_, _<_}
 use native.Mathlib.Nat.{mul-comm, mul-assoc, mul-right-comm, mul-add, add-mul, mul-le-mul-left, mul-le-mul-right, le-of-mul-le-mul-right, lt-of-mul-lt-mul-right, div-eq-of-lt-le, div-mul-le-self, lt-div-mul-add, div-add-mod', mod-lt, le-trans, le-refl, mul-le-mul}
 use native.Mathlib.Omega.{arith}
 use lib.Dec.{lit<}
-use Rattle.angles.specs.Sizes.{nextOf, squareOf, Roomy}
+use Rattle.angles.specs.SizesInner.{nextOf, squareOf, Roomy}
 use Rattle.angles.proofs.Division.{shift-16}
 
 -- ---- the factor, hi + 2: times d it is above S, by at most 2d

@@ -13,7 +13,7 @@ use lib.Ieee.Exact.{HasValue, round-exact}
 use lib.Ieee.Scale.{round-same}
 use lib.Ieee.Back.{round-whole}
 use Rattle.angles.specs.Angles.{signed, toFloat}
-use Rattle.angles.specs.Rounded.{neg-round}
+use Rattle.angles.specs.RoundedLaws.{neg-round}
 
 -- ---- a sum of two fractions over one denominator, neither negative
 

@@ -8,8 +8,8 @@ use native.Mathlib.Omega.{arith}
 use lib.Dec.{lit<}
 use Rattle.angles.specs.declared.series.Stage.{Stage}
 use Rattle.angles.specs.Angles.{divisor}
-use Rattle.angles.specs.Sizes.{nextOf, Small, termOf, alter, sumOf}
-use Rattle.angles.specs.Series.{shift-le, next-le, Held, held}
+use Rattle.angles.specs.SizesInner.{nextOf, Small, termOf, alter, sumOf}
+use Rattle.angles.specs.SeriesLaws.{shift-le, next-le, Held, held}
 use Rattle.angles.specs.Ended.{Formed}
 use Rattle.angles.specs.EndedInner.{firstOf, partOf, partsOf, tally, countOf, stageOf, Ends}
 use Rattle.angles.specs.EndedLaws.{zero-on, formed-all, formed-at}

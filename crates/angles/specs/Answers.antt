@@ -1,4 +1,4 @@
--- Document 01's answer for each case of the enums: an argument outside its range is refusal 11, at place 0 after 0 runs. Definitions only.
+-- The answer for each case of the enums: an argument outside its range is refusal 11, at place 0 after 0 runs. Definitions only.
 use lib.Ieee.{Float}
 use Rattle.common.specs.Answer.{Answer, Given, Refused}
 use Rattle.angles.specs.declared.Angle.{Angle}

@@ -1,5 +1,4 @@
--- acos: D, its whole square root, sixty terms, one rounding. Whole numbers are ℕ, scaled by 2 ^ 60: none is negative, and division truncates.
-use mathlib.Core.Path.{_≡_, refl}
+-- acos: D, its whole square root, sixty terms, one rounding. Whole numbers are ℕ, scaled by 2 ^ 60: none is negative, and division truncates. Definitions only.
 use mathlib.Core.Bool.{Bool, false, cond, _&&_}
 use Prim.Native.Nat.{ℕ, zero, suc, _+_, _-_, _*_, _/_, _^_}
 use lib.Ieee.{Float, binary64, ofBits, round, le}
@@ -45,8 +44,3 @@ arcOf w = let d = shortOf w in round binary64 false (2 * arcSum (d / 2) (rootOf 
 -- acos, for every float
 unfoldable pub acosOf : Float → Angle
 acosOf w = cond (inUnit w) (Angle.Is (arcOf w)) Angle.Outside
-
--- acos 1 = 0
-pub acos-one : acosOf one ≡ Angle.Is none
-unfolding acosOf arcOf inUnit arcSum arcTerm isqrt round le ofBits
-acos-one = refl

@@ -1,12 +1,12 @@
 -- What the code's contracts say of a series on its way: the terms over sizes one by one, from which size on each is not zero, the arc cosine's sum so far. Inner
--- words of the proofs; `Ended` says what the answers mean.
+-- words of the proofs; `Ended` says what the answers mean. Definitions only.
 use mathlib.Core.Path.{_≡_}
 use Prim.Native.Nat.{ℕ, zero, suc, _+_, _^_, _≤_, _<_}
 use Rattle.angles.specs.declared.series.Stage.{Stage}
 use Rattle.angles.specs.declared.arc.Arc.{Arc}
 use Rattle.angles.specs.declared.arc.Part.{Part}
 use Rattle.angles.specs.Arcs.{arcTerm, arcSum}
-use Rattle.angles.specs.Sizes.{termOf, sumOf}
+use Rattle.angles.specs.SizesInner.{termOf, sumOf}
 use Rattle.angles.specs.Ended.{Formed, arcPart}
 
 -- ---- the two series: the sine's where c is 1, the cosine's where it is 0

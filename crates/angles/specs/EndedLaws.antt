@@ -12,8 +12,8 @@ use lib.IntN.{ℤ, pos, negsuc, negℤ, natAbs, _+ℤ_, +ℤ-idl, +ℤ-idr}
 use Rattle.angles.specs.declared.series.Ended.{Ended}
 use Rattle.angles.specs.Angles.{signed, sizeOf, divisor, term, alternate, series, sine, cosine}
 use Rattle.angles.specs.Arcs.{shortOf, rootOf, arcTerm, arcSum}
-use Rattle.angles.specs.Sizes.{nextOf, termOf, sumOf}
-use Rattle.angles.specs.Series.{term-is, sine-is, cosine-is}
+use Rattle.angles.specs.SizesInner.{nextOf, termOf, sumOf}
+use Rattle.angles.specs.SeriesLaws.{term-is, sine-is, cosine-is}
 use Rattle.angles.specs.Ended.{Counted, isZero, ended, sineEnded, cosineEnded, arcPart, arcEnded, Formed, endOf, arcAt}
 
 -- ---- a whole number and its size

@@ -5,7 +5,7 @@ ghost use mathlib.Core.Bool.{true};
 ghost use Rattle.angles.specs.Arcs.{inUnit, rootOf, arcOf};
 ghost use Rattle.angles.specs.Ended.{arcEnded, arcAt, endOf};
 ghost use Rattle.angles.specs.EndedInner.{partAt, ArcRun};
-ghost use Rattle.angles.specs.Sizes.{ArcAt, ArcFits};
+ghost use Rattle.angles.specs.SizesInner.{ArcAt, ArcFits};
 use super::fixed::over_60;
 use super::series::Ended;
 use super::series::mul_shift;

@@ -1,4 +1,4 @@
-// sin, cos and acos by whole numbers scaled by 2^60, as document 01 has them: the same bits on every machine.
+// sin, cos and acos by whole numbers scaled by 2^60, as the specification has them: the same bits on every machine.
 // An argument outside the range, or a NaN, is answered `Outside`.
 ghost use mathlib.Core.Path.{_≡_};
 ghost use Rattle.angles.specs.Angles.{inRange, tiny, regionOf, sinOf, cosOf};

@@ -2,7 +2,7 @@
 ghost use mathlib.Core.Path.{_≡_};
 ghost use Prim.Native.Nat.{ℕ, _+_, _%_, _^_, _<_};
 ghost use Rattle.angles.specs.Angles.{signed, ring, toFloat};
-ghost use Rattle.angles.specs.Sizes.{negativeAt, sizeAt};
+ghost use Rattle.angles.specs.SizesInner.{negativeAt, sizeAt};
 use super::fixed::to_float;
 use super::series::both_sizes;
 use super::series::cosine_size;

@@ -8,7 +8,7 @@ ghost use Prim.Native.Nat.{ℕ, _+_, _*_, _/_, _^_, _≤_, _<_};
 ghost use Rattle.angles.specs.Angles.{signed};
 ghost use Rattle.angles.specs.Ended.{sineEnded, cosineEnded, endOf};
 ghost use Rattle.angles.specs.EndedInner.{stageOf, leastOf, Ends};
-ghost use Rattle.angles.specs.Sizes.{nextOf, squareOf, Roomy, Small};
+ghost use Rattle.angles.specs.SizesInner.{nextOf, squareOf, Roomy, Small};
 use wide::product::high_product;
 use wide::product::low_product;
 
@@ -44,7 +44,7 @@ pub fn square_of(u: u64) -> u64
     high_product(u * 16, u * 16)
 }
 
-// The term after t as one product: the upper word of t times k, the square over d. Document 01 truncates t * u first, which takes less than u * 16 / d from the
+// The term after t as one product: the upper word of t times k, the square over d. The specification truncates t * u first, which takes less than u * 16 / d from the
 // product's lower word, and k is too large by at most 2, which adds at most 2 * t. So a lower word of at least `least`, which has room for both, says that the upper
 // word is the term; else the term is worked out as it stands.
 pub fn quick_term(t: u64, u: u64, square: u64, d: u64, least: u64) -> u64

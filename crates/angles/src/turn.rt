@@ -7,7 +7,7 @@ ghost use lib.Ieee.{Float, binary64, ofBits, lt, le, fin};
 ghost use mathlib.Core.Bool.{false};
 ghost use Rattle.angles.specs.declared.Zone.the-variants as Zone;
 ghost use Rattle.angles.specs.Angles.{Q, signed, scaled, sizeOf, regionOf};
-ghost use Rattle.angles.specs.Sizes.{TurnOf, Reduced};
+ghost use Rattle.angles.specs.SizesInner.{TurnOf, Reduced};
 
 // A quarter turn, times 2^60, and its half, rounded down.
 const QUARTER: u64 = 0x1921_FB54_442D_1847;

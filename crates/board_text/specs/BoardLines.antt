@@ -24,7 +24,7 @@ unfoldable pub boardCourse : Course → ℕ → Float → ℕ → Board
 boardCourse c requested alpha index =
     let d = sampleCourse c requested alpha index in record { runs = d .runs; driven = drive (d .sampled) index }
 
--- document 01's answer
+-- the answer of a sample: its numbers, or a refusal
 unfoldable pub answer : Board → Answer (List ℤ)
 answer b = answerBy (b .driven .fate) (b .runs) (b .driven .numbers)
 

@@ -1,4 +1,4 @@
--- What each answer of this crate is in document 01's numbers. No place is named, and no run begins. Definitions only.
+-- What each answer of this crate is in the specification's numbers. No place is named, and no run begins. Definitions only.
 use Prim.Native.Nat.{ℕ}
 use Rattle.common.specs.Answer.{Answer, Given, Refused}
 use Rattle.byte_planes.specs.declared.Stored.{Stored}

@@ -1,9 +1,10 @@
--- What a column's byte planes are (`Planes`), what the two calls answer and leave (`Calls`), which refusal that is (`Answers`); that planes and columns are each
--- other's inverses (`Laws`), and what that says of the calls (`CallLaws`). The laws of exclusive or and of bytes that carry it: `DeltaLaws`, `ByteLaws`.
-pub mod Planes
-pub mod Calls
-pub mod Answers
-pub mod DeltaLaws
-pub mod ByteLaws
-pub mod Laws
-pub mod CallLaws
+-- A column of 64-bit words as byte planes, and back.
+-- ---- meaning
+pub mod Planes  -- what a column's planes are, and the way back
+pub mod Calls  -- what the two calls answer, and what they leave in the output
+pub mod Answers  -- each answer as a value or as refusal 28
+-- ---- laws
+pub mod Laws  -- planes and columns are each other's inverses
+pub mod CallLaws  -- what the calls refuse, and that what one wrote the other gives back
+pub mod DeltaLaws  -- exclusive or undone, word after word
+pub mod ByteLaws  -- planes by their bytes, and words by theirs

@@ -21,7 +21,8 @@ use Rattle.problem_text.specs.Reader.{readProblem}
 use Rattle.canonical_laws.specs.Texts.{Few, Accepted, problem, canonical}
 use Rattle.canonical_laws.specs.TextLaws.{stands}
 use Rattle.canonical.specs.declared.Told.{Told}
-use Rattle.canonical.specs.Writing.{written, written-is}
+use Rattle.canonical.specs.Writing.{written}
+use Rattle.canonical.specs.WritingLaws.{written-is}
 use Rattle.canonical.specs.CanonicalTexts.{countsFate, fateBy, textBy, fateOf, textOf, told, left, Rewrites, Tells}
 
 -- ---- accepted texts

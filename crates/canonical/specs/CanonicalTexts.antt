@@ -34,7 +34,7 @@ fateOf t = fateBy (readProblem t .fate) (readProblem t .problem)
 unfoldable pub textOf : List ℕ → List ℕ
 textOf t = textBy (readProblem t .fate) (readProblem t .problem)
 
--- ---- what is told of it, and the lent buffer at exit. A buffer of less than 4,096 bytes gets nothing: 99, which no refusal of document 01 is.
+-- ---- what is told of it, and the lent buffer at exit. A buffer of less than 4,096 bytes gets nothing: 99, which is no refusal's number.
 
 unfoldable pub told : List ℕ → List ℕ → Told
 told t out = cond (ltb (length out) 4096) (record { fate = Refused 99 0; bytes = 0 }) (record { fate = fateOf t; bytes = length (textOf t) })

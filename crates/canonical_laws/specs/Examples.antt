@@ -1,4 +1,4 @@
--- Document 01's example and texts near it: what becomes of them, and what the strict form refuses. Assumes nothing.
+-- The specification's example and texts near it: what becomes of them, and what the strict form refuses. Assumes nothing.
 use Prim.Native.String.{String, _++_}
 use mathlib.Core.Path.{_≡_, refl}
 use lib.Ieee.{nan, binary64, ofBits, ofFields, toBits, nanBits}

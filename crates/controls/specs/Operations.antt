@@ -1,5 +1,5 @@
--- The operations on control rows that document 01 names, over whole maps. They take every map and every row. A map whose counts pass its tables, and a row
--- that is too short where the Rust would panic, have no meaning in the papers: the answer there is free, and is said to be so at its place. Definitions only.
+-- The operations on control rows that the specification names, over whole maps. They take every map and every row. A map whose counts pass its tables, and a row
+-- that is too short where the Rust would panic, have no meaning in the specification: the answer there is free, and is said to be so at its place. Definitions only.
 use Prim.Native.Nat.{ℕ}
 use mathlib.Core.Bool.{Bool, cond, _&&_}
 use mathlib.Core.List.{List}
@@ -78,7 +78,7 @@ abbrev pub torqueBy : Fate → List Float → Torque
 torqueBy Going tau = record { fate = Going; tau = tau }
 torqueBy (Refused number place) tau = record { fate = Refused number place; tau = zero3 }
 
--- How a row that is too short ends. With no actuators the Rust says "wrong width", for which document 01 has no number of its own: 8. With actuators the
+-- How a row that is too short ends. With no actuators the Rust says "wrong width", for which the specification has no number of its own: 8. With actuators the
 -- Rust panics, and a count beyond the tables has no meaning: free, it goes on.
 abbrev pub shortRow : Rig → Fate
 shortRow r = cond (Parts.bare r) (Refused 8 0) Going

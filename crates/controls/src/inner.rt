@@ -1,5 +1,5 @@
-// Carried over from quatopsy-plan/src/actuators.rs (Apache-2.0), changed: flat tables are lent, the pyramid's matrix is made beforehand.
 // What a forward run calls in every step: the parts of a control row over lent tables. Counts and lengths are asked for.
+// Carried over from quatopsy-plan/src/actuators.rs (Apache-2.0), changed: flat tables are lent, the pyramid's matrix is made beforehand.
 ghost use mathlib.Core.Path.{_≡_};
 ghost use Prim.Native.Nat.{_+_, _*_, _≤_};
 ghost use lib.ListN.{length};

@@ -1,5 +1,5 @@
-// Carried over from quatopsy-plan/src/actuators.rs (Apache-2.0), changed: rows are lent slices, prepared actuators are flat tables, a refusal is a number
-// and a place. What reads and writes a control row: the operations over whole maps here, what a forward run calls in every step in `inner`.
+// What reads and writes a control row: the operations over whole maps here, what a forward run calls in every step in `inner`.
+// Carried over from quatopsy-plan/src/actuators.rs (Apache-2.0), changed: rows are lent slices, prepared actuators are flat tables, a refusal is a number and a place.
 ghost use mathlib.Core.Path.{_≡_};
 ghost use Prim.Native.Nat.{_≤_};
 ghost use Rattle.controls.specs.Operations as Operations;

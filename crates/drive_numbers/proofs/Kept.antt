@@ -24,7 +24,8 @@ use Rattle.drive_numbers.specs.declared.VectorRow.{VectorRow}
 use Rattle.drive_numbers.specs.Numbers.{inRange, part}
 use Rattle.drive_numbers.specs.Laws.{number-says}
 use Rattle.drive_numbers.specs.Drive.{inside, number, all, wholes, parts, refused, numbered}
-use Rattle.drive_numbers.specs.Inner.{attitude, vector, attitudeRow, vectorRow, and-true, all-rows}
+use Rattle.drive_numbers.specs.Inner.{attitude, vector, attitudeRow, vectorRow}
+use Rattle.drive_numbers.specs.InnerLaws.{and-true, all-rows}
 
 range-fits : (n : ℤ) → T (inRange n) → SFits w32 n
 range-fits (pos n) h = let k = leb→le n (2 ^ 31 - 1) h in record { sfits = omega arith }

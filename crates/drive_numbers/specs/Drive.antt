@@ -73,7 +73,7 @@ drive s index = drivenBy (s .fate) (s .sample) index
 unfoldable pub driveSample : List (List Float) → Float → Float → List (List Float) → ℕ → Float → ℕ → Driven
 driveSample j tol duration nodes requested alpha index = drive (sample j tol duration nodes requested alpha index) index
 
--- in document 01's numbers, before any run
+-- in the specification's numbers, before any run
 abbrev pub ofDriven : Driven → Answer (List ℤ)
 ofDriven d = ofFate (d .numbers) (d .fate)
 

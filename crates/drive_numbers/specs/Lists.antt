@@ -44,7 +44,7 @@ onward sample k l = onwardBy (l .fate) (l .rows) (sample k)
 unfoldable pub listing : (ℕ → Driven) → ℕ → Listing
 listing sample n = iter (onward sample) (ended Fate.Going []) n
 
--- `lent` rows are lent: fewer than there are samples get nothing, and 99 is told, which no refusal of document 01 is
+-- `lent` rows are lent: fewer than there are samples get nothing, and 99 is told, which is no refusal's number
 abbrev pub driveListBy : Count → (ℕ → Driven) → ℕ → Listing
 driveListBy Count.TooMany sample lent = ended (Fate.Refused 20 0) []
 driveListBy (Count.Of count) sample lent = cond (ltb lent count) (ended (Fate.Refused 99 0) []) (listing sample count)
@@ -53,7 +53,7 @@ unfoldable pub driveList : List (List Float) → Float → Float → List (List 
 driveList j tol duration nodes requested alpha lent =
     driveListBy (sampleCount duration requested alpha) (driveSample j tol duration nodes requested alpha) lent
 
--- in document 01's numbers, before any run
+-- in the specification's numbers, before any run
 abbrev pub ofListing : Listing → Answer (List (List ℤ))
 ofListing l = ofFate (l .rows) (l .fate)
 

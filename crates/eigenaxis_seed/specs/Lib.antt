@@ -1,4 +1,6 @@
--- The eigenaxis seed: shapes of the rate, and the torques that follow them.
-pub mod Shapes
-pub mod Seeds
-pub mod ShapeLaws
+-- The eigenaxis seed.
+-- ---- meaning
+pub mod Shapes  -- how the rate goes about the axis: 17 heights in whole numbers
+pub mod Seeds  -- the torques that take the rate from height to height under the step law
+-- ---- laws
+pub mod ShapeLaws  -- the heights sum to the area; the gentle ones are the wave that they stand for

@@ -1,2 +1,3 @@
 -- The eigenaxis plan of a problem's text.
-pub mod EigenaxisTexts
+-- ---- meaning
+pub mod EigenaxisTexts  -- the plan of what the reader answers

@@ -1,5 +1,5 @@
-// Carried over from quatopsy-plan/src/scvx.rs (Apache-2.0), changed: Gauss-Jordan elimination on lent parts of a workspace, two columns at a time,
-// and with it the step of a Levenberg-Marquardt iteration.
+// Gauss-Jordan elimination, and with it the step of a Levenberg-Marquardt iteration.
+// Carried over from quatopsy-plan/src/scvx.rs (Apache-2.0), changed: parts of a workspace are lent, and two columns are taken at a time.
 ghost use mathlib.Core.Path.{_≡_};
 ghost use Prim.Native.Nat.{_+_, _*_, _≤_};
 ghost use lib.ListN.{length, take};

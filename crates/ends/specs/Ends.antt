@@ -1,4 +1,4 @@
--- The end checks of document 01's table, 14 to 19, over the run of the decision that was found. Definitions only.
+-- The end checks, 14 to 19, over the run of the decision that was found. Definitions only.
 use Prim.Native.Nat.{ℕ}
 use mathlib.Core.Bool.{Bool, true, false, cond}
 use mathlib.Core.List.{List, [], _∷_}
@@ -21,11 +21,11 @@ use Rattle.forward.specs.declared.Run.{Run}
 use Rattle.residuals.specs.Sums.{nodeAt}
 use Rattle.residuals.specs.Residuals.{errorOf}
 
--- 0.0001, of the final attitude error and of the final rate
+-- ATT_TOL and RATE_TOL, 0.0001: of the final attitude error and of the final rate
 abbrev pub tolerance : Float
 tolerance = ofBits binary64 0x3f1a_36e2_eb1c_432d
 
--- 0.005, of the largest defect
+-- DEFECT_TOL, 0.005: of the largest defect
 abbrev pub defectTolerance : Float
 defectTolerance = ofBits binary64 0x3f74_7ae1_47ae_147b
 

@@ -1,5 +1,5 @@
 // The end checks of a found decision's run: 14, 15 and 16, then 17 to 19 node by node. Carried over from the tail of `solve` of
-// quatopsy-plan/src/scvx.rs (Apache-2.0), changed: refusals are document 01's numbers with their node.
+// quatopsy-plan/src/scvx.rs (Apache-2.0), changed: refusals are numbers with their node.
 ghost use mathlib.Core.Path.{_≡_};
 ghost use mathlib.Core.Bool.{true};
 ghost use Rattle.actuators.specs.Maps.{isSized};

@@ -24,7 +24,7 @@ seeded c v b limited duration rates torques size = planFrom (problem c v b limit
 abbrev pub counts : Planned → List ℕ
 counts r = place (answer r) ∷ runsOr (answer r) (r .runs) ∷ r .path .controls ∷ r .path .wheels ∷ r .path .iterations ∷ []
 
--- a refusal of checks 1 to 6, or the profile's
+-- a refusal of checks 1 to 6 and 22, or the profile's
 abbrev profileBy : Answer CheckedProblem → Answer (List Float)
 profileBy (Refused n k runs) = Refused n k runs
 profileBy (Given p) = ofProfiled (profiled p)

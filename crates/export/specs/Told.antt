@@ -1,4 +1,4 @@
--- What the code reads from how an entry ended is what its answer says, in document 01's numbers. Assumes nothing.
+-- What the code reads from how an entry ended is what its answer says, in the specification's numbers. Assumes nothing.
 use mathlib.Core.Path.{_≡_, refl}
 use Rattle.common.specs.declared.Fate.{Fate}
 use Rattle.common.specs.declared.Fate.the-variants.{Going, Refused}

@@ -9,7 +9,7 @@ use export_leaves::courses::put_profile;
 use export_problem::problem_of;
 use problem::CheckedProblem;
 
-// The profile of a problem that has passed checks 1 to 6.
+// The profile of a problem that has passed checks 1 to 6 and 22.
 fn put_checked(p: CheckedProblem, out: &mut [f64; 22], place: &mut usize) -> usize
     ensures { λ r. ⌜ r ≡ Outcomes.number (Outcomes.ofProfiled (Plans.profiled p)) ⌝ }
     ensures { λ _. ⌜ now (out .exit) ≡ Outcomes.listOr (Outcomes.ofProfiled (Plans.profiled p)) (now (out .entry)) ⌝ }

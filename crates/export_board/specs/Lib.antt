@@ -1,3 +1,5 @@
--- What the contracts of the drive board's C interface cite besides the library's own definitions.
-pub mod Units
-pub mod Told
+-- The C interface of the drive board's numbers.
+-- ---- meaning
+pub mod Units  -- a unit by its flag
+-- ---- laws
+pub mod Told  -- what the code reads from how a list ended is what its answer says

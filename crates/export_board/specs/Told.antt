@@ -1,4 +1,4 @@
--- What the code reads from how a list ended is what its answer says, in document 01's numbers. Assumes nothing.
+-- What the code reads from how a list ended is what its answer says, in the specification's numbers. Assumes nothing.
 use Prim.Native.Nat.{ℕ}
 use mathlib.Core.Path.{_≡_, ap, _∙_}
 use mathlib.Core.List.{List}

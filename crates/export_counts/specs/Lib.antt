@@ -1,2 +1,3 @@
--- What the contracts of the counts' C interface cite besides the angles' own definitions.
-pub mod Outcomes
+-- The C interface of the angles' counts.
+-- ---- meaning
+pub mod Outcomes  -- what an answer leaves in the numbers lent for it

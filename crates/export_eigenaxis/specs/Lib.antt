@@ -1,2 +1,3 @@
--- Eigenaxis plans over the C interface.
-pub mod Entries
+-- The C interface of eigenaxis plans.
+-- ---- meaning
+pub mod Entries  -- a shape by its flag, and the eigenaxis plan of a problem as declared

@@ -61,7 +61,7 @@ sums c =
 abbrev pub asked : ℕ → Asked
 asked way = cond (eqb way 0) (By Search) (cond (eqb way 1) (By (Eigenaxis Fastest)) (cond (eqb way 2) (By (Eigenaxis Gentle)) Unknown))
 
--- one leg: the cursor after it, and its answer. 99, which no refusal of document 01 is, where no way is asked for: nothing is planned, and the cursor stays.
+-- one leg: the cursor after it, and its answer. 99, which is no refusal's number, where no way is asked for: nothing is planned, and the cursor stays.
 abbrev pub turnBy : Asked → Problem → Cursor → Quat → Quat → ℕ → Advanced
 turnBy (By way) p c from to size = record { cursor = Mosaics.next (plannerBy way size) p c from to; planned = Mosaics.planned (plannerBy way size) p c from to }
 turnBy Unknown p c from to size = record { cursor = c; planned = Plans.refused 99 0 0 }

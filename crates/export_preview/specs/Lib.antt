@@ -1,3 +1,5 @@
--- What the contracts of the C interface of previews and starts cite besides the library's own definitions, and that a preview's numbers are enough to start it.
-pub mod Numbers
-pub mod NumberLaws
+-- The C interface of previews and starts.
+-- ---- meaning
+pub mod Numbers  -- momenta, previews and starts as numbers
+-- ---- laws
+pub mod NumberLaws  -- the numbers of a preview are enough to start it

@@ -3,7 +3,7 @@
 -- Counts c: wheels, thrusters, a pyramid (1, else none), and for each of eight wheels whether it has a power limit (1, else none).
 -- Numbers v: eight wheel axes, their torques, momenta, powers; twelve thruster axes, their torques; the pyramid's skew, momentum, rate, smallest measure.
 -- Numbers b: q0, qf, the inertia by rows, the torque limits, the slew limit, six weights, the norm tolerance, the tie tolerance, eight wheels' start momenta.
-use Prim.Native.Nat.{ℕ}
+use Prim.Native.Nat.{ℕ, _+_, _*_}
 use mathlib.Core.Bool.{Bool, cond}
 use mathlib.Core.List.{List, [], _∷_}
 use lib.Dec.{eqb}
@@ -35,39 +35,25 @@ wheelOf x y z torque momentum n power = record {
   «max_power_w» = limit (eqb n 1) power;
 }
 
+-- wheel k of eight
+abbrev pub wheelAt : List ℕ → List Float → ℕ → Wheel
+wheelAt c v k = wheelOf (at v (3 * k)) (at v (3 * k + 1)) (at v (3 * k + 2)) (at v (24 + k)) (at v (32 + k)) (count c (3 + k)) (at v (40 + k))
+
 -- all eight places of wheels
 unfoldable pub wheels : List ℕ → List Float → List Wheel
-wheels c v =
-    wheelOf (at v 0) (at v 1) (at v 2) (at v 24) (at v 32) (count c 3) (at v 40)
-    ∷ wheelOf (at v 3) (at v 4) (at v 5) (at v 25) (at v 33) (count c 4) (at v 41)
-    ∷ wheelOf (at v 6) (at v 7) (at v 8) (at v 26) (at v 34) (count c 5) (at v 42)
-    ∷ wheelOf (at v 9) (at v 10) (at v 11) (at v 27) (at v 35) (count c 6) (at v 43)
-    ∷ wheelOf (at v 12) (at v 13) (at v 14) (at v 28) (at v 36) (count c 7) (at v 44)
-    ∷ wheelOf (at v 15) (at v 16) (at v 17) (at v 29) (at v 37) (count c 8) (at v 45)
-    ∷ wheelOf (at v 18) (at v 19) (at v 20) (at v 30) (at v 38) (count c 9) (at v 46)
-    ∷ wheelOf (at v 21) (at v 22) (at v 23) (at v 31) (at v 39) (count c 10) (at v 47)
-    ∷ []
+wheels c v = let w = wheelAt c v in w 0 ∷ w 1 ∷ w 2 ∷ w 3 ∷ w 4 ∷ w 5 ∷ w 6 ∷ w 7 ∷ []
 
 -- a thruster of its axis and torque
 unfoldable pub thrusterOf : Float → Float → Float → Float → Thruster
 thrusterOf x y z torque = record { «torque_axis» = x ∷ (y ∷ (z ∷ [])); «max_torque_nm» = torque }
 
+-- thruster k of twelve
+abbrev pub thrusterAt : List Float → ℕ → Thruster
+thrusterAt v k = thrusterOf (at v (48 + 3 * k)) (at v (48 + 3 * k + 1)) (at v (48 + 3 * k + 2)) (at v (84 + k))
+
 -- all twelve places of thrusters
 unfoldable pub thrusters : List Float → List Thruster
-thrusters v =
-    thrusterOf (at v 48) (at v 49) (at v 50) (at v 84)
-    ∷ thrusterOf (at v 51) (at v 52) (at v 53) (at v 85)
-    ∷ thrusterOf (at v 54) (at v 55) (at v 56) (at v 86)
-    ∷ thrusterOf (at v 57) (at v 58) (at v 59) (at v 87)
-    ∷ thrusterOf (at v 60) (at v 61) (at v 62) (at v 88)
-    ∷ thrusterOf (at v 63) (at v 64) (at v 65) (at v 89)
-    ∷ thrusterOf (at v 66) (at v 67) (at v 68) (at v 90)
-    ∷ thrusterOf (at v 69) (at v 70) (at v 71) (at v 91)
-    ∷ thrusterOf (at v 72) (at v 73) (at v 74) (at v 92)
-    ∷ thrusterOf (at v 75) (at v 76) (at v 77) (at v 93)
-    ∷ thrusterOf (at v 78) (at v 79) (at v 80) (at v 94)
-    ∷ thrusterOf (at v 81) (at v 82) (at v 83) (at v 95)
-    ∷ []
+thrusters v = let t = thrusterAt v in t 0 ∷ t 1 ∷ t 2 ∷ t 3 ∷ t 4 ∷ t 5 ∷ t 6 ∷ t 7 ∷ t 8 ∷ t 9 ∷ t 10 ∷ t 11 ∷ []
 
 -- a pyramid, or none
 abbrev pub cmgsOf : Bool → Float → Float → Float → Float → Cmgs

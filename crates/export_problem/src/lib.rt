@@ -4,6 +4,7 @@
 // Numbers: eight wheel axes, their torques, momenta, powers; twelve thruster axes, their torques; the pyramid's skew, momentum, rate, smallest measure.
 // A body's numbers: q0, qf, the inertia by rows, the torque limits, the slew limit, six weights, the norm tolerance, the tie tolerance, eight wheels' start momenta.
 ghost use mathlib.Core.Path.{_≡_};
+ghost use Prim.Native.Nat.{_<_};
 ghost use Rattle.export_problem.specs.Declared as Declared;
 use actuators::ActuatorMap;
 use actuators::Actuators;
@@ -31,19 +32,35 @@ fn wheel_of(x: f64, y: f64, z: f64, torque: f64, momentum: f64, n: usize, power:
     }
 }
 
+// Wheel k of eight.
+fn wheel_at(c: &[usize; 11], v: &[f64; 100], k: usize) -> Wheel
+    requires { ⌜ k < 8 ⌝ }
+    ensures { λ r. ⌜ r ≡ Declared.wheelAt (now (c .entry)) (now (v .entry)) k ⌝ }
+{
+    let i = 3 * k;
+    wheel_of(
+        v[i],
+        v[i + 1],
+        v[i + 2],
+        v[24 + k],
+        v[32 + k],
+        c[3 + k],
+        v[40 + k],
+    )
+}
+
 // All eight places of wheels.
 fn wheels_of(c: &[usize; 11], v: &[f64; 100]) -> [Wheel; 8]
     ensures { λ r. ⌜ r ≡ Declared.wheels (now (c .entry)) (now (v .entry)) ⌝ }
 {
-    let w0 = wheel_of(v[0], v[1], v[2], v[24], v[32], c[3], v[40]);
-    let w1 = wheel_of(v[3], v[4], v[5], v[25], v[33], c[4], v[41]);
-    let w2 = wheel_of(v[6], v[7], v[8], v[26], v[34], c[5], v[42]);
-    let w3 = wheel_of(v[9], v[10], v[11], v[27], v[35], c[6], v[43]);
-    let w4 = wheel_of(v[12], v[13], v[14], v[28], v[36], c[7], v[44]);
-    let w5 = wheel_of(v[15], v[16], v[17], v[29], v[37], c[8], v[45]);
-    let w6 = wheel_of(v[18], v[19], v[20], v[30], v[38], c[9], v[46]);
-    let w7 = wheel_of(v[21], v[22], v[23], v[31], v[39], c[10], v[47]);
-    [w0, w1, w2, w3, w4, w5, w6, w7]
+    let blank = actuators::blank_wheel();
+    let mut out = [blank; 8];
+    let mut k: usize = 0;
+    while k < 8 {
+        out[k] = wheel_at(c, v, k);
+        k += 1;
+    }
+    out
 }
 
 // A thruster of its axis and torque.
@@ -57,23 +74,27 @@ fn thruster_of(x: f64, y: f64, z: f64, torque: f64) -> Thruster
     }
 }
 
+// Thruster k of twelve.
+fn thruster_at(v: &[f64; 100], k: usize) -> Thruster
+    requires { ⌜ k < 12 ⌝ }
+    ensures { λ r. ⌜ r ≡ Declared.thrusterAt (now (v .entry)) k ⌝ }
+{
+    let i = 48 + 3 * k;
+    thruster_of(v[i], v[i + 1], v[i + 2], v[84 + k])
+}
+
 // All twelve places of thrusters.
 fn thrusters_of(v: &[f64; 100]) -> [Thruster; 12]
     ensures { λ r. ⌜ r ≡ Declared.thrusters (now (v .entry)) ⌝ }
 {
-    let t0 = thruster_of(v[48], v[49], v[50], v[84]);
-    let t1 = thruster_of(v[51], v[52], v[53], v[85]);
-    let t2 = thruster_of(v[54], v[55], v[56], v[86]);
-    let t3 = thruster_of(v[57], v[58], v[59], v[87]);
-    let t4 = thruster_of(v[60], v[61], v[62], v[88]);
-    let t5 = thruster_of(v[63], v[64], v[65], v[89]);
-    let t6 = thruster_of(v[66], v[67], v[68], v[90]);
-    let t7 = thruster_of(v[69], v[70], v[71], v[91]);
-    let t8 = thruster_of(v[72], v[73], v[74], v[92]);
-    let t9 = thruster_of(v[75], v[76], v[77], v[93]);
-    let t10 = thruster_of(v[78], v[79], v[80], v[94]);
-    let t11 = thruster_of(v[81], v[82], v[83], v[95]);
-    [t0, t1, t2, t3, t4, t5, t6, t7, t8, t9, t10, t11]
+    let blank = actuators::blank_thruster();
+    let mut out = [blank; 12];
+    let mut k: usize = 0;
+    while k < 12 {
+        out[k] = thruster_at(v, k);
+        k += 1;
+    }
+    out
 }
 
 // A pyramid, or none.

@@ -16,7 +16,7 @@ use lib.Ieee.Positive.{first-pos}
 use Rattle.wide.proofs.Patterns.{never}
 use Rattle.float.specs.Sqrt.{sqrt, rootUnits}
 use Rattle.float.specs.SqrtLaws.{fits-parts, units-lt}
-use Rattle.float.specs.Post.{unitsOf, rounded, radicand}
+use Rattle.float.specs.RootInner.{unitsOf, rounded, radicand}
 use Rattle.float.proofs.Roots.{join, ofBits-units, bits-value, sqrt-of-value}
 use Rattle.float.proofs.Settled.{radicand-range}
 

@@ -6,7 +6,7 @@ use native.Mathlib.Decide.{decLe}
 use native.Mathlib.Omega.{arith}
 use lib.Ieee.{binary64, ofBits}
 use Rattle.float.specs.Sqrt.{sqrt}
-use Rattle.float.specs.Post.{rounded, radicand}
+use Rattle.float.specs.RootInner.{rounded, radicand}
 use Rattle.float.proofs.Shapes.{large-squared}
 use Rattle.float.proofs.Settled.{settled-root, digits-range}
 use Rattle.float.proofs.Cases.{root-bits-law}

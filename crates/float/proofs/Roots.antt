@@ -16,9 +16,10 @@ use lib.Ieee.Digits.{size-lt, size-le}
 use lib.Ieee.Fits.{down-pos}
 use lib.Ieee.Exact.{HasValue, odd-sign}
 use lib.Ieee.Bits.{is-false, cond-no}
-use Rattle.wide.specs.Isqrt.{isqrt, isqrt-root}
+use Rattle.wide.specs.Isqrt.{isqrt}
+use Rattle.wide.specs.IsqrtLaws.{isqrt-root}
 use Rattle.float.specs.Sqrt.{nearer, rootUnits, sqrt}
-use Rattle.float.specs.Post.{unitsOf, rounded}
+use Rattle.float.specs.RootInner.{unitsOf, rounded}
 use Rattle.float.specs.SqrtLaws.{Cmp, cmp}
 
 -- ---- `compare`

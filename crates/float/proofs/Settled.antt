@@ -8,7 +8,7 @@ use native.Mathlib.Nat.{lt-of-not-le, lt-of-lt-of-le}
 use lib.Dec.{lit≤}
 use native.Mathlib.Omega.{arith}
 use Rattle.wide.specs.Isqrt.{isqrt}
-use Rattle.float.specs.Post.{rounded, radicand}
+use Rattle.float.specs.RootInner.{rounded, radicand}
 use Rattle.float.proofs.Shapes.{pinned, half-square, square-next, in-range, not-top, round-down, round-up, words52}
 
 pub square-small : (s h l : ℕ) → s < 2 ^ 54 → h * 2 ^ 64 + l ≡ s * s → h < 2 ^ 63

@@ -6,7 +6,7 @@ use native.Mathlib.Nat.{le-trans, le-of-eq, lt-of-not-le, not-le-of-lt, mul-le-m
 use native.Mathlib.Omega.{arith}
 use native.Mathlib.Decide.{decLe}
 use native.Mathlib.Nat.{suc-mul, mul-suc, mul-le-mul-left}
-use Rattle.wide.specs.Isqrt.{isqrt-unique}
+use Rattle.wide.specs.IsqrtLaws.{isqrt-unique}
 use native.Mathlib.Numerals.{add-one}
 use lib.Dec.{T, ltb, lt→ltb}
 use lib.Arith.{le→nltb}
@@ -16,7 +16,7 @@ use lib.Ieee.{nearest}
 use lib.Ieee.Bits.{cond-no}
 use Rattle.wide.specs.Isqrt.{isqrt}
 use Rattle.float.specs.Sqrt.{nearer}
-use Rattle.float.specs.Post.{unitsOf, rounded, radicand}
+use Rattle.float.specs.RootInner.{unitsOf, rounded, radicand}
 use Rattle.float.proofs.Roots.{compare-is, root-range}
 use Rattle.float.specs.SqrtLaws.{Cmp}
 

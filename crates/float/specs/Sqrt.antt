@@ -1,5 +1,5 @@
 -- IEEE 754's squareRoot, in the style of `lib.Ieee`: the exact root, in units of the format's smallest value, rounded once to the nearest, a tie to the even one.
--- Definitions only. Assumes nothing.
+-- Definitions only.
 use mathlib.Core.Bool.{false, cond}
 use Prim.Native.Nat.{ℕ, zero, suc, _+_, _-_, _*_, _/_, _^_, compare}
 use lib.Ieee.{Float, nan, inf, fin, Format, prec, low, up, down, size, nearest, units}

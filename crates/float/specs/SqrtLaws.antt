@@ -22,7 +22,8 @@ use lib.Ieee.Positive.{num, den, positive, den-pos, le→cross}
 use lib.Ieee.{Float, nan, inf, fin, Format, prec, emax, low, up, down, size, nearest, odd, units, fits}
 use lib.Ieee.Digits.{size-le, size-reaches}
 use lib.Ieee.Fits.{two, two-le-pos, odd-fits, nearest-le, kept-lt, cond-fits, nan-fits, inf-fits}
-use Rattle.wide.specs.Isqrt.{isqrt, isqrt-root}
+use Rattle.wide.specs.Isqrt.{isqrt}
+use Rattle.wide.specs.IsqrtLaws.{isqrt-root}
 use Rattle.float.specs.Sqrt.{nearer, rootUnits, sqrt}
 
 -- ---- it fits

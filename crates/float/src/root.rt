@@ -4,7 +4,7 @@ ghost use mathlib.Core.Bool.{true};
 ghost use Prim.Native.Nat.{ℕ, _+_, _-_, _*_, _/_, _%_, _^_, _≤_, _<_};
 ghost use lib.Ieee.{binary64, ofBits};
 ghost use Rattle.float.specs.Sqrt as Sqrt;
-ghost use Rattle.float.specs.Post.{unitsOf, rounded, radicand};
+ghost use Rattle.float.specs.RootInner.{unitsOf, rounded, radicand};
 use std::num::wrapping_sub_u64;
 use wide::hint::root_hint;
 use wide::isqrt::isqrt;

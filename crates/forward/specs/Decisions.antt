@@ -1,4 +1,4 @@
--- A decision, document 01's term: a duration and 16 rows of controls, packed as 1 + 16 c numbers, c to a row. Definitions only.
+-- A decision: a duration and 16 rows of controls, packed as 1 + 16 c numbers, c to a row. Definitions only.
 use Prim.Native.Nat.{ℕ, _+_, _*_}
 use mathlib.Core.List.{List}
 use lib.ListN.{set}

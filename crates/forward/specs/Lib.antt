@@ -1,11 +1,14 @@
--- The forward run: decisions, the step law, runs.
-pub mod Decisions
-pub mod Defects
-pub mod Steps
-pub mod StepLaws
-pub mod Leads
-pub mod Runs
-pub mod RunLaws
-pub mod Launch
-pub mod Pasted
-pub mod Operations
+-- The forward run.
+-- ---- meaning
+pub mod Decisions  -- a decision: a duration and 16 rows of controls; its projection
+pub mod Steps  -- the step law, stage by stage
+pub mod Runs  -- 16 steps and 17 nodes
+pub mod Operations  -- `reconstruct` as a user calls it, the checks first
+-- ---- laws
+pub mod StepLaws  -- what a step needs of the pyramid's skew and matrix, and what it hands on
+pub mod RunLaws  -- what the loop of a run leans on
+pub mod Defects  -- the largest of the defects by one root
+pub mod Pasted  -- a part put back keeps the list's length
+-- ---- inner words of proofs
+pub mod Launch  -- what a run makes once: the skew's sine and cosine, the pyramid's first matrix
+pub mod Leads  -- a step as its lead and its attitude, and that both are the step law's step

@@ -1,4 +1,4 @@
--- `reconstruct` as a user calls it: the problem as given, checks 1 to 6 first, then one forward run. Definitions, and what an admitted problem is.
+-- `reconstruct` as a user calls it: the problem as given, checks 1 to 6 and 22 first, then one forward run. Definitions, and what an admitted problem is.
 use Prim.Native.Nat.{ℕ, _≤_, _<_}
 use mathlib.Core.Path.{_≡_, refl}
 use mathlib.Core.Bool.{Bool, true, false, cond}
@@ -25,7 +25,7 @@ use Rattle.forward.specs.StepLaws.{refused-going}
 use Rattle.forward.specs.declared.Run.{Run}
 use Rattle.forward.specs.declared.Reconstructed.{Reconstructed}
 
--- Checks 1 to 6. Then a row of more than 12 controls, which no actuators that document 01 serves have, and which a packed decision of 193 numbers has no
+-- Checks 1 to 6 and 22. Then a row of more than 12 controls, which no actuators that are served have, and which a packed decision of 193 numbers has no
 -- place for: refusal 8. (A refused check has the blank map, whose rows have 3.)
 unfoldable pub admit : Problem → Checked
 admit p = cond (ltb 12 (controlDim (Problems.check p .problem .map))) (Problems.refused 8 0) (Problems.check p)
@@ -51,7 +51,7 @@ reconstructUnder law p z = reconstructBy (admit p .fate) law (admit p .problem) 
 abbrev pub reconstruct : Problem → List Float → Reconstructed
 reconstruct p z = reconstructUnder Once p z
 
--- document 01's answer: number, place and runs
+-- the answer: a run, or number, place and runs
 abbrev answerBy : Fate → ℕ → Run → Answer Run
 answerBy Fate.Going runs x = Given x
 answerBy (Fate.Refused n place) runs x = Refused n place runs

@@ -1,4 +1,4 @@
--- A forward run, document 01's term: one `reconstruct`, 16 steps and 17 nodes. Definitions only.
+-- A forward run: one `reconstruct`, 16 steps and 17 nodes (SOLVER_NODES). Definitions only.
 use Prim.Native.Nat.{ℕ, _+_}
 use mathlib.Core.List.{List, []}
 use lib.ListN.{getD, set, replicate}

@@ -1,4 +1,4 @@
-// The forward run and the residuals: a decision is run through the step law from the problem's start.
+// The forward run: a decision is run through the step law from the problem's start.
 // Carried over from quatopsy-plan/src/scvx.rs (Apache-2.0), changed: a decision is packed in one array, a refusal is a number and a place, the run keeps
 // its state in locals and lends the actuators' tables to its steps.
 ghost use mathlib.Core.Path.{_≡_};
@@ -101,7 +101,7 @@ pub struct Reconstructed {
     pub run: Run,
 }
 
-// Checks 1 to 6, and that a row has at most 12 controls: no actuators with more are served, and 16 such rows would not fit a packed decision.
+// Checks 1 to 6 and 22, and that a row has at most 12 controls: no actuators with more are served, and 16 such rows would not fit a packed decision.
 pub fn admit(p: Problem) -> Checked
     ensures { λ r. ⌜ r ≡ Operations.admit p ⌝ }
 {

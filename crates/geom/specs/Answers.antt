@@ -1,4 +1,4 @@
--- What each answer of this crate is in document 01's numbers. A leaf called alone names place 0 and 0 runs. Definitions only.
+-- What each answer of this crate is in the specification's numbers. A leaf called alone names place 0 and 0 runs. Definitions only.
 use mathlib.Core.List.{List, [], _∷_}
 use lib.Ieee.{Float}
 use Rattle.common.specs.Answer.{Answer, Given, Refused}

@@ -1,20 +1,18 @@
 -- The laws of floats that the planner's promises rest on.
--- Place, Order: the order, over one line of whole numbers. Numbers, Finite, Signs: no NaN, finite, sign + through an expression, each with a list for `search`.
--- Clamp, Largest: clamps and NaN-dropping maxima. Rounding: monotone rounding of signed sums. Exact, Limits: exact values, limits with their tolerance.
--- Sizes, Unit: bounds by powers of two, lengths near 1. Commute: operands change places. Zeros: zeros of either sign. Below: facts about every number below n.
-pub mod Place
-pub mod Numbers
-pub mod Order
-pub mod Signs
-pub mod Finite
-pub mod Clamp
-pub mod Rounding
-pub mod Below
-pub mod Largest
-pub mod Exact
-pub mod Limits
-pub mod Sizes
-pub mod Commute
-pub mod Zeros
-pub mod Unit
-pub mod Examples
+-- ---- laws
+pub mod Place  -- the values of a format on one line of whole numbers, by which they are compared
+pub mod Order  -- `lt` and `le`: they go over to the places
+pub mod Numbers  -- no NaN: from a result back to its operands (`search numbers`)
+pub mod Finite  -- finite: from a result back to its operands (`search finites`)
+pub mod Signs  -- sign +: sizes, squares, their sums and roots (`search pluses`)
+pub mod Clamp  -- clamps: within the limits, twice, odd, nested
+pub mod Largest  -- the largest of some floats, where a NaN is dropped
+pub mod Rounding  -- rounding of signed sums keeps the order
+pub mod Exact  -- the exact value of a finite float
+pub mod Limits  -- a control within its limit, and a tolerance of 1e-9, as exact numbers
+pub mod Sizes  -- bounds by powers of two, through sums, products and quotients
+pub mod Unit  -- lengths near 1, and numbers over them
+pub mod Commute  -- operands change places
+pub mod Zeros  -- zeros of either sign
+pub mod Below  -- facts about every number below n
+pub mod Examples  -- the laws at work

@@ -1,12 +1,12 @@
--- The weighted mean of two f64 and its laws.
--- Means: what is said. MeanLaws: that it holds, for every fraction from 0 to 1. Fractions: a computed fraction of finite times is one. Weights: the fractions 0 and 1.
--- Grids, Totals, Bounds: rounding to p digits, why nothing overflows, how large a mean is, over whole numbers. Results, Rounded: the same of floats of either format.
-pub mod Means
-pub mod Weights
-pub mod Grids
-pub mod Totals
-pub mod Bounds
-pub mod Results
-pub mod Rounded
-pub mod MeanLaws
-pub mod Fractions
+-- The weighted mean of two floats.
+-- ---- meaning
+pub mod Means  -- the mean, and what is said of it
+-- ---- laws
+pub mod MeanLaws  -- for every fraction from 0 to 1 it is finite and hardly larger than the larger part
+pub mod Fractions  -- a computed fraction of finite times is from 0 to 1
+pub mod Weights  -- the fractions 0 and 1
+pub mod Rounded  -- the mean of values of either format, rounded at each step
+pub mod Results  -- sizes of rounded products and sums
+pub mod Bounds  -- how large a mean is, over whole numbers
+pub mod Totals  -- why it stays below the overflow, over whole numbers
+pub mod Grids  -- how far rounding to p digits goes, over whole numbers

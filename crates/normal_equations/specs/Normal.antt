@@ -22,7 +22,7 @@ line a i = getD a i []
 abbrev pub cell : List (List Float) → ℕ → ℕ → Float
 cell a i j = at (line a i) j
 
--- 1e-6: the step of a forward difference, by which the difference is divided
+-- FD_EPS, 1e-6: the step of a forward difference, by which the difference is divided
 abbrev pub fdEps : Float
 fdEps = ofBits binary64 0x3EB0_C6F7_A0B5_ED8D
 

@@ -1,5 +1,5 @@
-// Carried over from quatopsy-plan/src/scvx.rs (Apache-2.0), changed: the normal equations of a Levenberg-Marquardt step, on lent parts of a workspace.
-// The Jacobian lies by columns; half of the matrix is summed, eight cells at a time, and mirrored.
+// The normal equations of a Levenberg-Marquardt step. Carried over from quatopsy-plan/src/scvx.rs (Apache-2.0), changed: parts of a workspace are lent,
+// the Jacobian lies by columns; half of the matrix is summed, eight cells at a time, and mirrored.
 ghost use mathlib.Core.Path.{_≡_};
 ghost use Prim.Native.Nat.{_+_, _*_, _≤_};
 ghost use lib.ListN.{length, replicate, take, drop};

@@ -57,7 +57,7 @@ printed a = printedBy (a .fate) (a .runs) (a .path)
 
 -- ---- what is told of it, and the lent buffers at exit. A buffer of less than 16,384 bytes gets nothing, and then no run begins.
 
--- 99, which no refusal of document 01 is
+-- 99, which is no refusal's number
 abbrev pub noRoom : Told
 noRoom = record { fate = Refused 99 0; bytes = 0 }
 

@@ -31,7 +31,7 @@ use Rattle.problem.proofs.Problem as ProblemOf
 use Rattle.run_laws.specs.Values.{FitsQ}
 use Rattle.run_laws.specs.Prepared.{RateFits}
 use Rattle.run_laws.specs.Checked.{SlewFits, FitsP}
-use Rattle.search_laws.specs.Decisions.{Fit}
+use Rattle.search_laws.specs.Fits.{Fit}
 use Rattle.search_laws.specs.Prepared.{FitsA}
 use Rattle.search_laws.specs.Declared.{given-fits}
 

@@ -1,1 +1,2 @@
+-- What the proofs of both entries use.
 mod Fitting

@@ -15,7 +15,8 @@ use Rattle.scvx.specs.Search.{search, searched}
 use Rattle.scvx.specs.declared.Candidate.{Candidate}
 use Rattle.run_laws.specs.Values.{goes}
 use Rattle.search_laws.specs.Keeps.{Gone, search-gone}
-use Rattle.search_laws.specs.Made.{LastTaken, Made, by-seed, by-trial, stateAt, searched-made}
+use Rattle.search_laws.specs.Made.{LastTaken, Made, by-seed, by-trial, stateAt}
+use Rattle.search_laws.specs.MadeLaws.{searched-made}
 use Rattle.planner.specs.Plans as Plans
 use Rattle.planner.specs.Promises.{HeldBy, as-seed, as-trial}
 

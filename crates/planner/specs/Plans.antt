@@ -1,4 +1,4 @@
--- The planner's two entries as definitions: the checks of document 01's table in their order, the seed's decision, the search, the end checks. Definitions only.
+-- The planner's two entries as definitions: the checks in the specification's order, the seed's decision, the search, the end checks. Definitions only.
 use Prim.Native.Nat.{ℕ}
 use mathlib.Core.Bool.{Bool, true, cond, _&&_}
 use mathlib.Core.List.{List}
@@ -99,7 +99,7 @@ withSeed p counted duration torques size = servedBy (served (p .map)) p counted 
 abbrev pub counted : List Float → List Float → Bool
 counted rates torques = eqb (length rates) 51 && eqb (length torques) 51
 
--- 1 to 6
+-- 1 to 6 and 22
 abbrev pub planFromBy : Fate → CheckedProblem → Float → List Float → List Float → ℕ → Planned
 planFromBy (Refused number place) p duration rates torques size = refused number place 0
 planFromBy Going p duration rates torques size = withSeed p (counted rates torques) duration torques size
@@ -134,7 +134,7 @@ plan p size = planBy (check p .fate) (check p .problem) size
 unfoldable pub leaves : ℕ → List Float → List Float
 leaves runs ws = cond (eqb runs 0) ws (replicate (length ws) plusZero)
 
--- ---- document 01's answer: number, place and runs
+-- ---- the answer: a path, or number, place and runs
 abbrev answerBy : Fate → ℕ → Path → Answer Path
 answerBy Going runs path = Given path
 answerBy (Refused number place) runs path = Answers.Refused number place runs

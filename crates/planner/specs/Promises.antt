@@ -1,4 +1,4 @@
--- Demand 3, whole: what holds of an answered path, for every problem, every seed and every workspace. The words are document 01's. Assumes nothing.
+-- Demand 3, whole: what holds of an answered path, for every problem, every seed and every workspace. In the specification's words. Definitions only.
 use mathlib.Core.Path.{_≡_}
 use mathlib.Core.Bool.{false}
 use mathlib.Core.List.{List, [], _∷_}
@@ -132,7 +132,7 @@ pub record Promised (p : Problem) (seed : List Float) (path : Path) (reported : 
   pub finite-nodes : (k : ℕ) → k < 17 → FiniteNode (nodeAt (path .nodes) k)
   pub finite-momenta : (k : ℕ) → k < 16 → Fine3 (nodeAt (path .nodes) k .h)
 
--- ---- what an entry's answer r says, in document 01's numbers: a path of which demand 3 holds, or a refusal beside which the path is blank
+-- ---- what an entry's answer r says, in the specification's numbers: a path of which demand 3 holds, or a refusal beside which the path is blank
 pub record Answers (p : Problem) (seed : List Float) (r : Planned) : Type 0 where
   pub given : (path : Path) → Plans.answer r ≡ Given path → Promised p seed path (r .runs)
   pub refused : (number place runs : ℕ) → Plans.answer r ≡ Refused number place runs → r ≡ Plans.refused number place runs

@@ -47,16 +47,16 @@ use Rattle.run_laws.specs.Paths.{control, rerun}
 use Rattle.run_laws.specs.Residuals.{residuals-count}
 use Rattle.run_laws.specs.Runs.{Spare}
 use Rattle.search_laws.specs.Answers.{limitIn, Answered, answered}
-use Rattle.search_laws.specs.Better.{better-as}
+use Rattle.search_laws.specs.BetterLaws.{better-as}
 use Rattle.search_laws.specs.Counts.{runs-most}
 use Rattle.search_laws.specs.Declared.{controlsOf, Same, check-same, controls-same, limit-same}
-use Rattle.search_laws.specs.Decisions.{Fit}
+use Rattle.search_laws.specs.Fits.{Fit}
 use Rattle.search_laws.specs.OwnSeed.{duration-fits, torques-fit}
 use Rattle.search_laws.specs.Seeds.{seed-long, seed-past, seed-fits, seed-projected}
 use Rattle.planner.specs.Plans as Plans
 use Rattle.planner.specs.HeldKept.{path-held, counts-most, counts-past}
 use Rattle.planner.specs.Promises.{PassesByLess, residualLength, Promised, Answers, ownSeed, ownHeld}
-use Rattle.planner.specs.Refusals.{Blank, plan-blank, plan-from-blank}
+use Rattle.planner.specs.RefusalLaws.{Blank, plan-blank, plan-from-blank}
 use Rattle.planner.specs.declared.Path.{Path}
 use Rattle.planner.specs.declared.Planned.{Planned}
 
@@ -273,7 +273,7 @@ module _ (p : Problem) (F : FitsP p) where
   pub plan-held : (size : ℕ) → Plans.plan p size .fate ≡ Going → search (check p .problem) (ownSeed (check p .problem)) .tried ≡ false → Plans.plan p size .path .held ≡ ownHeld (check p .problem)
   plan-held size g = own-whole size g .1
 
--- ---- what the entries answer, in document 01's numbers
+-- ---- what the entries answer, in the specification's numbers
 module _ (r : Planned) where
   given-path : (path : Path) → Plans.answer r ≡ Given path → (r .fate ≡ Going) × (r .path ≡ path)
   given-path path h = go (r .fate) refl

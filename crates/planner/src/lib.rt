@@ -1,4 +1,4 @@
-// The planner: every check in document 01's order, the seed, the search, the end checks, and the two entries, with our seed and with a caller's.
+// The planner: every check in the specification's order, the seed, the search, the end checks, and the two entries, with our seed and with a caller's.
 // Carried over from `solve` of quatopsy-plan/src/scvx.rs (Apache-2.0), changed: one lent workspace, every answer with its runs, refusals as numbers.
 ghost use mathlib.Core.Path.{_≡_};
 ghost use mathlib.Core.Bool.{Bool, true};
@@ -11,7 +11,7 @@ ghost use Rattle.geom.specs.Vec.{plusZero};
 ghost use Rattle.planner.specs.Plans as Plans;
 ghost use Rattle.planner.specs.Outcomes.{Outcome};
 ghost use Rattle.planner.specs.Promises as Promises;
-ghost use Rattle.search_laws.specs.Decisions.{Fit};
+ghost use Rattle.search_laws.specs.Fits.{Fit};
 ghost use Rattle.problem.specs.Problems as Problems;
 use actuators::control_dim;
 use common::Fate;

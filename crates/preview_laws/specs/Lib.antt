@@ -1,5 +1,7 @@
--- Previews and starts: sequences of them as definitions, the same momenta before the planner, and what holds over every sequence.
-pub mod Events
-pub mod EventLaws
-pub mod SameStarts
-pub mod Entries
+-- Previews and starts in any sequence.
+-- ---- meaning
+pub mod Events  -- what each event answers, what is on record after it, the path started last
+-- ---- laws
+pub mod Entries  -- what holds over every sequence, for both entries
+pub mod EventLaws  -- the same for any planner
+pub mod SameStarts  -- the planner reads of the momenta the wheels and nothing else

@@ -1,4 +1,4 @@
--- What the checks answer, in document 01's terms. Definitions only.
+-- What the checks answer: a checked problem, or a refusal before any run. Definitions only.
 use Rattle.common.specs.Answer.{Answer, Given, Refused}
 use Rattle.common.specs.declared.Fate.{Fate}
 use Rattle.common.specs.declared.Fate.the-variants as Fate

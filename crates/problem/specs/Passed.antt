@@ -16,7 +16,7 @@ use Rattle.geom.specs.Tensors.{invertSpd}
 use Rattle.actuators.specs.declared.ActuatorMap.{ActuatorMap}
 use Rattle.actuators.specs.Maps.{isSized}
 use Rattle.actuators.specs.Prepare.{prepare}
-use Rattle.actuators.specs.Ready.{prepared-sized}
+use Rattle.actuators.specs.ReadyLaws.{prepared-sized}
 use Rattle.problem.specs.declared.Problem.{Problem}
 use Rattle.problem.specs.declared.Checked.{Checked}
 use Rattle.problem.specs.Problems as Problems

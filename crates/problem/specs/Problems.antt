@@ -1,4 +1,4 @@
--- Checks 1 to 6 of document 01 and 22, and the problem that passed them. Definitions only.
+-- Checks 1 to 6 and 22, and the problem that passed them. Definitions only.
 use Prim.Native.Nat.{ℕ}
 use mathlib.Core.Bool.{Bool, true, false, not, cond, _&&_}
 use mathlib.Core.List.{List}

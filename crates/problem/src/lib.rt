@@ -1,4 +1,4 @@
-// The problem as a user gives it, checks 1 to 6 of document 01 and 22 in their order, and the checked problem that every forward run reads.
+// The problem as a user gives it, checks 1 to 6 and 22 in their order, and the checked problem that every forward run reads.
 // Carried over from quatopsy-plan/src/scvx.rs (`SolverProblem`, `Weights`) and src/lib.rs (the checks of `plan`), Apache-2.0, changed: one record for
 // all inputs, the two tolerances and the wheels' start momenta as fields, refusals as numbers, both attitudes normalized and the inertia inverted once.
 ghost use mathlib.Core.Path.{_≡_};
@@ -271,7 +271,7 @@ pub fn with_map(p: Problem, map: ActuatorMap) -> Checked
     }
 }
 
-// Checks 1 to 6 in document 01's order, and 22 after 4.
+// Checks 1 to 6 in the specification's order, and 22 after 4.
 pub fn check(p: Problem) -> Checked
     ensures { λ r. ⌜ r ≡ Problems.check p ⌝ }
 {

@@ -1,4 +1,4 @@
--- Document 01's example and texts near it, read by the definition. Assumes nothing.
+-- The specification's example and texts near it, read by the definition. Assumes nothing.
 use Prim.Native.String.{String, _++_}
 use mathlib.Core.Path.{_≡_, refl}
 use Rattle.common.specs.Iter.{iter}
@@ -20,7 +20,7 @@ text qf momenta list =
 abbrev Reads : String → Fate → Type 0
 Reads t f = readProblem (bytes t) .fate ≡ f
 
--- the paper's text; no line 10; no line feed; a line after the end; a list in another order
+-- the specification's text; no line 10; no line feed; a line after the end; a list in another order
 examples :
     Reads (text "3FF 0 0 0" "" " (actuators))\n") Going
     × Reads (text "3FF 0 0 0" "" "") (Refused 21 10)

@@ -1,4 +1,6 @@
--- A problem's text: what every list of bytes means, as a problem or as the line of refusal 21.
-pub mod Listing
-pub mod Reader
-pub mod Examples
+-- A problem's text.
+-- ---- meaning
+pub mod Reader  -- what every list of bytes means: a problem, or the line that is wrong
+pub mod Listing  -- the list of actuators in it
+-- ---- laws
+pub mod Examples  -- the specification's example and texts near it

@@ -142,7 +142,7 @@ readIn f s = readOf (headAt f s 0) (listAt f s (headAt f s 0 .at))
 abbrev pub readProblem : List ℕ → Read
 readProblem s = readIn loose s
 
--- ---- in document 01's terms
+-- ---- as an answer: a problem, or refusal 21 and its line
 abbrev answerBy : Fate → Problem → Answer.Answer Problem
 answerBy Going p = Answer.Given p
 answerBy (Refused number line) p = Answer.Refused number line 0

@@ -1,4 +1,4 @@
--- What each answer of this crate is in document 01's numbers, before any run. The attitude of a profile answers as `exp_so3` does. Definitions only.
+-- What each answer of this crate is in the specification's numbers, before any run. The attitude of a profile answers as `exp_so3` does. Definitions only.
 use mathlib.Core.List.{List, [], _∷_}
 use lib.Ieee.{Float}
 use Rattle.common.specs.Answer.{Answer, Given, Refused}

@@ -137,7 +137,7 @@ blank = record {
   q0 = quat plusZero plusZero plusZero plusZero;
 }
 
--- no profile: document 01's number and place
+-- no profile: refusal 7 and its place
 abbrev pub refused : Fate → Profiled
 refused f = record { fate = f; profile = blank }
 

@@ -1,5 +1,5 @@
 // The eigenaxis profile of a slew and the seed that is sampled from it. Carried over from quatopsy-plan/src/lib.rs and `sample_seed` of
-// src/scvx.rs (Apache-2.0), changed: refusals are document 01's numbers, the tie tolerance is an argument, the seed's two closures are the profile's own functions.
+// src/scvx.rs (Apache-2.0), changed: refusals are numbers, the tie tolerance is an argument, the seed's two closures are the profile's own functions.
 
 ghost use mathlib.Core.Path.{_≡_};
 ghost use Prim.Native.Nat.{_+_, _*_, _<_};

@@ -1,4 +1,4 @@
--- Document 01, "Proved examples": each example as what the definitions work out beside what the document states, in one list, with one fact over all of
+-- docs/SPECIFICATION.md, "Examples": each example as what the definitions work out beside what is stated there, in one list, with one fact over all of
 -- it that the checker computes. Assumes nothing.
 use Prim.Native.Nat.{ℕ}
 use mathlib.Core.Path.{_≡_, refl}
@@ -28,7 +28,7 @@ half = ofBits binary64 0x3fe0_0000_0000_0000
 abbrev quarter : Float
 quarter = ofBits binary64 0x3fd0_0000_0000_0000
 
--- ---- what an example works out: numbers, a refusal of document 01, or "singular"; a refusal is never an empty list of numbers
+-- ---- what an example works out: numbers, a refusal, or "singular"; a refusal is never an empty list of numbers
 pub data Result : Type 0 where
   Numbers : List Float → Result
   NoAnswer : ℕ → ℕ → ℕ → Result
@@ -96,7 +96,7 @@ abbrev pub statedAll : List Example → List Result
 statedAll [] = []
 statedAll (e ∷ es) = e .stated ∷ statedAll es
 
--- THE FACT: every example is as document 01 states it
+-- THE FACT: every example is as the specification states it
 pub all-hold : computedAll examples ≡ statedAll examples
 unfolding solveDense Rattle.elimination.specs.Elimination.pivot Rattle.elimination.specs.Elimination.swapRows Rattle.elimination.specs.Elimination.swapRight Rattle.elimination.specs.Elimination.divided Rattle.elimination.specs.Elimination.divideRow Rattle.elimination.specs.Elimination.divideRight Rattle.elimination.specs.Elimination.less Rattle.elimination.specs.Elimination.eliminate Rattle.elimination.specs.Elimination.eliminateRight Rattle.elimination.specs.Elimination.reduce Rattle.normal_equations.specs.Tab.tab Rattle.common.specs.Iter.iter Quats.norm3 Quats.expAt Quats.logAt Quats.logSo3 Tensors.isSpd Tensors.scaledAdjugate Tensors.inverseBy Tensors.invertSpd acosOf Rattle.angles.specs.Arcs.inUnit Rattle.angles.specs.Arcs.arcTerm Rattle.angles.specs.Arcs.arcSum Rattle.angles.specs.Arcs.arcOf Rattle.float.specs.Ops.abs Rattle.float.specs.Ops.max Rattle.float.specs.Ops.clamp Rattle.float.specs.Sqrt.sqrt Rattle.float.specs.Sqrt.rootUnits Rattle.wide.specs.Isqrt.isqrt Rattle.wide.specs.Isqrt.digits switchTimes Rattle.profile.specs.Profiles.coasting Rattle.profile.specs.Profiles.limited lib.Ieee.ofBits lib.Ieee.ofInt lib.Ieee.add lib.Ieee.sub lib.Ieee.mul lib.Ieee.div lib.Ieee.neg lib.Ieee.lt lib.Ieee.le lib.Ieee.eq lib.Ieee.round lib.Ieee.units lib.Ieee.sum lib.Ieee.size lib.Ieee.odd
 all-hold = refl

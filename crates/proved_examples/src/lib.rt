@@ -1,1 +1,1 @@
-// Document 01, "Proved examples": one list, one fact over all of it, in specs/Examples.antt. No code of its own.
+// docs/SPECIFICATION.md, "Examples": one list, one fact over all of it, in specs/Examples.antt. No code of its own.

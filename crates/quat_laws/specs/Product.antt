@@ -1,8 +1,6 @@
--- Hamilton's product as one rule over any operations, and the squared length; geom's product and dot product are these at the operations of binary64. Assumes nothing.
-use mathlib.Core.Path.{_≡_, refl}
-use lib.Ieee.{Float, binary64, add, sub, mul}
+-- Hamilton's product as one rule over any operations, and the squared length. Definitions only.
+use lib.Ieee.{Float, add, sub, mul}
 use Rattle.geom.specs.declared.Quat.{Quat}
-use Rattle.geom.specs.Quats.{quatMul, dotQ}
 
 -- four parts, the scalar one first
 pub record Quaternion (A : Type 0) : Type 0 where
@@ -27,18 +25,9 @@ hamilton add sub mul a b = record {
 abbrev pub squaredLength : {A : Type 0} → (A → A → A) → (A → A → A) → Quaternion A → A
 squaredLength add mul a = add (add (add (mul (a .w) (a .w)) (mul (a .x) (a .x))) (mul (a .y) (a .y))) (mul (a .z) (a .z))
 
--- ---- geom's product is the rule, rounded after each operation
-
 -- geom's quaternion as four parts, and back
 abbrev pub parts : Quat → Quaternion Float
 parts q = quaternion (q .w) (q .x) (q .y) (q .z)
 
 abbrev pub fromParts : Quaternion Float → Quat
 fromParts p = record { w = p .w; x = p .x; y = p .y; z = p .z }
-
-pub product-rounded : (a b : Quat) → quatMul a b ≡ fromParts (hamilton (add binary64) (sub binary64) (mul binary64) (parts a) (parts b))
-unfolding quatMul
-product-rounded a b = refl
-
-pub squared-length-rounded : (q : Quat) → dotQ q q ≡ squaredLength (add binary64) (mul binary64) (parts q)
-squared-length-rounded q = refl

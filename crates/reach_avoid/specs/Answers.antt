@@ -1,4 +1,4 @@
--- What each answer of this crate is in document 01's numbers: 27, at place 0 and before any run, for what is outside. Definitions only.
+-- What each answer of this crate is in the specification's numbers: 27, at place 0 and before any run, for what is outside. Definitions only.
 use Prim.Native.Nat.{ℕ}
 use lib.IntN.{ℤ, pos}
 use Rattle.common.specs.Answer.{Answer, Given, Refused}

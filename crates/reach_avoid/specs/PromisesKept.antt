@@ -191,7 +191,7 @@ region-part t h (suc k) l =
 pub region-right : (t : List ℕ) → Holds 64 t → t ≡ region
 region-right t h = sym (take-all 2193 t (omega (arith, h .size))) ∙ region-part t h 2193 (omega arith)
 
--- in document 01's numbers a start outside is 27, and no other is refused
+-- in the specification's numbers a start outside is 27, and no other is refused
 pub outside-27 : (s : State) → inside s ≡ false → ofStart (outcome s) ≡ Refused 27 0 0
 outside-27 s e = ap ofStart (sym (outcome-out s e))
 

@@ -33,3 +33,7 @@ pub record Holds (m : ℕ) (t : List ℕ) : Type 0 where
 pub record Start (s : State) (r : ℕ) : Type 0 where
   pub outside : r ≡ 2193 → inside s ≡ false
   pub entry : (r ≡ 2193 → ⊥) → (r < 2193) × (inside s ≡ true) × (s ≡ stateAt r)
+
+-- the fewest turns as the entries hold them
+abbrev pub turnsAt : ℕ → ℕ → ℕ
+turnsAt m k = fewest room 255 m (stateAt k)

@@ -16,7 +16,7 @@ use Rattle.reach_avoid.specs.Game.{keeps, answer, choice, wins, fewest}
 use Rattle.reach_avoid.specs.GameLaws.{answer-same, choice-same}
 use Rattle.reach_avoid.specs.FewestLaws.{fewest-wins, fewest-home}
 use Rattle.reach_avoid.specs.Room.{within, State, room, inside, home, next, spot, stateAt}
-use Rattle.reach_avoid.specs.TableInner.{cell, entryOf, below, stepped, Holds, Start}
+use Rattle.reach_avoid.specs.TableInner.{cell, entryOf, below, stepped, Holds, Start, turnsAt}
 
 -- a state by its two differences
 pub spot-of : {s : State} {x y : ℕ} → Is (s .angle) x 64 → Is (s .rate) y 8 → s ≡ spot x y
@@ -139,10 +139,6 @@ stored-more F H k t v h s e =
     by : (x : ℕ) → x < k + 1 → (b : Bool) → eqb x k ≡ b → getD (set t k v) x 0 ≡ F x
     by x l true q = let i : x ≡ k = eqb-true x k q in rw i (getD-set-same t k v 0 (omega (arith, s .size)) ∙ e)
     by x l false q = let ne : x ≡ k → ⊥ = eqb-false x k q in getD-set-other t k x v 0 ne ∙ s .done x (omega arith)
-
--- the fewest turns as the entries hold them
-abbrev pub turnsAt : ℕ → ℕ → ℕ
-turnsAt m k = fewest room 255 m (stateAt k)
 
 -- where each entry up to j is told from the others as the wins in j turns are, so are the states inside
 pub below-by : (j : ℕ) (t : List ℕ) → ((x : ℕ) → x < 2193 → ltb (getD t x 0) (suc j) ≡ wins room j (stateAt x)) → (s : State) → inside s ≡ true → below t (suc j) s ≡ wins room j s

@@ -15,8 +15,7 @@ ghost use Rattle.reach_avoid.specs.Game.{answer, choice, fewest};
 ghost use Rattle.reach_avoid.specs.Room as Room;
 ghost use Rattle.reach_avoid.specs.Room.{room, next, spot, stateAt, telling, replying};
 ghost use Rattle.reach_avoid.specs.Promises.{OutcomePromise, ReplyPromise};
-ghost use Rattle.reach_avoid.specs.TableInner.{entryOf, below, stepped, Holds, Start};
-ghost use Rattle.reach_avoid.specs.TableLaws.{turnsAt};
+ghost use Rattle.reach_avoid.specs.TableInner.{entryOf, below, stepped, Holds, Start, turnsAt};
 
 // What is told of a start: it is home, or forced home (the fewest turns, the lowest first choice), or held off for 64 turns, or outside the ranges.
 pub enum StartOutcome {

@@ -1,2 +1,3 @@
 -- What a refusal means, in words.
-pub mod Sentences
+-- ---- meaning
+pub mod Sentences  -- the sentence of each refusal

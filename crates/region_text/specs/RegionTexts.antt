@@ -35,7 +35,7 @@ replyForm (DraughtReply.With d) = adds d
 replyForm DraughtReply.Without = bytes "(reply\n (none))\n"
 replyForm DraughtReply.Outside = []
 
--- an answer is printed in its form, or as a refusal with document 01's numbers; a refusal's sentence goes to standard error
+-- an answer is printed in its form, or as a refusal with its numbers; a refusal's sentence goes to standard error
 abbrev pub printed : {A : Type 0} → Answer A → List ℕ → List ℕ
 printed (Given a) form = form
 printed (Refused number place runs) form = refused number place runs

@@ -1,2 +1,3 @@
--- The definitions that the contracts cite.
-pub mod Heads
+-- What the replay of stored texts needs.
+-- ---- meaning
+pub mod Heads  -- where the parts of a stored text stand

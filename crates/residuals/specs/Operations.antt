@@ -21,7 +21,7 @@ residualsBy Fate.Going p z = record { runs = 1; residuals = residualsOf p z }
 unfoldable pub residuals : Problem → List Float → Measured
 residuals p z = residualsBy (admit p .fate) (admit p .problem) z
 
--- ---- document 01's answer: number, place and runs
+-- ---- the answer: the residuals, or number, place and runs
 abbrev answerBy : Fate → ℕ → ResidualVector → Answer ResidualVector
 answerBy Fate.Going runs x = Given x
 answerBy (Fate.Refused n place) runs x = Refused n place runs

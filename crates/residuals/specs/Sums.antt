@@ -20,7 +20,7 @@ nodeAt ns k = getD ns k noNode
 abbrev pub squares : (ℕ → Float) → ℕ → Float
 squares f n = iter (λ (k : ℕ) (e : Float). add binary64 e (mul binary64 (f k) (f k))) Vec.plusZero n
 
--- the computed length of the first n numbers of r: document 01's residual length where r is the residuals
+-- the computed length of the first n numbers of r: the residual length where r is the residuals
 unfoldable pub normSlice : List Float → ℕ → Float
 normSlice r n = sqrt binary64 (squares (at r) n)
 

@@ -12,7 +12,7 @@ use lib.Ieee.{Float, nan, inf, fin, binary64, low, up, down, round, mul, div, lt
 use lib.Ieee.Fits.{and-i, add-fits}
 use lib.Ieee.Nearest.{div-mono}
 use lib.Ieee.Scale.{finite}
-use Rattle.wide.specs.Isqrt.{isqrt-root}
+use Rattle.wide.specs.IsqrtLaws.{isqrt-root}
 use Rattle.float.specs.Ops.{clamp}
 use Rattle.float.specs.SqrtLaws.{sqrt-fits}
 use Rattle.laws.specs.Place.{mag, mid, place}

@@ -12,7 +12,7 @@ use Rattle.laws.specs.Order.{held, not-most}
 use Rattle.laws.specs.Limits.{Limit}
 use Rattle.actuators.specs.Maps.{plusZero}
 use Rattle.actuators.specs.Prepare as Prepare
-use Rattle.actuators.specs.Ready.{Sound, prepared}
+use Rattle.actuators.specs.ReadyLaws.{Sound, prepared}
 use Rattle.actuators.specs.declared.CmgPyramid.{CmgPyramid}
 use Rattle.actuators.specs.declared.Cmgs.{Cmgs}
 use Rattle.actuators.specs.declared.Cmgs.the-variants.{Without, With}

@@ -1,5 +1,5 @@
--- Words for what holds of lists of floats and attitudes, and the two outcomes of a test. Definitions, and laws that assume nothing.
-use mathlib.Core.Bool.{Bool, true, false, not, cond}
+-- Words for what holds of lists of floats and of attitudes. Definitions only.
+use mathlib.Core.Bool.{Bool, true, false}
 use mathlib.Core.List.{List}
 use Prim.Native.Nat.{ℕ, _<_}
 use lib.Dec.{T}
@@ -46,13 +46,3 @@ pub record WithinQ (k : ℕ) (q : Quat) : Type 0 where
   pub x : Within binary64 k (q .x)
   pub y : Within binary64 k (q .y)
   pub z : Within binary64 k (q .z)
-
--- what is past a test that refuses: the test failed, and the rest goes on
-pub past : {A : Type 0} (ok : A → Bool) (b : Bool) (x y : A) → (T (ok x) → ⊥) → T (ok (cond b x y)) → T (not b) × T (ok y)
-past ok true x y h t = absurd (h t)
-past ok false x y h t = (tt, t)
-
--- both outcomes of a test
-pub outcomes : {X A : Type 0} (P : A → Type 0) (b : Bool) (x y : A) → (T b → P x → X) → (T (not b) → P y → X) → P (cond b x y) → X
-outcomes P true x y p q t = p tt t
-outcomes P false x y p q t = q tt t

@@ -18,7 +18,7 @@ use Rattle.forward.specs.Decisions.{stepTime}
 use Rattle.forward.specs.declared.Node.{Node}
 use Rattle.residuals.specs.Sums.{nodeAt}
 use Rattle.run_laws.specs.Checked.{FitsP}
-use Rattle.search_laws.specs.Decisions.{Fit}
+use Rattle.search_laws.specs.Fits.{Fit}
 use Rattle.planner.specs.Plans as Plans
 use Rattle.planner.specs.Promises.{Promised, Answers}
 use Rattle.planner.specs.PromisesKept.{plan-answers, plan-from-answers}

@@ -1,10 +1,10 @@
--- The rates of an answered path's dense samples.
--- Between: what is promised. BetweenKept: that both entries keep it. Rows, Courses, Instants, Walks: a path's rows, the nodes of a run, the samples' times, the walk to a sample's two nodes.
--- Rates: one sample.
-pub mod Between
-pub mod Rows
-pub mod Courses
-pub mod Instants
-pub mod Walks
-pub mod Rates
-pub mod BetweenKept
+-- Between the nodes: the rates of an answered path's dense samples.
+-- ---- meaning
+pub mod Between  -- what is promised
+-- ---- laws
+pub mod BetweenKept  -- both entries keep it
+pub mod Rates  -- one sample against its two nodes
+pub mod Courses  -- the nodes of a run: times and rates
+pub mod Instants  -- the times of nodes and samples
+pub mod Rows  -- a path's rows by its nodes
+pub mod Walks  -- the walk to a sample's two nodes

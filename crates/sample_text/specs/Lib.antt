@@ -1,5 +1,7 @@
--- Dense samples of a problem's text: one in numbers, all of them printed.
-pub mod SampleTexts
-pub mod SampleTextLaws
-pub mod SampleLines
-pub mod SampleLineLaws
+-- Dense samples of a problem's text.
+-- ---- meaning
+pub mod SampleTexts  -- one sample in numbers, and what is left of the lent ones
+pub mod SampleLines  -- all samples printed, one step a sample
+-- ---- laws
+pub mod SampleTextLaws  -- what is told of a sample, in the code's steps
+pub mod SampleLineLaws  -- what is printed of it, in the code's steps

@@ -61,7 +61,7 @@ denseBy Fate.Going runs s = record { runs = 0; sampled = s }
 unfoldable pub sampleCourse : Course → ℕ → Float → ℕ → Dense
 sampleCourse c requested alpha index = denseBy (c .fate) (c .runs) (sampleOf c requested alpha index)
 
--- ---- document 01's answer
+-- ---- the answer: a sample, or number, place and runs
 abbrev pub answerBy : {A : Type 0} → Fate → ℕ → A → Answer A
 answerBy Fate.Going runs a = Given a
 answerBy (Fate.Refused number place) runs a = Refused number place runs
@@ -93,7 +93,7 @@ head (Refused n place runs) = float place ∷ float runs ∷ []
 unfoldable pub headed : Answer PathSample → List Float → List Float
 headed a out = head a ++ drop (length (head a)) out
 
--- 99, which no refusal of document 01 is
+-- 99, which is no refusal's number
 unfoldable pub told : Answer PathSample → List Float → ℕ
 told a out = cond (ltb (length out) 14) 99 (number a)
 

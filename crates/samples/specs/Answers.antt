@@ -1,4 +1,4 @@
--- What each answer of this crate is in document 01's numbers: a count or a sample, or a refusal before any run. Definitions only.
+-- What each answer of this crate is in the specification's numbers: a count or a sample, or a refusal before any run. Definitions only.
 use Prim.Native.Nat.{ℕ}
 use Rattle.common.specs.Answer.{Answer, Given, Refused}
 use Rattle.geom.specs.Answers.{ofFate}

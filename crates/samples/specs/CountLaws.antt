@@ -1,6 +1,6 @@
 -- Whole numbers against floats, and the count by its outcomes. Assumes nothing.
 use Prim.Native.Nat.{ℕ, suc, _+_, _*_, _-_, _/_, _^_, _≤_, _<_, max}
-use mathlib.Core.Path.{_≡_, refl, sym, ap, _∙_, subst}
+use mathlib.Core.Path.{_≡_, refl, sym, ap, _∙_}
 use mathlib.Core.Bool.{Bool, true, false, not, cond, true≢false}
 use native.Mathlib.Nat.{le-div-iff-mul-le, div-lt-iff-lt-mul, le-of-suc-le-suc, suc-mul, mul-one, zero-mul, mul-right-comm}
 use native.Mathlib.Omega.{arith}
@@ -21,6 +21,7 @@ use Rattle.laws.specs.Place.{same-lt}
 use Rattle.laws.specs.Signs.{plus, round-plus, round-neg, round-held}
 use Rattle.samples.specs.Counts.{spacing, fromRate, most, held, sampleCount}
 use Rattle.samples.specs.declared.Count.the-variants.{Of, TooMany}
+use Rattle.samples.specs.CountInner.{Steps}
 
 -- k as a float, and x rounded up and cast
 abbrev pub whole : ℕ → Float
@@ -163,10 +164,6 @@ above-zero (inf true) k K h = no (sym h ∙ infinite k (whole k) (value k K) tru
 above-zero (inf false) k K h = unfold lt ofBits in tt
 above-zero (fin true m e) k K h = no (sym h ∙ not-minus k (whole k) (value k K) m e)
 above-zero (fin false m e) k K h = positive k m e (ltb-true (k * down e) (m * up e) (sym (against k (whole k) (value k K) m e) ∙ h))
-
--- ---- a number above 0 and not above 99,999
-abbrev pub Steps : Float → Type 0
-Steps x = T (lt (ofBits binary64 0) x) × (lt (ofBits binary64 0x40f8_69f0_0000_0000) x ≡ false)
 
 by-parts : (P : Float → Type 0) → ((m : ℕ) (e : ℤ) → m * up e ≤ 99999 * down e → P (fin false m e)) → (x : Float) → Steps x → P x
 unfolding lt ofBits

@@ -5,7 +5,7 @@ ghost use lib.IntN.{pos};
 ghost use lib.Ieee.{binary64, ofInt, toUnsigned};
 ghost use Rattle.float.specs.Ops as Ops;
 ghost use Rattle.samples.specs.Counts as Counts;
-ghost use Rattle.samples.specs.CountLaws.{Steps};
+ghost use Rattle.samples.specs.CountInner.{Steps};
 use std::num::truncating_f64_to_u64;
 
 // The time between two samples that keeps the rate's samples consistent.

@@ -1,7 +1,10 @@
--- The search of `solve` in scvx.rs: definitions, how many runs it begins, and what the code keeps besides a state.
-pub mod Search
-pub mod Counts
-pub mod Stands
-pub mod ColumnLaws
-pub mod EquationLaws
-pub mod StepLaws
+-- The search of `solve` in scvx.rs.
+-- ---- meaning
+pub mod Search  -- state, Jacobian, step, trial, iteration, and the whole search
+-- ---- laws
+pub mod Counts  -- how many forward runs it begins
+pub mod ColumnLaws  -- the loop over the Jacobian's columns
+pub mod EquationLaws  -- the equations that the code forms are the search's
+pub mod StepLaws  -- the parts of an iteration by what the code has in hand
+-- ---- inner words of proofs
+pub mod Stands  -- sizes, and what the code keeps besides a state; with their laws

@@ -1,4 +1,33 @@
 -- The search, as `solve` and `jacobian` of scvx.rs have it: a decision, a damping factor and the counts, from iteration to iteration. Definitions only.
+--
+-- Where the lines of oracle/vendor/scvx.rs stand, by what is found in them; with no crate's name, in this file:
+--   `solve`
+--     seed_omega.len() != n, seed_duration <= 0.0           planner `Plans.seeded`: refusal 10
+--     allocate_body_torque, project_controls(&mut row       seeds `Seeds.seedDecision`
+--     lambda = LM_LAMBDA0                                   `firstDamping`, in `startOf`
+--     best = residual_norm(problem, &z)                     `start`, `measured`
+--     for iter in 0..MAX_ITERS                              `searched`: 40 times `turn`, which leaves a search that has ended as it is
+--     iters = iter as u32 + 1, r = residuals(problem, &z)   `begun`, `going`
+--     mag <= DEFECT_TOL                                     `goal`, `improved`
+--     jac = jacobian(problem, &z, &r)                       `jacobian`, in `linear`
+--     a[c][d] += .., a[k][k] += lambda                      `normalMatrix`: normal_equations `Normal.normalMatrix`
+--     g[c] += .., g[k] = -g[k]                              `rightSide`: normal_equations `Normal.rightSide`
+--     solve_dense(&mut a, &mut g)                           `stepOf`: elimination `Elimination.solveDense`
+--     (lambda * 8.0).min(1.0e6)                             `stiffer`, in `steppedBy`
+--     apply_step(&z, &g), project_decision                  `applied`, `trialOf`
+--     trial_norm = residual_norm(problem, &trial)           `tried`, `weighed`
+--     trial_norm < best, z = trial                          `judged`, `moved`
+--     (lambda * 0.3).max(1.0e-8)                            `weaker`
+--     (lambda * 4.0).min(1.0e6)                             `stronger`
+--     path = reconstruct(problem, &z), after the loop       `last`
+--     ATT_TOL, RATE_TOL, max_defect > DEFECT_TOL, > 1.0e-9  ends `Ends.endFate`
+--     out.iterations = iters                                `lastBy`
+--   `jacobian`
+--     for c in 0..n_z                                       `jacobian`, `columnTurn`
+--     plus[c] += FD_EPS, unpack, project_decision           `nudged`, `held`
+--     rp = residuals(problem, &zp)?                         `columnOf`; a refusal is `Broken`
+--     jac[i][c] = (rp[i] - r0[i]) / FD_EPS                  normal_equations `Normal.slopes`, `fdEps`
+--   `packed_len` is `numbers`, `residual_norm` is `residualLength`. Not here: `cancelled`; the test in `jacobian` of how many residuals there are (`width`).
 use Prim.Native.Nat.{ℕ, _+_, _*_}
 use mathlib.Core.Bool.{Bool, true, false, cond}
 use mathlib.Core.List.{List, [], _∷_, _++_}
@@ -36,7 +65,7 @@ numbers p = packedLen (controlDim (p .map))
 unfoldable pub width : CheckedProblem → ℕ
 width p = cond (lt plusZero (p .weights .pointing)) 79 28
 
--- the length of residuals, and a decision's residual length (document 01's term): that of its residuals after one run of the step law on it
+-- the length of residuals, and a decision's residual length: that of its residuals after one run of the step law on it
 abbrev pub lengthOf : CheckedProblem → ResidualVector → Float
 lengthOf p e = normSlice (e .r) (width p)
 
@@ -176,7 +205,7 @@ linearBy p s r (Broken number place runs) = ended (ran s runs) (Refused number p
 unfoldable pub linear : CheckedProblem → State → List Float → State
 linear p s r = linearBy p s r (jacobian p (s .candidate .z) r)
 
--- 0.005
+-- DEFECT_TOL, 0.005
 abbrev pub goal : Float
 goal = ofBits binary64 0x3f74_7ae1_47ae_147b
 
@@ -212,7 +241,7 @@ abbrev pub statusOf : Fate → Status
 statusOf Fate.Going = Going
 statusOf (Fate.Refused number place) = Refused number place
 
--- 0.01, the first damping factor
+-- LM_LAMBDA0, 0.01: the first damping factor
 abbrev pub firstDamping : Float
 firstDamping = ofBits binary64 0x3f84_7ae1_47ae_147b
 
@@ -223,7 +252,7 @@ startOf p seed e = record { candidate = measured seed (e .r) (width p); lambda =
 unfoldable pub start : CheckedProblem → List Float → State
 start p seed = startOf p seed (residualsOf p seed)
 
--- at most 40 iterations
+-- MAX_ITERS: at most 40 iterations
 unfoldable pub searched : CheckedProblem → List Float → State
 searched p seed = iter (turn p) (start p seed) 40
 

@@ -38,7 +38,8 @@ use Rattle.run_laws.specs.Decisions.{Projected, control-small}
 use Rattle.run_laws.specs.Residuals.{residuals-go}
 use Rattle.search_laws.specs.Keeps.{search-gone}
 use Rattle.search_laws.specs.Begun.{seed-measured}
-use Rattle.search_laws.specs.Better.{Better, searched-better}
+use Rattle.search_laws.specs.Better.{Better}
+use Rattle.search_laws.specs.BetterLaws.{searched-better}
 use Rattle.search_laws.specs.Decisions.{Sound, searched-sound}
 use Rattle.search_laws.specs.Ends.{Checked, ends-checked}
 

@@ -24,7 +24,8 @@ use Rattle.geom.specs.Vec.{dot3, one}
 use Rattle.geom.specs.Quats.{norm3, least, unitBy, unit3}
 use Rattle.geom.specs.declared.Axis.{Axis}
 use Rattle.geom.specs.declared.Axis.the-variants.{Is, Not}
-use Rattle.run_laws.specs.Values.{Fine3, Fit3, outcomes}
+use Rattle.run_laws.specs.Values.{Fine3, Fit3}
+use Rattle.run_laws.specs.TestLaws.{outcomes}
 
 -- ---- a number whose square is finite
 

@@ -24,6 +24,7 @@ use Rattle.run_laws.specs.Prepared.{MapOk}
 use Rattle.run_laws.specs.Checked.{Ready}
 use Rattle.run_laws.specs.Decisions.{Projected, Done, all-done, projected-is}
 use Rattle.search_laws.specs.Keeps.{Kept, searched-keeps}
+use Rattle.search_laws.specs.Fits.{Fit}
 
 -- ---- one number of a list set: what holds of the list's numbers and of the new one holds of all
 pub set-all : (P : Float → Type 0) (z : List Float) (k : ℕ) (x : Float) → P x → ((i : ℕ) → P (at z i)) → (i : ℕ) → P (at (set z k x) i)
@@ -32,10 +33,6 @@ set-all P (y ∷ z) zero x p q zero = p
 set-all P (y ∷ z) zero x p q (suc i) = q (suc i)
 set-all P (y ∷ z) (suc k) x p q zero = q 0
 set-all P (y ∷ z) (suc k) x p q (suc i) = set-all P z k x p (λ j. q (suc j)) i
-
--- f64 holds every number of a list
-abbrev pub Fit : List Float → Type 0
-Fit z = (i : ℕ) → T (fits binary64 (at z i))
 
 -- l is as long as z, and from place n on has the same numbers
 pub record Tail (n : ℕ) (z l : List Float) : Type 0 where

@@ -1,4 +1,4 @@
--- What the user declares, in document 01's words, and that a checked problem has it: controls per row, a control's limit, the attitudes normalized, the wheels' starts. Assumes nothing.
+-- What the user declares, in the specification's words, and that a checked problem has it: controls per row, a control's limit, the attitudes normalized, the wheels' starts. Assumes nothing.
 use mathlib.Core.Path.{_≡_, refl, ap, _∙_}
 use mathlib.Core.Bool.{Bool, true, false, not, cond, _&&_}
 use mathlib.Core.List.{List}
@@ -32,7 +32,7 @@ use Rattle.run_laws.specs.Checked.{SlewFits, FitsP}
 use Rattle.search_laws.specs.Answers.{limitIn}
 use Rattle.search_laws.specs.Prepared.{FitsA, prepare-fits, Declared, prepare-declared}
 
--- ---- document 01's words
+-- ---- the specification's words
 -- no actuators
 abbrev pub none : Actuators → Bool
 none a = eqb (a .«wheel_count») 0 && eqb (a .«thruster_count») 0 && noCmgs (a .cmgs)

@@ -1,4 +1,4 @@
--- What the end checks say where none of them refuses: each test that document 01 names failed to find an excess. Assumes nothing.
+-- What the end checks say where none of them refuses: each test that the specification names failed to find an excess. Assumes nothing.
 use mathlib.Core.Path.{_≡_}
 use mathlib.Core.Bool.{not}
 use mathlib.Core.List.{List, [], _∷_}
@@ -18,7 +18,8 @@ use Rattle.forward.specs.declared.Run.{Run}
 use Rattle.residuals.specs.Sums.{nodeAt}
 use Rattle.residuals.specs.Residuals.{errorOf}
 use Rattle.ends.specs.Ends as Ends
-use Rattle.run_laws.specs.Values.{goes, past}
+use Rattle.run_laws.specs.Values.{goes}
+use Rattle.run_laws.specs.TestLaws.{past}
 
 -- 17 to 19 at one node
 pub record Passed (p : CheckedProblem) (n : Node) : Type 0 where

@@ -23,7 +23,7 @@ use Rattle.profile.specs.declared.Acceleration.{Acceleration}
 use Rattle.profile.specs.declared.Acceleration.the-variants as Acceleration
 use Rattle.profile.specs.declared.Switches.{Switches}
 use Rattle.profile.specs.declared.Switches.the-variants as Switches
-use Rattle.search_laws.specs.Decisions.{Fit}
+use Rattle.search_laws.specs.Fits.{Fit}
 use Rattle.search_laws.specs.Seeds.{all-fit, append-fits, zero-fits}
 
 -- ---- the torques

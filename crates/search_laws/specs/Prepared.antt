@@ -20,7 +20,7 @@ use Rattle.geom.specs.declared.Axis.{Axis}
 use Rattle.geom.specs.declared.Axis.the-variants.{Is, Not}
 use Rattle.actuators.specs.Maps as Maps
 use Rattle.actuators.specs.Prepare as Prepare
-use Rattle.actuators.specs.Ready.{prepared}
+use Rattle.actuators.specs.ReadyLaws.{prepared}
 use Rattle.actuators.specs.declared.Cmgs.{Cmgs}
 use Rattle.actuators.specs.declared.Cmgs.the-variants.{Without, With}
 use Rattle.actuators.specs.declared.Actuators.{Actuators}

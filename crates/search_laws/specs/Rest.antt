@@ -31,7 +31,7 @@ use Rattle.search_laws.specs.Prepared.{FitsA, Axes}
 use Rattle.search_laws.specs.Declared.{Same, check-same}
 
 -- ---- words
--- the start of document 01, with every wheel at rest: at q0, no rate, no momentum, the gimbals at +0
+-- the start with every wheel at rest: at q0, no rate, no momentum, the gimbals at +0
 abbrev pub rest : Quat → State
 rest q0 = record { q = q0; w = Vec.zero3; h = Vec.zero3; hw = replicate 8 Vec.plusZero; delta = replicate 4 Vec.plusZero }
 
@@ -88,7 +88,7 @@ module _ (a : Actuators) (F : FitsA a) (t : List Float) where
       let before = sum-rest k (omega arith) (record { long = A .long; is = λ i h. A .is i (omega arith) }) in
       rw (before, getD-replicate 8 k Vec.plusZero nan (omega arith), added (at t (3 * k)) (fine .0), added (at t (3 * k + 1)) (fine .1), added (at t (3 * k + 2)) (fine .2)) refl
 
--- REST: for every problem that passes the checks with starts of +0, the start of its runs is document 01's, bit for bit
+-- REST: for every problem that passes the checks with starts of +0, the start of its runs is `rest`, bit for bit
 pub start-rest : (p : Problem) → FitsA (p .actuators) → T (goes (check p .fate)) → p .actuators .«wheel_count» ≤ 8 → AtRest p → startOf (check p .problem) ≡ rest (check p .problem .q0)
 unfolding start bodyMomentum
 start-rest p F t l h =

@@ -34,7 +34,8 @@ use Rattle.seeds.specs.Seeds as Seeds
 use Rattle.run_laws.specs.Prepared.{MapOk}
 use Rattle.run_laws.specs.Runs.{take-fits}
 use Rattle.run_laws.specs.Decisions.{paste-low, paste-high, paste-length, paste-all, Projected, Done, all-done, control-limit}
-use Rattle.search_laws.specs.Decisions.{Fit, set-all}
+use Rattle.search_laws.specs.Decisions.{set-all}
+use Rattle.search_laws.specs.Fits.{Fit}
 
 -- ---- lists that f64 holds, number by number
 abbrev pub All : List Float → Type 0

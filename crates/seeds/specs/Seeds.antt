@@ -1,4 +1,4 @@
--- The seed's decision, document 01's term: its duration with its allocated and projected rows. Definitions only.
+-- The seed's decision: its duration with its allocated and projected rows. Definitions only.
 use Prim.Native.Nat.{ℕ, _+_, _*_}
 use mathlib.Core.List.{List, [], _∷_}
 use lib.ListN.{set, take, replicate}

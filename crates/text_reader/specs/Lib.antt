@@ -1,1 +1,1 @@
--- The reader over a struct: its contracts cite the definitions of crate text.
+-- The reader over a struct that holds its slice: its contracts cite the definitions of crates problem_text and text.

@@ -1,4 +1,6 @@
--- What the program prints, byte for byte, and what it leaves of the buffer that it is lent.
-pub mod Puts
-pub mod Texts
-pub mod PutLaws
+-- What is printed, byte for byte, and what is left of the lent buffer.
+-- ---- meaning
+pub mod Texts  -- paths, refusals and samples as bytes
+pub mod Puts  -- bytes put into a buffer
+-- ---- laws
+pub mod PutLaws  -- one text after another, and a buffer that has room for the whole

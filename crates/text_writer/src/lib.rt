@@ -1,4 +1,4 @@
-// What the program prints: a found path, a refusal, a dense sample, and what a refusal means in words.
+// What the program prints: a found path, a refusal, a dense sample. What a refusal means in words is crate refusal_text's.
 ghost use mathlib.Core.Path.{_≡_};
 ghost use Prim.Native.Nat.{_≤_, _<_};
 ghost use Rattle.text_writer.specs.Puts.{Puts};

@@ -1,4 +1,4 @@
--- The answer for n tiles, the table t and the budget b, and what it is in document 01's numbers. Definitions only.
+-- The answer for n tiles, the table t and the budget b, and what it is in the specification's numbers. Definitions only.
 use Prim.Native.Nat.{ℕ}
 use mathlib.Core.Bool.{false, cond}
 use mathlib.Core.List.{List}

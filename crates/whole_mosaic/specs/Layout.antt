@@ -35,7 +35,7 @@ over f legs out = map f legs ++ drop (length legs) out
 
 -- ---- the whole mosaic of rows of tiles, into lent lists of a, b, c and d rows
 
--- 99, which no refusal of document 01 is: a lent list has fewer rows than there are legs
+-- 99, which is no refusal's number: a lent list has fewer rows than there are legs
 abbrev pub roomFate : ℕ → ℕ → ℕ → ℕ → ℕ → Fate
 roomFate legs a b c d = cond (ltb a legs) (Refused 99 0) (cond (ltb b legs) (Refused 99 0) (cond (ltb c legs) (Refused 99 0) (cond (ltb d legs) (Refused 99 0) Going)))
 

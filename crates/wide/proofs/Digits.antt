@@ -7,7 +7,8 @@ use native.Mathlib.Numerals.{add-one}
 use native.Mathlib.Omega.{arith}
 use lib.Dec.{T, ltb, ltb→lt, nltb→le}
 use lib.Pow.{pow-lt, pow-pos}
-use Rattle.wide.specs.Isqrt.{isqrt, isqrt-unique}
+use Rattle.wide.specs.Isqrt.{isqrt}
+use Rattle.wide.specs.IsqrtLaws.{isqrt-unique}
 use Rattle.wide.proofs.Products.{below}
 
 -- the root of n is s with k digits more

@@ -34,7 +34,7 @@ pub struct Case {
     pub room: usize,
 }
 
-/// Document 01's example.
+/// The specification's example.
 pub const EXAMPLE: &str = concat!(
     "(problem\n",
     " (q0 3FF 0 0 0)\n",

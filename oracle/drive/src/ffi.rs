@@ -1,4 +1,4 @@
-//! The C interface of the crate export: numbers, references to arrays of a fixed length (a pointer), slices (a pointer and a length).
+//! The C interface of the crates export and export_*: numbers, references to arrays of a fixed length (a pointer), slices (a pointer and a length).
 
 pub type A3 = [f64; 3];
 pub type A4 = [f64; 4];

@@ -218,7 +218,7 @@ pub const LEAVES: [Entry; 8] = [
     ),
 ];
 
-/// The angles beside document 01's recipes, and beside the platform's library.
+/// The angles beside the specification's recipes, and beside the platform's library.
 pub const ANGLES: [Entry; 7] = [
     Entry::new(
         9,

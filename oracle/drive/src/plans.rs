@@ -1,4 +1,4 @@
-//! Whole plans by both: the published `solve` behind document 01's checks, and the port's two entries.
+//! Whole plans by both: the published `solve` behind the specification's checks, and the port's two entries.
 
 use crate::ffi::{Planned, slew_plan_from_numbers, slew_plan_numbers, slew_problem_profile, slew_sample_seed};
 pub use crate::problems::{FAMILIES, Family, Plan, Seed, any, served, tame};

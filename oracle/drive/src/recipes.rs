@@ -1,4 +1,4 @@
-//! The angles' recipes of document 01, written apart from the port, over 128-bit whole numbers. Every series is summed to its last term; how many terms one who
+//! The angles' recipes of the specification, written apart from the port, over 128-bit whole numbers. Every series is summed to its last term; how many terms one who
 //! stops at a zero forms is told from the list of all.
 
 const ONE: i128 = 1 << 60;

@@ -162,7 +162,7 @@ fn start_outside(map: &Map, starts: &[f64]) -> Option<u64> {
     wheels.iter().zip(starts).position(|(wheel, x)| !x.is_finite() || x.abs() > wheel.2).map(|k| k as u64)
 }
 
-/// Checks 1 to 6 in document 01's order, and 22 after 4.
+/// Checks 1 to 6 in the specification's order, and 22 after 4.
 pub fn checked(flat: &Flat, b: &[f64; 37], limited: bool) -> Result<Task, (u64, u64)> {
     quatopsy_schema::set_tolerances(b[27], b[28]);
     let map = prepared(flat)?;

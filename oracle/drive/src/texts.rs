@@ -1,4 +1,4 @@
-//! Document 01's text, read and written apart from the port; and the comparison of the entries over texts with that reader, the published Rust and that writer.
+//! The specification's text, read and written apart from the port; and the comparison of the entries over texts with that reader, the published Rust and that writer.
 
 use crate::damage::{self, Asked, Case};
 use crate::ffi::{slew_plan, slew_plan_from, slew_sample};

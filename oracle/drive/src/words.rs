@@ -114,7 +114,7 @@ impl Entry {
     }
 }
 
-/// The number and place that document 01 gives to a refusal of the Rust.
+/// The number and place that the specification gives to a refusal of the Rust.
 pub fn refusal(text: &str) -> (u64, u64) {
     const TABLE: [(&str, u64, u64); 30] = [
         ("planner quaternion", 5, 0),

@@ -1,4 +1,4 @@
--- Assumes nothing.
+-- `float::abs` meets its contract. Assumes nothing.
 use borrow.Author.Needs.{needs}
 use Rattle.float.proofs.Arms.{arms}
 use Rattle.float.proofs.abs.Statement.{statement}

@@ -1,3 +1,4 @@
+-- `float::ceil` meets its contract. Assumes nothing.
 use borrow.Author.Needs.{needs}
 use Rattle.float.proofs.Whole.{wholes}
 use Rattle.float.proofs.ceil.Statement.{statement}

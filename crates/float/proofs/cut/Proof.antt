@@ -1,3 +1,4 @@
+-- `float::cut` meets its contract. Assumes nothing.
 use borrow.Author.Needs.{needs}
 use Rattle.float.proofs.Whole.{cut-fits, negated-small, cut-below}
 use Rattle.float.proofs.cut.Statement.{statement}

@@ -1,4 +1,4 @@
--- Assumes nothing.
+-- `float::is_finite` meets its contract. Assumes nothing.
 use borrow.Author.Needs.{needs}
 use lib.Ieee.{nanBits}
 use Rattle.float.proofs.Arms.{arms}

@@ -1,4 +1,4 @@
--- Assumes nothing.
+-- `float::sqrt_near_one` meets its contract. Assumes nothing.
 use mathlib.Core.Path.{sym, ap, _∙_, subst}
 use lib.Dec.{T}
 use lib.Ieee.{binary64}

@@ -1,3 +1,4 @@
+-- `forward::admit` meets its contract. Assumes nothing.
 use mathlib.Core.Path.{_∙_}
 use Rattle.forward.specs.Operations.{admit-wide, admit-narrow}
 use native.Mathlib.Omega.{arith}

@@ -1,3 +1,4 @@
+-- `forward::reconstruct_under` meets its contract. Assumes nothing.
 use Rattle.forward.specs.Operations as Operations
 use Rattle.forward.specs.Operations.{admitted}
 use native.Mathlib.Omega.{arith}

@@ -1,6 +1,6 @@
 -- `exp_at` meets its contract. Assumes nothing.
 use lib.Ieee.{ofBits}
-use Rattle.geom.specs.Halves.{at-once}
+use Rattle.geom.specs.HalvesLaws.{at-once}
 use Rattle.geom.specs.Quats.{expAt}
 use borrow.Author.Needs.{needs}
 use Rattle.geom.proofs.exp_at.Statement.{statement}

@@ -4,7 +4,7 @@ use mathlib.Core.List.{[]}
 use Rattle.problem.specs.Problems.{check}
 use Rattle.planner.specs.Plans as Plans
 use Rattle.planner.specs.PlanLaws.{sized-as}
-use Rattle.planner.specs.Outcomes.{outcome-as, entry-refused, entry-as}
+use Rattle.planner.specs.OutcomeLaws.{outcome-as, entry-refused, entry-as}
 use Rattle.planner.specs.Promises.{Answers, ownSeed}
 use Rattle.planner.specs.PromisesKept.{plan-answers}
 use Rattle.planner.proofs.Fitting.{problem-held}

@@ -3,7 +3,7 @@ use mathlib.Core.Path.{refl, sym, _∙_}
 use Rattle.problem.specs.Problems.{check}
 use Rattle.planner.specs.Plans as Plans
 use Rattle.planner.specs.PlanLaws.{sized-as, counted-long}
-use Rattle.planner.specs.Outcomes.{from-as, entry-refused, entry-as}
+use Rattle.planner.specs.OutcomeLaws.{from-as, entry-refused, entry-as}
 use Rattle.planner.specs.Promises.{Answers}
 use Rattle.planner.specs.PromisesKept.{plan-from-answers}
 use Rattle.planner.proofs.Fitting.{problem-held}

@@ -1,7 +1,7 @@
 -- `planner::seeded` meets its contract.
 use borrow.Author.Tests.{not-true, not-false}
 use Rattle.planner.specs.PlanLaws.{seeded-uncounted, seeded-untimed, seeded-short, seeded-search}
-use Rattle.planner.specs.Outcomes.{refusal, solved}
+use Rattle.planner.specs.OutcomeLaws.{refusal, solved}
 use borrow.Author.Needs.{needs}
 use Rattle.planner.proofs.seeded.Statement.{statement}
 use Rattle.planner.proofs.seeded.Tie as tie

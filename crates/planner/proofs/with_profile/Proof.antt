@@ -1,7 +1,7 @@
 -- `planner::with_profile` meets its contract.
 use mathlib.Core.Path.{refl}
 use Rattle.planner.specs.Plans as Plans
-use Rattle.planner.specs.Outcomes.{refusal, profiled-as}
+use Rattle.planner.specs.OutcomeLaws.{refusal, profiled-as}
 use borrow.Author.Needs.{needs}
 use Rattle.planner.proofs.with_profile.Statement.{statement}
 use Rattle.planner.proofs.with_profile.Tie as tie

@@ -1,7 +1,7 @@
 -- `planner::with_seed` meets its contract.
 use mathlib.Core.Path.{_≡_, refl, sym, _∙_}
 use Rattle.planner.specs.Plans as Plans
-use Rattle.planner.specs.Outcomes.{refusal, outcome-as}
+use Rattle.planner.specs.OutcomeLaws.{refusal, outcome-as}
 use Rattle.seeds.specs.SeedLaws.{served-narrow}
 use borrow.Author.Needs.{needs}
 use Rattle.planner.proofs.with_seed.Statement.{statement}

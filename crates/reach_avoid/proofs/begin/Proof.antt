@@ -1,5 +1,6 @@
 -- `reach_avoid::begin` meets its contract. Assumes nothing.
-use Rattle.reach_avoid.specs.TableLaws.{Stored, stored-more, turnsAt}
+use Rattle.reach_avoid.specs.TableLaws.{Stored, stored-more}
+use Rattle.reach_avoid.specs.TableInner.{turnsAt}
 use lib.ListN.{length-replicate, getD-replicate}
 use Prim.Native.Nat.{ℕ, _-_, _≤_}
 use native.Mathlib.Omega.{arith}

@@ -1,6 +1,6 @@
 -- `reach_avoid::sweep` meets its contract. Assumes nothing.
-use Rattle.reach_avoid.specs.TableInner.{stepped}
-use Rattle.reach_avoid.specs.TableLaws.{Stored, stored-more, stepped-is, turnsAt}
+use Rattle.reach_avoid.specs.TableInner.{stepped, turnsAt}
+use Rattle.reach_avoid.specs.TableLaws.{Stored, stored-more, stepped-is}
 use mathlib.Core.Path.{ap, _∙_}
 use Prim.Native.Nat.{suc, _-_, _≤_}
 use native.Mathlib.Numerals.{add-one}

@@ -1,4 +1,4 @@
--- What the table's test leaves is what the search needs. Assumes nothing.
+-- `tile_order::order` meets its contract: what the table's test leaves is what the search needs. Assumes nothing.
 use Rattle.tile_order.specs.Answers.{answer, found}
 use Rattle.tile_order.specs.Tables.{Table}
 use Rattle.tile_order.specs.TableLaws.{table}

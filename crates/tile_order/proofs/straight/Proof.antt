@@ -1,4 +1,4 @@
--- The places passed are filled. Assumes nothing.
+-- `tile_order::straight` meets its contract: the places passed are filled. Assumes nothing.
 use Rattle.common.specs.Iter.{iter, iter-none, iter-next}
 use Prim.Native.Nat.{_-_, _≤_}
 use mathlib.Core.Path.{_≡_, refl}

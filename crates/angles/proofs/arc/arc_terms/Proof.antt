@@ -3,7 +3,7 @@ use mathlib.Core.Path.{_≡_, subst}
 use Prim.Native.Nat.{ℕ, _+_, _-_, _*_, _≤_, _<_}
 use native.Mathlib.Nat.{mul-zero}
 use native.Mathlib.Omega.{arith}
-use Rattle.angles.specs.Sizes.{ArcAt, ArcFits}
+use Rattle.angles.specs.SizesInner.{ArcAt, ArcFits}
 use Rattle.angles.specs.Ended.{arcPart}
 use Rattle.angles.specs.EndedInner.{ArcRun}
 use Rattle.angles.proofs.ArcEnds.{run-kept, run-stops, run-goes, some-more}

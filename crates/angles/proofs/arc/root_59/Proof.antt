@@ -4,7 +4,8 @@ use Prim.Native.Nat.{ℕ, _+_, _*_, _/_, _%_, _^_, _≤_}
 use native.Mathlib.Omega.{arith}
 use lib.Dec.{lit≤, lit<}
 use borrow.Author.Needs.{needs}
-use Rattle.wide.specs.Isqrt.{isqrt, isqrt-root, root-le}
+use Rattle.wide.specs.Isqrt.{isqrt}
+use Rattle.wide.specs.IsqrtLaws.{isqrt-root, root-le}
 use Rattle.angles.proofs.arc.root_59.Statement.{statement}
 use Rattle.angles.proofs.arc.root_59.Tie as tie
 

@@ -1,6 +1,6 @@
 -- `angles::series::cosine_start` meets its contract.
 use mathlib.Core.Path.{refl}
-use Rattle.angles.specs.Sizes.{termOf, sumOf}
+use Rattle.angles.specs.SizesInner.{termOf, sumOf}
 use Rattle.angles.specs.EndedInner.{countOf}
 use Rattle.angles.proofs.series.cosine_start.Statement.{statement}
 use Rattle.angles.proofs.series.cosine_start.Tie as tie

@@ -5,7 +5,7 @@ use native.Mathlib.Omega.{arith}
 use borrow.Author.Needs.{needs}
 use Rattle.angles.specs.declared.series.Stage.{Stage}
 use Rattle.angles.specs.Angles.{divisor}
-use Rattle.angles.specs.Sizes.{Small}
+use Rattle.angles.specs.SizesInner.{Small}
 use Rattle.angles.specs.EndedInner.{partOf}
 use Rattle.angles.proofs.Leasts.{some-above}
 use Rattle.angles.proofs.Stages.{count-is, small, fits, divisor-most, divisor-least, term-same, within-even, within-odd, taken-off, added}

@@ -3,7 +3,7 @@ use mathlib.Core.Path.{ap, _∙_, subst}
 use Prim.Native.Nat.{ℕ, _+_, _-_, _*_, _/_, _^_, _<_}
 use native.Mathlib.Omega.{arith}
 use borrow.Author.Needs.{needs}
-use Rattle.angles.specs.Sizes.{squareOf}
+use Rattle.angles.specs.SizesInner.{squareOf}
 use Rattle.angles.proofs.Quick.{factor-fits, term-quick}
 use Rattle.angles.proofs.series.quick_term.Statement.{statement}
 use Rattle.angles.proofs.series.quick_term.Tie as tie

@@ -2,7 +2,7 @@
 use mathlib.Core.Path.{sym, ap}
 use Prim.Native.Nat.{ℕ}
 use native.Mathlib.Omega.{arith}
-use Rattle.angles.specs.Sizes.{termOf, sumOf}
+use Rattle.angles.specs.SizesInner.{termOf, sumOf}
 use Rattle.angles.specs.EndedInner.{tally, countOf}
 use Rattle.angles.proofs.Stages.{tally-some}
 use Rattle.angles.proofs.series.sine_start.Statement.{statement}

@@ -1,6 +1,6 @@
 -- `angles::turn::mirrored` meets its contract: a negative argument's quarters and rest are its size's, negated.
 use native.Mathlib.Omega.{arith}
-use Rattle.angles.specs.Reduction.{reduced-pos, reduced-neg}
+use Rattle.angles.specs.ReductionLaws.{reduced-pos, reduced-neg}
 use Rattle.angles.proofs.turn.mirrored.Statement.{statement}
 use Rattle.angles.proofs.turn.mirrored.Tie as tie
 

@@ -2,7 +2,7 @@
 use mathlib.Core.Path.{sym, subst}
 use Prim.Native.Nat.{ℕ}
 use borrow.Author.Needs.{needs}
-use Rattle.angles.specs.Sizes.{TurnOf}
+use Rattle.angles.specs.SizesInner.{TurnOf}
 use Rattle.angles.proofs.turn.place.Statement.{statement}
 use Rattle.angles.proofs.turn.place.Tie as tie
 

@@ -1,7 +1,7 @@
 -- `canonical::writing::put_actuators` meets its contract. Assumes nothing.
 use native.Mathlib.Omega.{arith}
 use Rattle.text_writer.specs.PutLaws.{puts-join, puts-most}
-use Rattle.canonical.specs.Writing.{actuators-text}
+use Rattle.canonical.specs.WritingLaws.{actuators-text}
 use borrow.Author.Needs.{needs}
 use Rattle.canonical.proofs.writing.put_actuators.Statement.{statement}
 use Rattle.canonical.proofs.writing.put_actuators.Tie as tie

@@ -4,7 +4,8 @@ use Rattle.text.specs.Bytes.{bytes}
 use mathlib.Core.List.{[], _++_}
 use native.Mathlib.Omega.{arith}
 use Rattle.text_writer.specs.PutLaws.{puts-most}
-use Rattle.canonical.specs.Writing.{close, puts-pieces}
+use Rattle.canonical.specs.Writing.{close}
+use Rattle.canonical.specs.WritingLaws.{puts-pieces}
 use borrow.Author.Needs.{needs}
 use Rattle.canonical.proofs.writing.put_attitudes.Statement.{statement}
 use Rattle.canonical.proofs.writing.put_attitudes.Tie as tie

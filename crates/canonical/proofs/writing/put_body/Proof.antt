@@ -2,7 +2,8 @@
 use mathlib.Core.List.{_++_}
 use native.Mathlib.Omega.{arith}
 use Rattle.text_writer.specs.PutLaws.{puts-most}
-use Rattle.canonical.specs.Writing.{inertiaLine, torquesLine, slewLine, puts-pieces}
+use Rattle.canonical.specs.Writing.{inertiaLine, torquesLine, slewLine}
+use Rattle.canonical.specs.WritingLaws.{puts-pieces}
 use borrow.Author.Needs.{needs}
 use Rattle.canonical.proofs.writing.put_body.Statement.{statement}
 use Rattle.canonical.proofs.writing.put_body.Tie as tie

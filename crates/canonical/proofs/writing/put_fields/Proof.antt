@@ -2,7 +2,8 @@
 use mathlib.Core.List.{_++_}
 use native.Mathlib.Omega.{arith}
 use Rattle.text_writer.specs.PutLaws.{puts-most}
-use Rattle.canonical.specs.Writing.{attitudes, body, weightsLine, tolerancesLine, fields, puts-pieces}
+use Rattle.canonical.specs.Writing.{attitudes, body, weightsLine, tolerancesLine, fields}
+use Rattle.canonical.specs.WritingLaws.{puts-pieces}
 use borrow.Author.Needs.{needs}
 use Rattle.canonical.proofs.writing.put_fields.Statement.{statement}
 use Rattle.canonical.proofs.writing.put_fields.Tie as tie

@@ -2,7 +2,7 @@
 use Rattle.canonical_laws.specs.Pieces.{num, non}
 use native.Mathlib.Omega.{arith}
 use Rattle.text_writer.specs.PutLaws.{puts-most}
-use Rattle.canonical.specs.Writing.{puts-piece}
+use Rattle.canonical.specs.WritingLaws.{puts-piece}
 use borrow.Author.Needs.{needs}
 use Rattle.canonical.proofs.writing.put_limit.Statement.{statement}
 use Rattle.canonical.proofs.writing.put_limit.Tie as tie

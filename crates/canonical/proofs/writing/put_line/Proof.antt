@@ -1,6 +1,6 @@
 -- `canonical::writing::put_line` meets its contract. Assumes nothing.
 use Rattle.text_writer.specs.PutLaws.{puts-join}
-use Rattle.canonical.specs.Writing.{line-text}
+use Rattle.canonical.specs.WritingLaws.{line-text}
 use borrow.Author.Needs.{needs}
 use Rattle.canonical.proofs.writing.put_line.Statement.{statement}
 use Rattle.canonical.proofs.writing.put_line.Tie as tie

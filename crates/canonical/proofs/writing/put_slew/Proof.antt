@@ -4,7 +4,7 @@ use mathlib.Core.List.{[], _∷_}
 use Rattle.text.specs.Bytes.{bytes}
 use native.Mathlib.Omega.{arith}
 use Rattle.text_writer.specs.PutLaws.{puts-most}
-use Rattle.canonical.specs.Writing.{puts-piece, puts-pieces}
+use Rattle.canonical.specs.WritingLaws.{puts-piece, puts-pieces}
 use borrow.Author.Needs.{needs}
 use Rattle.canonical.proofs.writing.put_slew.Statement.{statement}
 use Rattle.canonical.proofs.writing.put_slew.Tie as tie

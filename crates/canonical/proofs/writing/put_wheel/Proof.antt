@@ -6,7 +6,7 @@ use Rattle.text.specs.Bytes.{bytes}
 use mathlib.Core.List.{[], _∷_, _++_}
 use native.Mathlib.Omega.{arith}
 use Rattle.text_writer.specs.PutLaws.{puts-most}
-use Rattle.canonical.specs.Writing.{puts-pieces}
+use Rattle.canonical.specs.WritingLaws.{puts-pieces}
 use borrow.Author.Needs.{needs}
 use Rattle.canonical.proofs.writing.put_wheel.Statement.{statement}
 use Rattle.canonical.proofs.writing.put_wheel.Tie as tie

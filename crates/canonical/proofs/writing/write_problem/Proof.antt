@@ -2,7 +2,7 @@
 use native.Mathlib.Omega.{arith}
 use mathlib.Core.Path.{_∙_}
 use Rattle.text_writer.specs.PutLaws.{puts-none, puts-join, puts-most}
-use Rattle.canonical.specs.Writing.{written-is, print-parts, written-wheels, written-thrusters, written-momenta}
+use Rattle.canonical.specs.WritingLaws.{written-is, print-parts, written-wheels, written-thrusters, written-momenta}
 use borrow.Author.Needs.{needs}
 use Rattle.canonical.proofs.writing.write_problem.Statement.{statement}
 use Rattle.canonical.proofs.writing.write_problem.Tie as tie

@@ -1,3 +1,4 @@
+-- `float::root::argument` meets its contract. Assumes nothing.
 use native.Mathlib.Omega.{arith}
 use Rattle.float.proofs.Settled.{radicand-range}
 use borrow.Author.Needs.{needs}

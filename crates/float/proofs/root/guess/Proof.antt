@@ -1,3 +1,4 @@
+-- `float::root::guess` meets its contract. Assumes nothing.
 use mathlib.Core.Logic.{⊎-elim}
 use lib.Ieee.{isNan, ofBits}
 use Rattle.wide.proofs.Patterns.{above-no-nan}

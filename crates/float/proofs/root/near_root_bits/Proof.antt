@@ -1,3 +1,4 @@
+-- `float::root::near_root_bits` meets its contract. Assumes nothing.
 use native.Mathlib.Omega.{arith}
 use borrow.Author.Needs.{needs}
 use Rattle.float.proofs.Near.{near-law}

@@ -1,4 +1,4 @@
--- Assumes nothing.
+-- `float::root::norm_shift` meets its contract. Assumes nothing.
 use Rattle.float.proofs.Shapes.{shift-ok}
 use Rattle.float.proofs.root.norm_shift.Statement.{statement}
 use Rattle.float.proofs.root.norm_shift.Tie as tie

@@ -1,9 +1,9 @@
--- Assumes nothing.
+-- `float::root::normal` meets its contract. Assumes nothing.
 use mathlib.Core.Path.{_≡_, refl, sym, subst}
 use Prim.Native.Nat.{ℕ, _+_, _-_, _*_, _/_, _%_, _^_, _<_}
 use native.Mathlib.Nat.{mod-eq-of-lt, lt-of-lt-of-le}
 use lib.Dec.{lit≤}
-use Rattle.float.specs.Post.{unitsOf, radicand}
+use Rattle.float.specs.RootInner.{unitsOf, radicand}
 use Rattle.float.proofs.Shapes.{squared, small-units, large-squared}
 use native.Mathlib.Omega.{arith}
 use borrow.Author.Needs.{needs}

@@ -1,3 +1,4 @@
+-- `float::root::rest` meets its contract. Assumes nothing.
 use native.Mathlib.Omega.{arith}
 use mathlib.Core.Path.{sym, subst}
 use lib.Dec.{T, ltb→lt}

@@ -1,4 +1,4 @@
--- Assumes nothing.
+-- `float::root::root_bits` meets its contract. Assumes nothing.
 use Rattle.float.proofs.Cases.{root-bits-law}
 use native.Mathlib.Omega.{arith}
 use borrow.Author.Needs.{needs}

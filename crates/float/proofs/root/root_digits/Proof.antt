@@ -1,3 +1,4 @@
+-- `float::root::root_digits` meets its contract. Assumes nothing.
 use native.Mathlib.Omega.{arith}
 use Rattle.float.proofs.Settled.{radicand-range, digits-range}
 use borrow.Author.Needs.{needs}

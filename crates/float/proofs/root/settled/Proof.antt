@@ -1,4 +1,4 @@
--- Assumes nothing.
+-- `float::root::settled` meets its contract. Assumes nothing.
 use mathlib.Core.Path.{ap, _∙_}
 use Prim.Native.Nat.{ℕ, _+_}
 use mathlib.Core.Logic.{⊎-elim}

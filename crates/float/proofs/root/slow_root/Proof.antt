@@ -1,4 +1,4 @@
--- Assumes nothing.
+-- `float::root::slow_root` meets its contract. Assumes nothing.
 use Rattle.wide.proofs.Products.{is-above, not-above}
 use Rattle.float.proofs.Shapes.{words54}
 use Rattle.float.proofs.Settled.{whole-root, slow-down, slow-up}

@@ -1,3 +1,4 @@
+-- `forward::decisions::project_decision` meets its contract. Assumes nothing.
 use lib.Ieee as Ieee
 use Rattle.forward.specs.Decisions as Decisions
 use native.Mathlib.Omega.{arith}

@@ -1,3 +1,4 @@
+-- `forward::decisions::project_rows` meets its contract. Assumes nothing.
 use Prim.Native.Nat.{ℕ, _≤_, _-_, _+_, _*_}
 use mathlib.Core.Path.{_≡_, _∙_}
 use lib.ListN.{length}

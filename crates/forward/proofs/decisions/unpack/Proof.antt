@@ -1,3 +1,4 @@
+-- `forward::decisions::unpack` meets its contract. Assumes nothing.
 use lib.Ieee as Ieee
 use native.Mathlib.Omega.{arith}
 use borrow.Author.Needs.{needs}

@@ -1,3 +1,4 @@
+-- `forward::steps::attitude` meets its contract. Assumes nothing.
 use mathlib.Core.Path.{refl}
 use borrow.Author.Needs.{needs}
 use Rattle.forward.proofs.steps.attitude.Statement.{statement}

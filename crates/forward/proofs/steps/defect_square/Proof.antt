@@ -1,3 +1,4 @@
+-- `forward::steps::defect_square` meets its contract. Assumes nothing.
 use mathlib.Core.Path.{_≡_, refl, sym, _∙_}
 use Rattle.geom.specs.Quats as Quats
 use Rattle.forward.specs.Steps as Steps

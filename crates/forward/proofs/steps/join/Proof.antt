@@ -1,3 +1,4 @@
+-- `forward::steps::join` meets its contract. Assumes nothing.
 use Rattle.forward.specs.StepLaws.{rooted-stop}
 use borrow.Author.Needs.{needs}
 use Rattle.forward.proofs.steps.join.Statement.{statement}

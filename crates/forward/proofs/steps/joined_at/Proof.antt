@@ -1,3 +1,4 @@
+-- `forward::steps::joined_at` meets its contract. Assumes nothing.
 use mathlib.Core.Path.{refl}
 use Rattle.forward.specs.StepLaws.{rooted-stop}
 use borrow.Author.Needs.{needs}

@@ -1,3 +1,4 @@
+-- `forward::steps::lead` meets its contract. Assumes nothing.
 use Rattle.forward.specs.Leads.{leads-settled}
 use borrow.Author.Needs.{needs}
 use Rattle.forward.proofs.steps.lead.Statement.{statement}

@@ -1,3 +1,4 @@
+-- `forward::steps::over_power` meets its contract. Assumes nothing.
 use mathlib.Core.Path.{refl}
 use lib.Ieee as Ieee
 use Rattle.common.specs.Iter as Iter

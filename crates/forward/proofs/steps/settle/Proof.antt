@@ -1,3 +1,4 @@
+-- `forward::steps::settle` meets its contract. Assumes nothing.
 use mathlib.Core.Path.{refl, sym, _∙_}
 use lib.Ieee as Ieee
 use Rattle.forward.specs.StepLaws.{row-room, ends-swung, ends-powered, ends-settled, hands-on}

@@ -1,3 +1,4 @@
+-- `forward::steps::swing` meets its contract. Assumes nothing.
 use mathlib.Core.Path.{_≡_, refl, sym, _∙_}
 use Rattle.forward.specs.Steps as Steps
 use Rattle.forward.specs.StepLaws.{swung-is, swing-matrix, row-room}

@@ -1,3 +1,4 @@
+-- `forward::steps::swing_pyramid` meets its contract. Assumes nothing.
 use lib.Ieee as Ieee
 use mathlib.Core.Path.{_≡_, refl, sym, _∙_}
 use Rattle.forward.specs.Steps as Steps

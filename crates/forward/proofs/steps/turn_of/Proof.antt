@@ -1,3 +1,4 @@
+-- `forward::steps::turn_of` meets its contract. Assumes nothing.
 use mathlib.Core.Path.{_≡_, refl, sym, _∙_}
 use Rattle.forward.specs.Steps as Steps
 use native.Mathlib.Omega.{arith}

@@ -1,7 +1,7 @@
 -- `Profile::quaternion` meets its contract. Assumes nothing.
 use borrow.Author.Needs.{needs}
 use lib.Ieee.{ofBits}
-use Rattle.geom.specs.Halves.{at-once}
+use Rattle.geom.specs.HalvesLaws.{at-once}
 use Rattle.profile.specs.Profiles.{quaternion}
 use Rattle.profile.proofs.Profile.quaternion.Statement.{statement}
 use Rattle.profile.proofs.Profile.quaternion.Tie as tie

@@ -1,4 +1,4 @@
--- No time from a tile passed is outside. Assumes nothing.
+-- `tile_order::table::any_outside` meets its contract: no time from a tile passed is outside. Assumes nothing.
 use Rattle.tile_order.specs.Below.{any}
 use Rattle.tile_order.specs.AnyLaws.{any-none, any-more, any-hit}
 use Rattle.tile_order.specs.Tables as Tables

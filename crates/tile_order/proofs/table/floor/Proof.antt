@@ -1,4 +1,4 @@
--- The sum so far. Assumes nothing.
+-- `tile_order::table::floor` meets its contract: the loop keeps the sum so far. Assumes nothing.
 use Rattle.tile_order.specs.Below as Below
 use Rattle.tile_order.specs.SumLaws.{sum-none, sum-more}
 use Rattle.tile_order.specs.Tables as Tables

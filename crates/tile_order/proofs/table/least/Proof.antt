@@ -1,4 +1,4 @@
--- The least of the times passed. Assumes nothing.
+-- `tile_order::table::least` meets its contract: the loop keeps the least of the times passed. Assumes nothing.
 use Rattle.common.specs.Iter.{iter, iter-none, iter-next}
 use Rattle.tile_order.specs.Tables as Tables
 use Prim.Native.Nat.{_-_, _≤_, min}

@@ -1,4 +1,4 @@
--- The index of a time lies in its row, and the row in the table. Assumes nothing.
+-- `tile_order::table::leg` meets its contract: the index of a time lies in its row, and the row in the table. Assumes nothing.
 use Rattle.common.specs.Iter.{row-end}
 use Prim.Native.Nat.{_+_, _*_, _<_}
 use mathlib.Core.Path.{refl}

@@ -1,4 +1,4 @@
--- By the tests on the way. Assumes nothing.
+-- `tile_order::table::lesser` meets its contract, by the tests on the way. Assumes nothing.
 use native.Mathlib.Omega.{arith}
 use borrow.Author.Needs.{needs}
 use borrow.Author.Tests.{eq-eqb, ne-eqb}

@@ -1,4 +1,4 @@
--- By the tests on the way. Assumes nothing.
+-- `tile_order::table::refused` meets its contract, by the tests on the way. Assumes nothing.
 use Prim.Native.Nat.{_≤_}
 use native.Mathlib.Nat.{mul-le-mul}
 use native.Mathlib.Omega.{arith}

@@ -1,4 +1,4 @@
--- The times passed are not outside. Assumes nothing.
+-- `tile_order::table::row_outside` meets its contract: the times passed are not outside. Assumes nothing.
 use Rattle.tile_order.specs.Below.{any}
 use Rattle.tile_order.specs.AnyLaws.{any-none, any-more, any-hit}
 use Rattle.tile_order.specs.Tables as Tables

@@ -1,3 +1,4 @@
+-- `wide::hint::root_hint` meets its contract. Assumes nothing.
 use native.Mathlib.Omega.{arith}
 use Rattle.wide.proofs.Patterns.{no-nan-bits}
 use borrow.Author.Needs.{needs}

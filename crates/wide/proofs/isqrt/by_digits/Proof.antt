@@ -1,4 +1,4 @@
--- Each turn halves what is left open of the root: 64 turns. Assumes nothing.
+-- `wide::isqrt::by_digits` meets its contract: each turn halves what is left open of the root, so that 64 turns are enough. Assumes nothing.
 use borrow.Author.Needs.{needs}
 use mathlib.Core.Path.{_≡_, sym, subst}
 use Prim.Native.Nat.{_+_, _-_, _*_, _^_, _≤_, _<_}

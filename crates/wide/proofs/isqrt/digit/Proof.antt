@@ -1,4 +1,4 @@
--- Assumes nothing.
+-- `wide::isqrt::digit` meets its contract. Assumes nothing.
 use borrow.Author.Needs.{needs}
 use Rattle.wide.proofs.isqrt.digit.Statement.{statement}
 use Rattle.wide.proofs.isqrt.digit.Tie as tie

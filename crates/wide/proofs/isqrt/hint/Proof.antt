@@ -1,3 +1,4 @@
+-- `wide::isqrt::hint` meets its contract. Assumes nothing.
 use Rattle.wide.proofs.Patterns.{above-no-nan}
 use borrow.Author.Needs.{needs}
 use Rattle.wide.proofs.isqrt.hint.Statement.{statement}

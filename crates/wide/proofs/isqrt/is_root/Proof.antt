@@ -1,3 +1,4 @@
+-- `wide::isqrt::is_root` meets its contract. Assumes nothing.
 use mathlib.Core.Path.{sym, subst}
 use lib.Dec.{T}
 use Rattle.wide.proofs.Digits.{between, top-root}

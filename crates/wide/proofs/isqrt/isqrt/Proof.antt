@@ -1,3 +1,4 @@
+-- `wide::isqrt::isqrt` meets its contract. Assumes nothing.
 use borrow.Author.Needs.{needs}
 use Rattle.wide.proofs.isqrt.isqrt.Statement.{statement}
 use Rattle.wide.proofs.isqrt.isqrt.Tie as tie

@@ -1,3 +1,4 @@
+-- `wide::isqrt::word` meets its contract. Assumes nothing.
 use mathlib.Core.Path.{sym, subst}
 use lib.Dec.{T}
 use lib.Ieee.{ofBits, neg}

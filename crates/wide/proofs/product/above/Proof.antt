@@ -1,3 +1,4 @@
+-- `wide::product::above` meets its contract. Assumes nothing.
 use native.Mathlib.Omega.{arith}
 use Prim.Native.Nat.{_*_, _%_, _^_}
 use Rattle.wide.proofs.Products.{same-high, other-high}

@@ -1,4 +1,4 @@
--- By the four products of the halves. Assumes nothing.
+-- `wide::product::high_product` meets its contract, by the four products of the halves. Assumes nothing.
 use native.Mathlib.Omega.{arith}
 use Rattle.wide.proofs.Products.{halves, word-mul}
 use Rattle.wide.proofs.product.high_product.Statement.{statement}

@@ -1,3 +1,4 @@
+-- `wide::product::low_product` meets its contract. Assumes nothing.
 use native.Mathlib.Omega.{arith}
 use Rattle.wide.proofs.Products.{halves, word-mul}
 use borrow.Author.Needs.{needs}

@@ -1,3 +1,4 @@
+-- `wide::product::product` meets its contract. Assumes nothing.
 use native.Mathlib.Omega.{arith}
 use borrow.Author.Needs.{needs}
 use Rattle.wide.proofs.product.product.Statement.{statement}

@@ -1,4 +1,4 @@
--- The series of `Angles` at a signed number are those of `Sizes` with a sign, and so is the ring of four. One law serves the sine (c = 1) and the cosine (c = 0).
+-- The series of `Angles` at a signed number are those of `SizesInner` with a sign, and so is the ring of four. One law serves the sine (c = 1) and the cosine (c = 0).
 -- Assumes nothing.
 use mathlib.Core.Path.{_≡_, refl, sym, ap, ap₂, _∙_}
 use mathlib.Core.Bool.{Bool, true, false, not, cond}
@@ -10,7 +10,7 @@ use lib.Signed.{quotZ}
 use lib.Ieee.{unlike}
 use borrow.Author.Tests.{le-ltb}
 use Rattle.angles.specs.Angles.{signed, mulShift, divisor, term, alternate, series, sine, cosine, ring}
-use Rattle.angles.specs.Sizes.{nextOf, termOf, alter, sumOf, negativeAt, sizeAt}
+use Rattle.angles.specs.SizesInner.{nextOf, termOf, alter, sumOf, negativeAt, sizeAt}
 
 -- ---- terms do not grow
 

@@ -5,8 +5,8 @@ use native.Mathlib.Nat.{mul-assoc, mul-right-comm, add-mul, le-refl, le-trans, l
 use native.Mathlib.Omega.{arith}
 use lib.Dec.{lit<}
 use Rattle.angles.specs.Angles.{divisor}
-use Rattle.angles.specs.Sizes.{nextOf, termOf, alter, sumOf}
-use Rattle.angles.specs.Series.{next-le, Held, held}
+use Rattle.angles.specs.SizesInner.{nextOf, termOf, alter, sumOf}
+use Rattle.angles.specs.SeriesLaws.{next-le, Held, held}
 
 -- ---- the exact sums over sizes, the terms that are added apart from those that are taken off
 

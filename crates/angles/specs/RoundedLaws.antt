@@ -14,7 +14,7 @@ use lib.Ieee.Exact.{HasValue}
 use lib.Ieee.Nearest.{closest}
 use lib.Ieee.Order.{drop}
 use lib.Ieee.Scale.{grid, overflow, round-val}
-use Rattle.angles.specs.Near.{Parts, Within}
+use Rattle.angles.specs.NearLaws.{Parts, Within}
 
 -- ---- the nearest whole number is within a half
 

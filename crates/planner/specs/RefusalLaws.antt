@@ -1,4 +1,4 @@
--- Demand 1 of the definitions: beside a refusal, whose number, place and runs document 01's answer gives, no path stands. Assumes nothing.
+-- Demand 1 of the definitions: beside a refusal, whose number, place and runs `Plans.answer` gives, no path stands. Assumes nothing.
 use mathlib.Core.Path.{_≡_, refl}
 use mathlib.Core.Bool.{Bool, true, false, cond, _&&_}
 use mathlib.Core.List.{List}

@@ -12,8 +12,8 @@ use lib.Dec.{lit<}
 use lib.Ieee.{Float, unlike}
 use borrow.Author.Tests.{le-ltb, lt-ltb}
 use Rattle.angles.specs.Angles.{signed, Q, scaled, quarters, rest, mod4}
-use Rattle.angles.specs.Sizes.{TurnOf, Reduced}
-use Rattle.angles.specs.Series.{mul-signed, sub-signed, negated}
+use Rattle.angles.specs.SizesInner.{TurnOf, Reduced}
+use Rattle.angles.specs.SeriesLaws.{mul-signed, sub-signed, negated}
 
 -- n / m is q where n is q * m and a rest below m
 divides : (n m q r : ℕ) → n ≡ q * m + r → r < m → n / m ≡ q

@@ -1,4 +1,4 @@
--- What the functions of `root` say on whole numbers. Assumes nothing.
+-- What the functions of `root` say on whole numbers. Definitions only.
 use mathlib.Core.Bool.{cond}
 use Prim.Native.Nat.{ℕ, _+_, _-_, _*_, _/_, _%_, _^_}
 use lib.Dec.{ltb}

@@ -18,11 +18,11 @@ use Rattle.angles.specs.declared.Zone.{Zone}
 use Rattle.angles.specs.declared.Zone.the-variants as Zone
 use Rattle.angles.specs.Angles.{signed, divisor, alternate, ring, toFloat, scaled, quarters, rest, mod4, inRange, tiny, regionOf, sinBy, cosBy, sinOf, cosOf}
 use Rattle.angles.specs.Exact.{exactly, exactRing, exactSin, exactCos, isMinus, valueOf, Within50, Near}
-use Rattle.angles.specs.Near.{Parts, parts, Within, near}
-use Rattle.angles.specs.Reduction.{sub-under, unlike-false, mod4-small, Small, rest-small}
-use Rattle.angles.specs.Rounded.{Rounds, rounds, neg-round}
-use Rattle.angles.specs.Series.{mul-signed, add-signed, sub-signed, twice-unlike, eight, negated, held, ring-is}
-use Rattle.angles.specs.Sizes.{negativeAt, sizeAt}
+use Rattle.angles.specs.NearLaws.{Parts, parts, Within, near}
+use Rattle.angles.specs.ReductionLaws.{sub-under, unlike-false, mod4-small, Small, rest-small}
+use Rattle.angles.specs.RoundedLaws.{Rounds, rounds, neg-round}
+use Rattle.angles.specs.SeriesLaws.{mul-signed, add-signed, sub-signed, twice-unlike, eight, negated, held, ring-is}
+use Rattle.angles.specs.SizesInner.{negativeAt, sizeAt}
 
 -- ---- whole numbers: a product with a natural number goes over a sum
 

@@ -1,4 +1,4 @@
--- The recipes over sizes (natural numbers), as the code works them out. The laws beside tie them to `Angles` and `Arcs`.
+-- The recipes over sizes (natural numbers), as the code works them out. The laws beside tie them to `Angles` and `Arcs`. Definitions only.
 use mathlib.Core.Path.{_≡_}
 use mathlib.Core.Bool.{Bool, true, false, not}
 use Prim.Native.Nat.{ℕ, zero, suc, _+_, _-_, _*_, _/_, _^_, _≤_, _<_}
