@@ -14,7 +14,7 @@
  * - A flag (`bool`) is a byte of 0 or 1, as C and C++ make it of any number. A caller in another language sees to that: nothing is promised for a 2. As compiled the lowest bit counts, so a 2 is
  *   false, and as `limited` it would leave out the slew limit. The flags in `counts` are whole numbers, and there nothing but 1 says yes: a 2 is no pyramid and no power limit.
  * - Floats round to nearest and subnormals are kept, as in every program that has not changed this.
- * - The thread has 256 kB of stack. Measured by painting it, whatever the controls: 112 kB in slew_sample, 108 in slew_mosaic, 106 in the other functions that search, 85 in
+ * - The thread has 256 kB of stack. Measured by painting it, whatever the controls: 123 kB in the functions of mosaics, 112 in slew_sample, 106 in the others that search, 85 in
  *   slew_plan_eigenaxis_numbers, 21 in slew_reconstruct.
  *
  * How long a plan takes is bounded in forward runs, not in seconds. Measured, the slowest of 300 random slews of a laboratory for each kind of actuators, refused ones too, in ms of an

@@ -552,9 +552,10 @@ class Mosaics(unittest.TestCase):
         self.assertTrue(text.endswith(")\n)\n"))
         self.assertEqual(slewtext.mosaic_text(*slewtext.mosaic_of_two({"tile": SCAN}, BODY | {"from": 1, "to": 2})), text)
 
-    def test_the_stored_example_is_made_again(self):
-        made = run("mosaic", os.path.join(slewtext.ROOT, "examples", "nine-tiles.toml"))
-        self.assertEqual((made.returncode, made.stdout), (0, stored("nine-tiles.mosaic")))
+    def test_the_stored_examples_are_made_again(self):
+        for name in ("nine-tiles", "star-field"):
+            made = run("mosaic", os.path.join(slewtext.ROOT, "examples", f"{name}.toml"))
+            self.assertEqual((made.returncode, made.stdout), (0, stored(f"{name}.mosaic")))
 
     def test_a_place_of_the_sky(self):
         for ra, dec in ((0, 0), (10, 38), (200, -70), (-30, 90)):

@@ -21,7 +21,7 @@ static const double body[37] = {
     [27] = 9.5367431640625e-07, [28] = 9.5367431640625e-07, /* norm and tie tolerance, 2^-20; no weights: a path that ends at rest is all that is asked */
     [31] = 0.25,                                            /* the third wheel turns already */
 };
-/* 0, 10, 20 degrees about z; one that is no attitude; 30 degrees; 30 degrees again, which is no slew */
+/* 0, 10, 20 degrees about z; one that is no attitude; 30 degrees; 30 degrees again, which the search refuses and which is a path at rest about one axis */
 static const double tiles[TILES][4] = {
     {1, 0, 0, 0},
     {0.99619469809174555, 0, 0, 0.087155742747658166},
