@@ -237,9 +237,10 @@ size_t slew_board_list(const double inertia[9], double tolerance, double duratio
 
 /* Below: functions that stand beside a plan. Link target/staticlib/libexport_tools.a, which `rt staticlib export_tools` writes. */
 
-/* What a refusal means, in the sentence that the program slew prints: number and place as a call returned and told them. The answer is how many bytes the sentence
- * has, its line feed too; as many of them as `out` holds are put there, without a final zero. 256 bytes hold every sentence. */
-size_t slew_explain(size_t number, size_t place, uint8_t *out, size_t out_count);
+/* What a refusal means, in the sentence that the programs print: number, place and forward runs as a call returned and told them; 0 runs where it tells none. `sampled` is true where a
+ * dense sample was refused and not a plan: of slew_sample_path, slew_board_sample and slew_board_list, and of slew_sample where slew_plan answers the same text with a path. The answer is
+ * how many bytes the sentence has, its line feed too; as many of them as `out` holds are put there, without a final zero. 256 bytes hold every sentence. */
+size_t slew_explain(size_t number, size_t place, size_t runs, bool sampled, uint8_t *out, size_t out_count);
 
 /* Byte planes of a recorder's column: each number's 64 bits are combined with its predecessor's by exclusive or (the first is kept), then all top bytes stand
  * first, all next bytes after them, down to the lowest. Like bytes stand together, so a compressor finds more in them. A column is up to SLEW_COLUMN_MOST bit

@@ -266,7 +266,21 @@ class Answers(unittest.TestCase):
             for place in (0, 1, 2, 9, 16, 20):
                 said = slewtext.explain(f"(refused\n (number {number})\n (place {place})\n (runs 5))\n")
                 self.assertTrue(said.startswith(f"Refusal {number}, place {place}, after 5 forward runs. ") and said.endswith(".\n"))
-                self.assertNotIn("There is no refusal", said)
+                self.assertNotIn("No refusal has this number", said)
+
+    def test_the_sentences_are_the_programs(self):
+        """They are the table's that the gate holds the proved program to: here some that hang on the place, on the runs, on a sample."""
+        for given, begins in {
+            (2, 7, 0): "Wheel 7: ", (2, 8, 0): "Thruster 0: ", (2, 20, 0): "The pyramid: ", (21, 0, 0): "The text is too long: ", (21, 1, 0): "Line 1 of the text ",
+            (5, 1, 0): "The end attitude qf ", (5, 2, 7): "An attitude in a forward run ", (5, 1, 0, True): "Sample 1: its attitude ",
+            (11, 0, 1): "Step 0 of a run ", (11, 0, 0): "The slew is half a turn ", (11, 4, 0, True): "Sample 4 ", (99, 3, 0): "No refusal has this number.",
+        }.items():
+            self.assertTrue(slewtext.refusal(*given).startswith(begins), (given, slewtext.refusal(*given)))
+
+    def test_a_refused_sample_is_told_as_one(self):
+        told = "(board\n (sample " + " ".join(["0"] * 13) + ")\n(refused\n (number 11)\n (place 1)\n (runs 0))\n"
+        self.assertIn("Sample 1 turns", slewtext.told_refusal(told))
+        self.assertIn("Sample 1 turns", slewtext.explain(told))
 
     def test_a_path_is_explained(self):
         self.assertEqual(slewtext.explain(path_text()), "A path of 1 s, found in 1 iterations and 3 forward runs.\n")

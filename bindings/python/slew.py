@@ -253,15 +253,15 @@ class Planner:
 
     # ---- refusals
 
-    def explain(self, number: int, place: int) -> str:
-        """What a refusal means, in the sentence that the program prints."""
+    def explain(self, number: int, place: int, runs: int, sampled: bool = False) -> str:
+        """What a refusal means, in the sentence that the program prints; `sampled` where a dense sample was refused and not a plan."""
         out = (c.c_uint8 * 256)()
-        count = self._library.slew_explain(c.c_size_t(number), c.c_size_t(place), out, c.c_size_t(256))
+        count = self._library.slew_explain(c.c_size_t(number), c.c_size_t(place), c.c_size_t(runs), c.c_bool(sampled), out, c.c_size_t(256))
         return bytes(out[:count]).decode("ascii").strip()
 
-    def _refuse(self, number: int, place: int, runs: int, leg: Optional[int] = None) -> None:
+    def _refuse(self, number: int, place: int, runs: int, leg: Optional[int] = None, sampled: bool = False) -> None:
         if number:
-            raise Refused(number, place, runs, self.explain(number, place), leg)
+            raise Refused(number, place, runs, self.explain(number, place, runs, sampled), leg)
 
     # ---- plans
 
@@ -385,14 +385,14 @@ class Planner:
         """The path's dense samples, one after another."""
         for arguments in self._each(path, requested, alpha):
             sample, place = (c.c_double * 14)(), c.c_size_t()
-            self._refuse(self._library.slew_sample_path(*arguments, sample, c.byref(place)), place.value, 0)
+            self._refuse(self._library.slew_sample_path(*arguments, sample, c.byref(place)), place.value, 0, sampled=True)
             yield _sample(sample[:])
 
     def board(self, path: Path, requested: int, alpha: Optional[float] = None) -> Iterator[Tuple[int, ...]]:
         """The same as the drive board takes them: 13 whole numbers each."""
         for arguments in self._each(path, requested, alpha):
             numbers, place = (c.c_int32 * 13)(), c.c_size_t()
-            self._refuse(self._library.slew_board_sample(*arguments, numbers, c.byref(place)), place.value, 0)
+            self._refuse(self._library.slew_board_sample(*arguments, numbers, c.byref(place)), place.value, 0, sampled=True)
             yield tuple(numbers)
 
     def _each(self, path: Path, requested: int, alpha: Optional[float]) -> Iterator[Tuple[Any, ...]]:

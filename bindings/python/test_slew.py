@@ -2,6 +2,8 @@
 """Tests of the Python binding over target/lib/libslew.so: python3 bindings/python/test_slew.py (or `make python-test`)."""
 
 import glob
+import importlib.machinery
+import importlib.util
 import itertools
 import math
 import os
@@ -10,6 +12,7 @@ import struct
 import subprocess
 import sys
 import unittest
+from dataclasses import replace
 
 HERE = os.path.dirname(os.path.abspath(__file__))
 TOP = os.path.dirname(os.path.dirname(HERE))
@@ -17,6 +20,15 @@ sys.path.insert(0, HERE)
 
 import slew  # noqa: E402
 from slew import Planner, Problem, Pyramid, Refused, Thruster, Weights, Wheel, after, turn  # noqa: E402
+
+
+def tool(name: str):
+    """A program of tools/ as a module."""
+    sys.dont_write_bytecode = True
+    loader = importlib.machinery.SourceFileLoader(name, os.path.join(TOP, "tools", name))
+    module = importlib.util.module_from_spec(importlib.util.spec_from_loader(name, loader))
+    loader.exec_module(module)
+    return module
 
 
 def bits(x: float) -> int:
@@ -280,11 +292,23 @@ class Beside(unittest.TestCase):
             self.assertEqual(told.exception.number, 28)
 
     def test_sentences(self):
-        """The sentences are the program's: of every number up to 40, at several places, one line of plain text."""
-        for number in range(41):
-            for place in (0, 1, 2, 8, 20, 2 ** 64 - 1):
-                sentence = self.planner.explain(number, place)
-                self.assertTrue(sentence.endswith(".") and "\n" not in sentence and len(sentence) < 212, sentence)
+        """The sentences are the program's: of every number up to 40, at several places, one line of plain text, and the one that tools/slewtext tells."""
+        told = tool("slewtext").refusal
+        for number, place, runs, sampled in itertools.product(range(41), (0, 1, 2, 7, 8, 9, 19, 20, 21, 2 ** 64 - 1), (0, 1, 2042), (False, True)):
+            sentence = self.planner.explain(number, place, runs, sampled)
+            self.assertTrue(sentence.endswith(".") and "\n" not in sentence and len(sentence) < 212, sentence)
+            self.assertEqual(sentence, told(number, place, runs, sampled))
+
+    def test_a_refused_sample_says_so(self):
+        """Refusal 11 of a sample has the sample as its place, and a sentence of its own; of a run it names the step."""
+        path = self.planner.plan(quarter())
+        spoilt = list(path.numbers)
+        spoilt[22 * 3 + 5] = 1e9  # the rate of node 3
+        with self.assertRaises(Refused) as told:
+            list(self.planner.samples(replace(path, numbers=tuple(spoilt)), 100, 0.0))
+        self.assertEqual((told.exception.number, told.exception.runs), (11, 0))
+        self.assertTrue(told.exception.sentence.startswith(f"Sample {told.exception.place} turns"), told.exception.sentence)
+        self.assertTrue(self.planner.explain(11, 3, 1).startswith("Step 3 of a run"))
 
 
 class Example(unittest.TestCase):

@@ -12,7 +12,7 @@ use Rattle.drive_numbers.specs.Drive.{drive}
 use Rattle.text.specs.Bytes.{bytes}
 use Rattle.text_writer.specs.Texts.{times, whole}
 use Rattle.sample_text.specs.SampleTexts.{answerBy, sampleCourse}
-use Rattle.sample_text.specs.SampleLines.{isLast, closing, Steps}
+use Rattle.sample_text.specs.SampleLines.{isLast, isPlanned, closing, Steps}
 use Rattle.sample_text.specs.declared.Course.{Course}
 use Rattle.sample_text.specs.declared.lines.Line.{Line}
 use Rattle.board_text.specs.declared.Board.{Board}
@@ -50,4 +50,4 @@ boardLine index last v = opening index ++ row v ++ closing last
 -- ---- the step of sample number index
 abbrev pub StepsAt : Course → ℕ → Float → ℕ → List ℕ → List ℕ → Line → List ℕ → List ℕ → Type 0
 StepsAt c requested alpha index =
-    let last = isLast (c .duration) requested alpha index in Steps (boardLine index last) 320 (answer (boardCourse c requested alpha index)) last
+    let last = isLast (c .duration) requested alpha index in Steps (boardLine index last) 320 (isPlanned (c .fate)) (answer (boardCourse c requested alpha index)) last

@@ -10,6 +10,7 @@ use drive_numbers::drive;
 use sample_text::Course;
 use sample_text::lines::Line;
 use sample_text::lines::is_last;
+use sample_text::lines::is_planned;
 use sample_text::lines::put_either;
 use sample_text::lines::tell_refused;
 use sample_text::sample_course;
@@ -78,11 +79,12 @@ pub fn write_numbers(
 ) -> Line
     ensures { λ r. ⌜ StepsAt c requested alpha index (now (out .entry)) (now (said .entry)) r (now (out .exit)) (now (said .exit)) ⌝ }
 {
+    let sampled = is_planned(c);
     let b = board_course(c, requested, alpha, index);
     let driven = b.driven;
     let fate = driven.fate;
     match fate {
-        Fate::Refused(number, place) => tell_refused(number, place, b.runs, out, said),
+        Fate::Refused(number, place) => tell_refused(sampled, number, place, b.runs, out, said),
         Fate::Going => {
             let v = driven.numbers;
             let last = is_last(c.duration, requested, alpha, index);

@@ -17,6 +17,7 @@ fn no_room() -> Told
 {
     Told {
         fate: Fate::Refused(99, 0),
+        runs: 0,
         bytes: 0,
     }
 }

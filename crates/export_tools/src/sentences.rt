@@ -4,8 +4,14 @@ ghost use Rattle.refusal_text.specs.Sentences as Sentences;
 
 // The sentence of a refusal into `out`, as far as it reaches; the answer is how many bytes the sentence has.
 #[no_mangle]
-pub extern "C" fn slew_explain(number: usize, place: usize, out: &mut [u8]) -> usize
-    ensures { λ r. ⌜ Puts (now (out .entry)) 0 (Sentences.explain number place) 212 (now (out .exit)) r ⌝ }
+pub extern "C" fn slew_explain(
+    number: usize,
+    place: usize,
+    runs: usize,
+    sampled: bool,
+    out: &mut [u8],
+) -> usize
+    ensures { λ r. ⌜ Puts (now (out .entry)) 0 (Sentences.explain number place runs sampled) 212 (now (out .exit)) r ⌝ }
 {
-    refusal_text::explain(number, place, out)
+    refusal_text::explain(number, place, runs, sampled, out)
 }

@@ -12,6 +12,7 @@ use Rattle.common.specs.declared.Fate.the-variants.{Going, Refused}
 use Rattle.geom.specs.declared.Quat.{Quat}
 use Rattle.text_writer.specs.Puts.{Puts}
 use Rattle.text_writer.specs.Texts as Texts
+use Rattle.refusal_text.specs.Sentences.{explainPlan}
 use Rattle.plan_text.specs.PlanTexts.{Prints}
 use Rattle.plan_text.specs.declared.Told.{Told}
 use Rattle.mosaic.specs.Mosaics as Mosaics
@@ -24,7 +25,7 @@ use Rattle.mosaic.specs.declared.Advanced.{Advanced}
 use Rattle.mosaic_text.specs.TileLines.{tileAt}
 use Rattle.mosaic_text.specs.declared.ReadMosaic.{ReadMosaic}
 use Rattle.mosaic_answer.specs.LegLines.{heading}
-use Rattle.mosaic_answer.specs.MosaicAnswers.{counted, after, legText, sentenceBy, cursorAt, isRefused, legBy, legAt, legsText, answer, slewMosaic, Writes}
+use Rattle.mosaic_answer.specs.MosaicAnswers.{counted, after, legText, cursorAt, isRefused, legBy, legAt, legsText, answer, slewMosaic, Writes}
 
 -- a leg that was planned, and its three texts
 module _ (way : Way) (m : ReadMosaic) (c : Cursor) where
@@ -34,16 +35,17 @@ module _ (way : Way) (m : ReadMosaic) (c : Cursor) where
       → Advances way (m .problem) c from to ws a ws′
       → Puts headed 0 (heading (c .index)) 27 headed′ i
       → Prints (a .planned) out t out′
-      → Puts said 0 (sentenceBy (t .fate)) 212 said′ j
+      → Puts said 0 (explainPlan (t .fate) (t .runs)) 212 said′ j
       → Writes (plannerBy way (length ws)) m c ws headed out said (record { cursor = a .cursor; heading = i; bytes = t .bytes; said = j }) ws′ headed′ out′ said′
   leg-written {from} {to} {a} {t} e f d h p s =
       let n = rw (e, f) at (d .planned) in
       let g : t .fate ≡ a .planned .fate = rw (p .is) in
+      let h′ : t .runs ≡ a .planned .runs = rw (p .is) in
       record {
         moves = rw (e, f) at (d .cursor);
         heads = h;
         prints = rw n at (p .puts);
-        says = rw (g, n) at s;
+        says = rw (g, h′, n) at s;
         left = rw n at (d .left);
       }
 

@@ -11,6 +11,7 @@ use Rattle.planner.specs.Plans as Plans
 use Rattle.planner.specs.declared.Planned.{Planned}
 use Rattle.text_writer.specs.Puts.{Puts}
 use Rattle.text_writer.specs.Texts as Texts
+use Rattle.refusal_text.specs.Sentences.{explainPlan}
 use Rattle.plan_text.specs.PlanTexts as PlanTexts
 use Rattle.mosaic.specs.Mosaics as Mosaics
 use Rattle.mosaic.specs.Mosaics.{Planner}
@@ -20,7 +21,7 @@ use Rattle.mosaic.specs.declared.ways.Way.{Way}
 use Rattle.mosaic_text.specs.TileLines.{tileAt}
 use Rattle.mosaic_text.specs.MosaicTexts.{readMosaic}
 use Rattle.mosaic_text.specs.declared.ReadMosaic.{ReadMosaic}
-use Rattle.mosaic_answer.specs.LegLines.{heading, total, sentence}
+use Rattle.mosaic_answer.specs.LegLines.{heading, total}
 use Rattle.mosaic_answer.specs.declared.Leg.{Leg}
 
 -- ---- the mosaic of a text: 21 first, then 23
@@ -46,11 +47,6 @@ after plan m c = Mosaics.next plan (m .problem) c (tileAt (m .tiles) (c .index))
 -- for standard output: its heading, then what `slew` prints
 abbrev pub legText : Planner → ReadMosaic → Cursor → List ℕ
 legText plan m c = heading (c .index) ++ PlanTexts.printed (planned plan m c)
-
--- for standard error
-abbrev pub sentenceBy : Fate → List ℕ
-sentenceBy (Refused number place) = sentence number place
-sentenceBy Going = []
 
 -- ---- the whole of standard output
 
@@ -95,5 +91,5 @@ pub record Writes (plan : Planner) (m : ReadMosaic) (c : Cursor) (ws : List Floa
   pub moves : r .cursor ≡ after plan m c
   pub heads : Puts headed 0 (heading (c .index)) 27 headed′ (r .heading)
   pub prints : Puts out 0 (PlanTexts.printed (planned plan m c)) 9970 out′ (r .bytes)
-  pub says : Puts said 0 (sentenceBy (planned plan m c .fate)) 212 said′ (r .said)
+  pub says : Puts said 0 (explainPlan (planned plan m c .fate) (planned plan m c .runs)) 212 said′ (r .said)
   pub left : ws′ ≡ Plans.leaves (planned plan m c .runs) ws

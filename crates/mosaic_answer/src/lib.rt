@@ -3,7 +3,6 @@
 ghost use mathlib.Core.Path.{_≡_};
 ghost use lib.ListN.{length};
 ghost use Rattle.mosaic.specs.Ways as Ways;
-ghost use Rattle.text_writer.specs.Puts.{Puts};
 ghost use Rattle.mosaic_answer.specs.MosaicAnswers as MosaicAnswers;
 ghost use Rattle.mosaic_answer.specs.MosaicAnswers.{Writes};
 use common::Fate;
@@ -14,10 +13,10 @@ use mosaic::ways::Way;
 use mosaic_text::ReadMosaic;
 use mosaic_text::read_mosaic;
 use plan_text::tell;
+use refusal_text::explain_plan;
 
 pub mod lines;
 
-use lines::say;
 use lines::tile_after;
 use lines::tile_at;
 use lines::write_heading;
@@ -56,16 +55,6 @@ pub fn read_counted(text: &[u8]) -> ReadMosaic
     }
 }
 
-// What a refused leg means, in a sentence; of an answered one nothing.
-fn say_leg(fate: Fate, said: &mut [u8]) -> usize
-    ensures { λ r. ⌜ Puts (now (said .entry)) 0 (MosaicAnswers.sentenceBy fate) 212 (now (said .exit)) r ⌝ }
-{
-    match fate {
-        Fate::Refused(number, place) => say(number, place, said),
-        Fate::Going => 0,
-    }
-}
-
 // Plans the next leg by a way, and writes it.
 pub fn write_leg(
     m: ReadMosaic,
@@ -88,7 +77,7 @@ pub fn write_leg(
     let planned = advanced.planned;
     let told = tell(planned, out);
     let fate = told.fate;
-    let sentence = say_leg(fate, said);
+    let sentence = explain_plan(fate, told.runs, said);
     let cursor = advanced.cursor;
     Leg {
         cursor: cursor,

@@ -1,11 +1,10 @@
-// What stands around the legs of a mosaic: a heading before each, the sums after them, and a sentence for a refusal.
+// What stands around the legs of a mosaic: a heading before each, and the sums after them.
 ghost use mathlib.Core.Path.{_≡_};
 ghost use Prim.Native.Nat.{_+_};
 ghost use Rattle.text_writer.specs.Puts.{Puts};
 ghost use Rattle.mosaic_text.specs.TileLines as TileLines;
 ghost use Rattle.mosaic_answer.specs.LegLines as LegLines;
 use geom::Quat;
-use refusal_text::explain;
 use text_writer::forms::put_counted;
 use text_writer::forms::put_duration;
 use text_writer::put::put_all;
@@ -27,23 +26,6 @@ pub fn write_total(out: &mut [u8], legs: usize, duration: f64, runs: usize) -> u
     let k = put_duration(out, j, duration);
     let l = put_counted(out, k, b"\n (runs ", runs);
     put_all(out, l, b")\n")
-}
-
-// What a refusal means, in a sentence: for a text that is too long with a mosaic's own limits.
-pub fn say(number: usize, place: usize, said: &mut [u8]) -> usize
-    ensures { λ r. ⌜ Puts (now (said .entry)) 0 (LegLines.sentence number place) 212 (now (said .exit)) r ⌝ }
-{
-    if number != 21 {
-        return explain(number, place, said);
-    }
-    if place != 0 {
-        return explain(number, place, said);
-    }
-    put_all(
-        said,
-        0,
-        b"The text is longer than 16,384 bytes, or its problem's than 4,096: shorten it.\n",
-    )
 }
 
 // Tile number k; past the sixty-fourth one of NaNs.

@@ -46,13 +46,13 @@ module _ (p : Problem) (seed : List Float) (size : ℕ) where
 
 -- ---- printing
 module _ {a : Planned} {out out′ : List ℕ} {r : Told} where
-  prints : {i : ℕ} → r ≡ record { fate = a .fate; bytes = i } → Puts out 0 (printed a) 9970 out′ i → Prints a out r out′
+  prints : {i : ℕ} → r ≡ record { fate = a .fate; runs = a .runs; bytes = i } → Puts out 0 (printed a) 9970 out′ i → Prints a out r out′
   prints {i} e p =
       let z : i ≡ length (printed a) = omega (arith, p .ends) in
       let b : r .bytes ≡ i = rw e in
       record { is = e ∙ rw z; puts = rw b p }
 
-  pub prints-path : {i : ℕ} → a .fate ≡ Going → r ≡ record { fate = Going; bytes = i } → Puts out 0 (pathText (a .runs) (a .path)) 9970 out′ i → Prints a out r out′
+  pub prints-path : {i : ℕ} → a .fate ≡ Going → r ≡ record { fate = Going; runs = a .runs; bytes = i } → Puts out 0 (pathText (a .runs) (a .path)) 9970 out′ i → Prints a out r out′
   unfolding printed
   prints-path {i} f e p = prints {i = i} (e ∙ rw f) (rw f p)
 
@@ -60,7 +60,7 @@ module _ {a : Planned} {out out′ : List ℕ} {r : Told} where
   unfolding printed
   prints-refusal f p = record { is = p .is ∙ rw f; puts = rw f (p .puts) }
 
-pub prints-refused : {n k runs i : ℕ} {out out′ : List ℕ} → Puts out 0 (Texts.refused n k runs) 100 out′ i → Prints (Plans.refused n k runs) out (record { fate = Refused n k; bytes = i }) out′
+pub prints-refused : {n k runs i : ℕ} {out out′ : List ℕ} → Puts out 0 (Texts.refused n k runs) 100 out′ i → Prints (Plans.refused n k runs) out (record { fate = Refused n k; runs = runs; bytes = i }) out′
 unfolding printed
 prints-refused {n} {k} {runs} {i} p = prints {a = Plans.refused n k runs} {i = i} refl (puts-most (omega arith) p)
 

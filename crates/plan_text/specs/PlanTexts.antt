@@ -59,10 +59,10 @@ printed a = printedBy (a .fate) (a .runs) (a .path)
 
 -- 99, which is no refusal's number
 abbrev pub noRoom : Told
-noRoom = record { fate = Refused 99 0; bytes = 0 }
+noRoom = record { fate = Refused 99 0; runs = 0; bytes = 0 }
 
 abbrev pub wholly : Planned → Told
-wholly a = record { fate = a .fate; bytes = length (printed a) }
+wholly a = record { fate = a .fate; runs = a .runs; bytes = length (printed a) }
 
 unfoldable pub told : Planned → List ℕ → Told
 told a out = cond (ltb (length out) 16384) noRoom (wholly a)

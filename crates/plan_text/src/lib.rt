@@ -15,9 +15,10 @@ use problem::Problem;
 use text_writer::write_path;
 use text_writer::write_refused;
 
-// How a text's plan ended, and how many bytes were written.
+// How a text's plan ended, the forward runs begun, and how many bytes were written.
 pub struct Told {
     pub fate: Fate,
+    pub runs: usize,
     pub bytes: usize,
 }
 
@@ -45,6 +46,7 @@ pub fn tell_refused(number: usize, place: usize, runs: usize, out: &mut [u8]) ->
     let bytes = write_refused(out, number, place, runs);
     Told {
         fate: Fate::Refused(number, place),
+        runs: runs,
         bytes: bytes,
     }
 }
@@ -61,6 +63,7 @@ pub fn tell(a: Planned, out: &mut [u8]) -> Told
             let bytes = print_path(a.runs, path, out);
             Told {
                 fate: Fate::Going,
+                runs: a.runs,
                 bytes: bytes,
             }
         }
@@ -73,6 +76,7 @@ fn no_room() -> Told
 {
     Told {
         fate: Fate::Refused(99, 0),
+        runs: 0,
         bytes: 0,
     }
 }

@@ -1,10 +1,8 @@
 -- What the programs `slew` and `slew_eigenaxis` answer to a text: its plan with our own seed, or about one axis, 8,000 numbers lent, printed, and the sentence of a refusal. Definitions only.
 use Prim.Native.Nat.{ℕ, _≤_}
 use mathlib.Core.Path.{_≡_}
-use mathlib.Core.List.{List, []}
+use mathlib.Core.List.{List}
 use lib.ListN.{length}
-use Rattle.common.specs.declared.Fate.{Fate}
-use Rattle.common.specs.declared.Fate.the-variants.{Going, Refused}
 use Rattle.planner.specs.declared.Planned.{Planned}
 use Rattle.text_writer.specs.Puts.{Puts}
 use Rattle.refusal_text.specs.Sentences as Sentences
@@ -30,17 +28,12 @@ abbrev pub courseBy : Way → List ℕ → Course
 courseBy Search text = planCourse text 8000
 courseBy (Eigenaxis shape) text = eigenaxisCourse text shape 8000
 
--- for standard error
-abbrev pub sentence : Fate → List ℕ
-sentence (Refused number place) = Sentences.explain number place
-sentence Going = []
-
 -- the plan a is answered: both texts are put into lent buffers; the bytes that are told lie within the first
 pub record AnswersBy (a : Planned) (out said : List ℕ) (r : Answered) (out′ said′ : List ℕ) : Type 0 where
   pub bytes : r .bytes ≡ PlanTexts.told a out .bytes
   pub prints : out′ ≡ PlanTexts.written a out
   pub within : r .bytes ≤ length out′
-  pub says : Puts said 0 (sentence (PlanTexts.told a out .fate)) 212 said′ (r .said)
+  pub says : Puts said 0 (Sentences.explainPlan (PlanTexts.told a out .fate) (PlanTexts.told a out .runs)) 212 said′ (r .said)
 
 abbrev pub Answers : List ℕ → List ℕ → List ℕ → Answered → List ℕ → List ℕ → Type 0
 Answers text out said r out′ said′ = AnswersBy (slew text) out said r out′ said′

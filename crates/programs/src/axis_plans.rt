@@ -4,13 +4,13 @@
 ghost use Rattle.programs.specs.Programs as Programs;
 ghost use Rattle.programs.specs.Programs.{AnswersBy};
 use super::plans::Answered;
-use super::plans::say;
 use super::words::asks;
 use eigenaxis_seed::Shape;
 use eigenaxis_text::plan_eigenaxis_text;
 use libc::STDERR_FILENO;
 use libc::STDIN_FILENO;
 use libc::STDOUT_FILENO;
+use refusal_text::explain_plan;
 
 // The answer to a text: its eigenaxis plan in 8,000 numbers, printed, and the sentence of a refusal.
 pub fn answer(text: &[u8], shape: Shape, out: &mut [u8], said: &mut [u8]) -> Answered
@@ -19,7 +19,7 @@ pub fn answer(text: &[u8], shape: Shape, out: &mut [u8], said: &mut [u8]) -> Ans
     let mut ws = [0.0; 8000];
     let told = plan_eigenaxis_text(text, shape, &mut ws, out);
     let fate = told.fate;
-    let sentence = say(fate, said);
+    let sentence = explain_plan(fate, told.runs, said);
     Answered {
         bytes: told.bytes,
         said: sentence,

@@ -17,11 +17,11 @@ use libc::STDOUT_FILENO;
 use mosaic::Cursor;
 use mosaic::start;
 use mosaic::ways::Way;
-use mosaic_answer::lines::say;
 use mosaic_answer::lines::write_total;
 use mosaic_answer::read_counted;
 use mosaic_answer::write_leg;
 use mosaic_text::ReadMosaic;
+use refusal_text::explain;
 use text_writer::write_refused;
 
 // The first bytes to standard output.
@@ -36,7 +36,7 @@ fn print_refused(number: usize, place: usize) {
     let mut out = [0u8; 100];
     let mut said = [0u8; 212];
     let bytes = write_refused(&mut out, number, place, 0);
-    let told = say(number, place, &mut said);
+    let told = explain(number, place, 0, false, &mut said);
     show(&out, bytes, &said, told);
 }
 

@@ -1,28 +1,16 @@
 // Program `slew`: plans the problem whose text stands on standard input. The answer goes to standard output and, where it is refused, a sentence to standard error.
-ghost use Rattle.text_writer.specs.Puts.{Puts};
 ghost use Rattle.programs.specs.Programs as Programs;
 ghost use Rattle.programs.specs.Programs.{Answers};
-use common::Fate;
 use libc::STDERR_FILENO;
 use libc::STDIN_FILENO;
 use libc::STDOUT_FILENO;
 use plan_text::plan_text;
-use refusal_text::explain;
+use refusal_text::explain_plan;
 
 // How many bytes are for standard output, and how many for standard error.
 pub struct Answered {
     pub bytes: usize,
     pub said: usize,
-}
-
-// What a refusal means, in a sentence; of a path nothing.
-pub fn say(fate: Fate, said: &mut [u8]) -> usize
-    ensures { λ r. ⌜ Puts (now (said .entry)) 0 (Programs.sentence fate) 212 (now (said .exit)) r ⌝ }
-{
-    match fate {
-        Fate::Refused(number, place) => explain(number, place, said),
-        Fate::Going => 0,
-    }
 }
 
 // The answer to a text: its plan in 8,000 numbers, printed, and the sentence of a refusal.
@@ -32,7 +20,7 @@ pub fn answer(text: &[u8], out: &mut [u8], said: &mut [u8]) -> Answered
     let mut ws = [0.0; 8000];
     let told = plan_text(text, &mut ws, out);
     let fate = told.fate;
-    let sentence = say(fate, said);
+    let sentence = explain_plan(fate, told.runs, said);
     Answered {
         bytes: told.bytes,
         said: sentence,

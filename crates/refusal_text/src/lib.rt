@@ -1,341 +1,217 @@
-// What a refusal means, in words: one decision over document 01's numbers, with ranges for what was given, for a forward run and for the end checks.
+// What a refusal means, in words: one table of sentences, and the search of a refusal's line in it.
 ghost use mathlib.Core.Path.{_≡_};
-ghost use Prim.Native.Nat.{_+_, _≤_};
-ghost use lib.ListN.{length};
+ghost use Prim.Native.Nat.{_+_, _-_, _≤_, _<_, _^_};
+ghost use lib.ListN.{length, getD, drop};
 ghost use Rattle.text_writer.specs.Puts.{Puts};
 ghost use Rattle.refusal_text.specs.Sentences as Sentences;
+ghost use Rattle.refusal_text.specs.Sentences.{Tells};
+use common::Fate;
+use text::hex::byte;
 use text_writer::put::put_all;
+use text_writer::put::put_byte;
 use text_writer::put::put_digits;
 
-// A sentence with a count in it.
-fn tell(out: &mut [u8], head: &[u8], count: usize, tail: &[u8]) -> usize
-    requires { ⌜ (length (now head) ≤ 64) × (length (now tail) ≤ 128) ⌝ }
-    ensures { λ r. ⌜ Puts (now (out .entry)) 0 (Sentences.tell (now (head .entry)) count (now (tail .entry))) 212 (now (out .exit)) r ⌝ }
+// The table that `Sentences.table` is, byte for byte; what its columns say stands there.
+const TABLE: [u8; 4578] = *b"\
+00 00 00 00 No refusal has this number.\n\
+01 00 00 00 There are more than 8 wheels: leave some out.\n\
+01 00 01 00 There are more than 12 thrusters: leave some out.\n\
+02 00 00 00 Wheel #: its torque, its momentum and its power must be finite and above 0.\n\
+02 00 08 08 Thruster #: its torque must be finite and above 0.\n\
+02 00 20 00 The pyramid: its skew must lie between 0 and 1.6, its momentum, rate and eps must be finite and above 0.\n\
+03 00 00 00 Wheel #: its axis must be finite and must not be 0.\n\
+03 00 08 08 Thruster #: its axis must be finite and must not be 0.\n\
+03 00 20 00 An axis must be finite and must not be 0.\n\
+04 00 00 00 A torque or slew limit must be finite and above 0, a weight finite and not below 0, a tolerance between 0 and 1.\n\
+05 00 00 00 The start attitude q0 is no unit quaternion within the norm tolerance: normalize it.\n\
+05 00 01 00 The end attitude qf is no unit quaternion within the norm tolerance: normalize it.\n\
+05 00 02 00 An attitude in a forward run is no unit quaternion within the norm tolerance: widen it.\n\
+05 03 00 00 Sample #: its attitude is no unit quaternion within the norm tolerance: widen it, or look at the nodes.\n\
+06 00 00 00 The inertia must be symmetric and positive definite: look at its nine numbers.\n\
+06 00 01 00 The first three axes, or the pyramid's gyros, do not span the three directions: turn an axis, or change the skew.\n\
+07 00 00 00 The two attitudes do not differ: there is nothing to slew.\n\
+07 00 01 00 The slew is half a turn, whose axis the search does not choose: plan the slew about one axis (eigenaxis).\n\
+07 00 02 00 The torque limits or the slew limit are too small or too large for a profile: look at their units.\n\
+08 00 00 00 These actuators are not served: take none, three or more wheels, three or more thrusters, or one pyramid.\n\
+09 00 00 00 The workspace is too short for these controls: the programs lend 8,000 numbers, for 4 controls a row or 3 with a pointing weight. Declare fewer, or call the library and lend more.\n\
+10 00 00 00 The seed must have 17 nodes and a finite duration above 0: look at the seed, or at torque limits near 0.\n\
+11 00 00 00 Step # of a run turns through an angle out of range: plan the slew about one axis (eigenaxis), or look at the units of the limits.\n\
+11 01 00 00 The slew is half a turn but for rounding, and the tie tolerance lets it pass: plan the slew about one axis (eigenaxis).\n\
+11 03 00 00 Sample # turns through an angle out of range: look at the nodes and the duration.\n\
+12 00 00 00 Step # of a run meets a singular pyramid: plan the slew about one axis (eigenaxis).\n\
+13 00 00 00 Step # of a run takes a wheel over its power: plan the slew about one axis (eigenaxis).\n\
+14 00 00 00 The search did not reach qf: plan the slew about one axis (eigenaxis), or try all weights at 0.\n\
+15 00 00 00 The search did not come to rest at its end: plan the slew about one axis (eigenaxis), or try all weights at 0.\n\
+16 00 00 00 The path that was found has too large a defect, which is rounding alone: look at the units of inertia and torques.\n\
+17 00 00 00 Node # of the path that was found is over a torque limit: plan the slew about one axis (eigenaxis).\n\
+18 00 00 00 Node # of the path that was found is over the slew limit: plan the slew about one axis (eigenaxis), or leave that limit out.\n\
+19 00 00 00 Node # of the path that was found is over a wheel's momentum: begin with slower wheels, or raise their momentum limits.\n\
+20 00 00 00 There would be more than 100,000 samples: ask for fewer, or plan a shorter slew.\n\
+20 00 01 00 There is no sample of this index: it must be below the count.\n\
+21 00 00 00 The text is too long: a problem's and a table's have at most 4,096 bytes, a mosaic's 16,384: shorten it.\n\
+21 00 01 00 Line # of the text is wrong or missing: compare it with its form.\n\
+22 00 00 00 Wheel #: its start momentum must be finite and at most its limit in size, one for each wheel.\n\
+23 00 00 00 A mosaic has 2 to 64 attitudes: give more of them, or cut it at a tile and plan both parts.\n\
+24 00 00 00 Sample #: a part does not fit the drive board's 32 bits: rates, torques and momenta must be below 2,048 in size.\n\
+25 00 00 00 There is no tile, or there are more than 10, or a time is outside 1 to 10,000,000 milliseconds.\n\
+26 00 00 00 Wheel #: the momenta on record are not those that the preview began from, or it was refused: preview again.\n\
+27 00 00 00 Outside the room: the angle goes from -64 to 64, the rate from -8 to 8; of a reply the choice from -2 to 2, the turns left from 1 to 64.\n\
+28 00 00 00 The column has more than 4,096 numbers, the bytes are not 8 for each, or the output is too short.\n";
+
+// A decimal digit's number; 0 of what is before the digits, and past the end.
+fn digit(t: &[u8], k: usize) -> usize
+    ensures { λ r. ⌜ (r ≡ getD (now (t .entry)) k 0 - 48) × (r < 256) ⌝ }
 {
-    let i = put_all(out, 0, head);
-    let j = put_digits(out, i, 20, count);
-    put_all(out, j, tail)
+    let b = byte(t, k) as usize;
+    if b < 48 {
+        return 0;
+    }
+    b - 48
 }
 
-// Refusal 1, by the list that is too long.
-fn list(place: usize, out: &mut [u8]) -> usize
-    ensures { λ r. ⌜ Puts (now (out .entry)) 0 (Sentences.list place) 212 (now (out .exit)) r ⌝ }
+// The number of two digits.
+fn number_at(t: &[u8], k: usize) -> usize
+    requires { ⌜ k < 2 ^ 32 ⌝ }
+    ensures { λ r. ⌜ r ≡ Sentences.numberAt (now (t .entry)) k ⌝ }
 {
-    match place {
-        0 => put_all(out, 0, b"There are more than 8 wheels: leave some out.\n"),
-        _ => put_all(
-            out,
-            0,
-            b"There are more than 12 thrusters: leave some out.\n",
-        ),
+    digit(t, k) * 10 + digit(t, k + 1)
+}
+
+// Whether a line begins at k.
+fn begins(t: &[u8], k: usize) -> bool
+    ensures { λ r. ⌜ r ≡ Sentences.begins (now (t .entry)) k ⌝ }
+{
+    if k == 0 {
+        return true;
+    }
+    byte(t, k - 1) == b'\n'
+}
+
+// When a refusal was met.
+fn met(runs: usize, sampled: bool) -> usize
+    ensures { λ r. ⌜ r ≡ Sentences.met runs sampled ⌝ }
+{
+    if sampled {
+        return 3;
+    }
+    if runs == 0 { 1 } else { 2 }
+}
+
+// Whether the line at k is for a refusal.
+fn serves(t: &[u8], n: usize, place: usize, when: usize, k: usize) -> bool
+    requires { ⌜ k < 2 ^ 31 ⌝ }
+    ensures { λ r. ⌜ r ≡ Sentences.serves (now (t .entry)) n place when k ⌝ }
+{
+    if number_at(t, k) != n {
+        return false;
+    }
+    if place < number_at(t, k + 6) {
+        return false;
+    }
+    let asked = number_at(t, k + 3);
+    if asked == 0 {
+        return true;
+    }
+    asked == when
+}
+
+// The line at k where it is for a refusal, else the one that was found before it.
+fn later(t: &[u8], n: usize, place: usize, when: usize, k: usize, found: usize) -> usize
+    requires { ⌜ k < 2 ^ 31 ⌝ }
+    ensures { λ r. ⌜ r ≡ Sentences.later (now (t .entry)) n place when k found ⌝ }
+{
+    if !begins(t, k) {
+        return found;
+    }
+    if serves(t, n, place, when, k) {
+        return k;
+    }
+    found
+}
+
+// Where the last line for a refusal begins.
+fn line_for(t: &[u8], n: usize, place: usize, when: usize) -> usize
+    requires { ⌜ length (now t) < 2 ^ 16 ⌝ }
+    ensures { λ r. ⌜ (r ≡ Sentences.lineFor (now (t .entry)) n place when) × (r ≤ length (now (t .entry))) ⌝ }
+{
+    let mut found: usize = 0;
+    let mut k: usize = 0;
+    while k < t.len() {
+        found = later(t, n, place, when, k, found);
+        k += 1;
+    }
+    found
+}
+
+// A byte of a sentence, or the count in the place of `#`.
+fn put_marked(out: &mut [u8], at: usize, count: usize, b: u8) -> usize
+    requires { ⌜ at < 2 ^ 31 ⌝ }
+    ensures { λ r. ⌜ Puts (now (out .entry)) at (Sentences.marked count b) 20 (now (out .exit)) r ⌝ }
+{
+    if b == b'#' {
+        return put_digits(out, at, 20, count);
+    }
+    put_byte(out, at, b)
+}
+
+// The rest of a line from `from` on, the count in it.
+fn put_line(out: &mut [u8], t: &[u8], from: usize, count: usize) -> usize
+    requires { ⌜ length (now t) < 2 ^ 16 ⌝ }
+    ensures { λ r. ⌜ Tells (now (out .entry)) (Sentences.told count (drop from (now (t .entry)))) (now (out .exit)) r ⌝ }
+{
+    let mut at: usize = 0;
+    let mut k = from;
+    while k < t.len() {
+        let b = t[k];
+        if b == b'\n' {
+            return put_byte(out, at, b);
+        }
+        at = put_marked(out, at, count, b);
+        k += 1;
+    }
+    at
+}
+
+// How far a place lies above a number.
+fn above(place: usize, least: usize) -> usize
+    ensures { λ r. ⌜ r ≡ place - least ⌝ }
+{
+    if place < least {
+        return 0;
+    }
+    place - least
+}
+
+// The sentence for a refusal in a table.
+fn put_sentence(out: &mut [u8], t: &[u8], n: usize, place: usize, when: usize) -> usize
+    requires { ⌜ length (now t) < 2 ^ 16 ⌝ }
+    ensures { λ r. ⌜ Tells (now (out .entry)) (Sentences.sentence (now (t .entry)) place (Sentences.lineFor (now (t .entry)) n place when)) (now (out .exit)) r ⌝ }
+{
+    let k = line_for(t, n, place, when);
+    let least = number_at(t, k + 9);
+    put_line(out, t, k + 12, above(place, least))
+}
+
+// What a refusal means: what was wrong, with which item, and what to change. `runs` are the forward runs begun; `sampled` is whether a dense sample was refused and not the plan.
+pub fn explain(number: usize, place: usize, runs: usize, sampled: bool, out: &mut [u8]) -> usize
+    ensures { λ r. ⌜ Puts (now (out .entry)) 0 (Sentences.explain number place runs sampled) 212 (now (out .exit)) r ⌝ }
+{
+    put_sentence(out, &TABLE, number, place, met(runs, sampled))
+}
+
+// What a plan's refusal means; of a path nothing.
+pub fn explain_plan(fate: Fate, runs: usize, out: &mut [u8]) -> usize
+    ensures { λ r. ⌜ Puts (now (out .entry)) 0 (Sentences.explainPlan fate runs) 212 (now (out .exit)) r ⌝ }
+{
+    match fate {
+        Fate::Refused(number, place) => explain(number, place, runs, false, out),
+        Fate::Going => 0,
     }
 }
 
-// Refusal 2, by the actuator that has a number outside its range.
-fn declared(place: usize, out: &mut [u8]) -> usize
-    ensures { λ r. ⌜ Puts (now (out .entry)) 0 (Sentences.declared place) 212 (now (out .exit)) r ⌝ }
+// The whole table, a line for each sentence, for whoever tells them in another language.
+pub fn write_table(out: &mut [u8]) -> usize
+    ensures { λ r. ⌜ Puts (now (out .entry)) 0 Sentences.table 8192 (now (out .exit)) r ⌝ }
 {
-    match place {
-        0..=7 => tell(
-            out,
-            b"Wheel ",
-            place,
-            b": its torque, its momentum and its power must be finite and above 0.\n",
-        ),
-        8..=19 => tell(
-            out,
-            b"Thruster ",
-            place - 8,
-            b": its torque must be finite and above 0.\n",
-        ),
-        _ => put_all(
-            out,
-            0,
-            b"The pyramid: its skew must lie between 0 and 1.6, its momentum, rate and eps must be finite and above 0.\n",
-        ),
-    }
-}
-
-// Refusal 3, by the actuator that has no axis.
-fn axis(place: usize, out: &mut [u8]) -> usize
-    ensures { λ r. ⌜ Puts (now (out .entry)) 0 (Sentences.axis place) 212 (now (out .exit)) r ⌝ }
-{
-    match place {
-        0..=7 => tell(
-            out,
-            b"Wheel ",
-            place,
-            b": its axis must be finite and must not be 0.\n",
-        ),
-        8..=19 => tell(
-            out,
-            b"Thruster ",
-            place - 8,
-            b": its axis must be finite and must not be 0.\n",
-        ),
-        _ => put_all(out, 0, b"An axis must be finite and must not be 0.\n"),
-    }
-}
-
-// Refusal 5, by the attitude.
-fn attitude(place: usize, out: &mut [u8]) -> usize
-    ensures { λ r. ⌜ Puts (now (out .entry)) 0 (Sentences.attitude place) 212 (now (out .exit)) r ⌝ }
-{
-    match place {
-        0 => put_all(
-            out,
-            0,
-            b"The start attitude q0 is no unit quaternion within the norm tolerance: normalize it.\n",
-        ),
-        1 => put_all(
-            out,
-            0,
-            b"The end attitude qf is no unit quaternion within the norm tolerance: normalize it.\n",
-        ),
-        _ => put_all(
-            out,
-            0,
-            b"An attitude in a forward run lost its unit length: lower the torque limits, or widen the norm tolerance.\n",
-        ),
-    }
-}
-
-// Refusal 6, by the matrix.
-fn matrix(place: usize, out: &mut [u8]) -> usize
-    ensures { λ r. ⌜ Puts (now (out .entry)) 0 (Sentences.matrix place) 212 (now (out .exit)) r ⌝ }
-{
-    match place {
-        0 => put_all(
-            out,
-            0,
-            b"The inertia must be symmetric and positive definite: look at its nine numbers.\n",
-        ),
-        _ => put_all(
-            out,
-            0,
-            b"The first three axes do not span the three directions: turn one of them.\n",
-        ),
-    }
-}
-
-// Refusal 7, by what is in the way of a profile.
-fn profile(place: usize, out: &mut [u8]) -> usize
-    ensures { λ r. ⌜ Puts (now (out .entry)) 0 (Sentences.profile place) 212 (now (out .exit)) r ⌝ }
-{
-    match place {
-        0 => put_all(
-            out,
-            0,
-            b"The two attitudes do not differ: there is nothing to slew.\n",
-        ),
-        1 => put_all(
-            out,
-            0,
-            b"The slew is half a turn, whose axis is not determined: go by an attitude between.\n",
-        ),
-        _ => put_all(
-            out,
-            0,
-            b"The limits leave no profile for this slew: raise the torque limits or the slew limit.\n",
-        ),
-    }
-}
-
-// Refusal 20, by what was asked for.
-fn samples(place: usize, out: &mut [u8]) -> usize
-    ensures { λ r. ⌜ Puts (now (out .entry)) 0 (Sentences.samples place) 212 (now (out .exit)) r ⌝ }
-{
-    match place {
-        0 => put_all(
-            out,
-            0,
-            b"There would be more than 100,000 samples: ask for fewer.\n",
-        ),
-        _ => put_all(
-            out,
-            0,
-            b"There is no sample of this index: it must be below the count.\n",
-        ),
-    }
-}
-
-// Refusal 21, by the line.
-fn line(place: usize, out: &mut [u8]) -> usize
-    ensures { λ r. ⌜ Puts (now (out .entry)) 0 (Sentences.line place) 212 (now (out .exit)) r ⌝ }
-{
-    match place {
-        0 => put_all(
-            out,
-            0,
-            b"The text is longer than 4,096 bytes: shorten it.\n",
-        ),
-        _ => tell(
-            out,
-            b"Line ",
-            place,
-            b" of the text is wrong or missing: compare it with its form.\n",
-        ),
-    }
-}
-
-// What is wrong with the problem as it was given, refusals 1 to 10.
-fn argument(number: usize, place: usize, out: &mut [u8]) -> usize
-    ensures { λ r. ⌜ Puts (now (out .entry)) 0 (Sentences.argument number place) 212 (now (out .exit)) r ⌝ }
-{
-    match number {
-        1 => list(place, out),
-        2 => declared(place, out),
-        3 => axis(place, out),
-        4 => put_all(
-            out,
-            0,
-            b"A torque or slew limit must be finite and above 0, a weight finite and not below 0, a tolerance between 0 and 1.\n",
-        ),
-        5 => attitude(place, out),
-        6 => matrix(place, out),
-        7 => profile(place, out),
-        8 => put_all(
-            out,
-            0,
-            b"These actuators are not served: take none, three or more wheels, three or more thrusters, or one pyramid.\n",
-        ),
-        9 => put_all(
-            out,
-            0,
-            b"The workspace is too short for these controls: lend more numbers, or declare fewer actuators.\n",
-        ),
-        _ => put_all(
-            out,
-            0,
-            b"The seed must have 17 nodes and a finite duration above 0: look at the seed, or at torque limits near 0.\n",
-        ),
-    }
-}
-
-// What ended a forward run, refusals 11 to 13.
-fn run(number: usize, place: usize, out: &mut [u8]) -> usize
-    ensures { λ r. ⌜ Puts (now (out .entry)) 0 (Sentences.run number place) 212 (now (out .exit)) r ⌝ }
-{
-    match number {
-        11 => tell(
-            out,
-            b"Step ",
-            place,
-            b" of a run turns through an angle out of range: lower the torque limits or the slew limit.\n",
-        ),
-        12 => tell(
-            out,
-            b"Step ",
-            place,
-            b" of a run meets a singular pyramid: choose another skew, or a smaller eps.\n",
-        ),
-        _ => tell(
-            out,
-            b"Step ",
-            place,
-            b" of a run takes a wheel over its power: raise its power, or lower its torque.\n",
-        ),
-    }
-}
-
-// Where the path that was found is no answer, refusals 14 to 19.
-fn end_check(number: usize, place: usize, out: &mut [u8]) -> usize
-    ensures { λ r. ⌜ Puts (now (out .entry)) 0 (Sentences.endCheck number place) 212 (now (out .exit)) r ⌝ }
-{
-    match number {
-        14 => put_all(
-            out,
-            0,
-            b"The path that was found ends away from qf: raise the torque limits, or change the weights.\n",
-        ),
-        15 => put_all(
-            out,
-            0,
-            b"The path that was found does not end at rest: raise the torque limits, or change the weights.\n",
-        ),
-        16 => put_all(
-            out,
-            0,
-            b"The steps of the path that was found do not fit together: change the weights, or lower the limits.\n",
-        ),
-        17 => tell(
-            out,
-            b"Node ",
-            place,
-            b" of the path that was found is over a torque limit: raise it, or lower the weight of time.\n",
-        ),
-        18 => tell(
-            out,
-            b"Node ",
-            place,
-            b" of the path that was found is over the slew limit: raise it, or lower the torque limits.\n",
-        ),
-        _ => tell(
-            out,
-            b"Node ",
-            place,
-            b" of the path that was found is over a wheel's momentum: raise it, or slew more slowly.\n",
-        ),
-    }
-}
-
-// Refusals above 21, an arm each, and the numbers that no refusal has.
-fn later(number: usize, place: usize, out: &mut [u8]) -> usize
-    ensures { λ r. ⌜ Puts (now (out .entry)) 0 (Sentences.later number place) 212 (now (out .exit)) r ⌝ }
-{
-    match number {
-        22 => tell(
-            out,
-            b"Wheel ",
-            place,
-            b": its start momentum must be finite and at most its limit in size, one for each wheel.\n",
-        ),
-        23 => put_all(
-            out,
-            0,
-            b"A mosaic has 2 to 64 attitudes: give more of them, or cut it at a tile and plan both parts.\n",
-        ),
-        24 => tell(
-            out,
-            b"Sample ",
-            place,
-            b": a part does not fit the drive board's 32 bits: rates, torques and momenta must be below 2,048 in size.\n",
-        ),
-        25 => put_all(
-            out,
-            0,
-            b"There is no tile, or there are more than 10, or a time is outside 1 to 10,000,000 milliseconds.\n",
-        ),
-        26 => tell(
-            out,
-            b"Wheel ",
-            place,
-            b": the momenta on record are not those that the preview began from, or it was refused: preview again.\n",
-        ),
-        27 => put_all(
-            out,
-            0,
-            b"Outside the room: the angle goes from -64 to 64, the rate from -8 to 8; of a reply the choice from -2 to 2, the turns left from 1 to 64.\n",
-        ),
-        28 => put_all(
-            out,
-            0,
-            b"The column has more than 4,096 numbers, the bytes are not 8 for each, or the output is too short.\n",
-        ),
-        _ => put_all(out, 0, b"No refusal has this number.\n"),
-    }
-}
-
-// What a refusal means: what was wrong, with which item, and what to change.
-pub fn explain(number: usize, place: usize, out: &mut [u8]) -> usize
-    ensures { λ r. ⌜ Puts (now (out .entry)) 0 (Sentences.explain number place) 212 (now (out .exit)) r ⌝ }
-{
-    match number {
-        1..=10 => argument(number, place, out),
-        11..=13 => run(number, place, out),
-        14..=19 => end_check(number, place, out),
-        20 => samples(place, out),
-        21 => line(place, out),
-        _ => later(number, place, out),
-    }
+    put_all(out, 0, &TABLE)
 }

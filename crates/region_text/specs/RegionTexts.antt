@@ -1,5 +1,6 @@
 -- What is printed of the room's game, byte for byte. Definitions only.
 use Prim.Native.Nat.{ℕ, _+_, _*_}
+use mathlib.Core.Bool.{false}
 use mathlib.Core.List.{List, [], _++_}
 use lib.IntN.{ℤ, subℕ}
 use lib.ListN.{getD}
@@ -42,7 +43,7 @@ printed (Refused number place runs) form = refused number place runs
 
 abbrev pub sentence : {A : Type 0} → Answer A → List ℕ
 sentence (Given a) = []
-sentence (Refused number place runs) = explain number place
+sentence (Refused number place runs) = explain number place runs false
 
 -- both texts are put into lent buffers as far as these reach
 pub record Prints (t u out said : List ℕ) (r : Printed) (out′ said′ : List ℕ) : Type 0 where

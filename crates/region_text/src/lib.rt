@@ -1,6 +1,6 @@
 // What the program slew_region prints: the outcome of a start, the draught's reply, the whole region; and what a refusal means.
 ghost use mathlib.Core.Path.{_≡_};
-ghost use mathlib.Core.Bool.{true};
+ghost use mathlib.Core.Bool.{true, false};
 ghost use Prim.Native.Nat.{_*_, _≤_, _<_, _^_};
 ghost use Rattle.reach_avoid.specs.Room as Room;
 ghost use Rattle.text_writer.specs.Puts.{Puts};
@@ -60,10 +60,10 @@ fn put_with(out: &mut [u8], d: i64) -> usize
 
 // Refusal 27, and what it means.
 fn refuse(out: &mut [u8], said: &mut [u8]) -> Printed
-    ensures { λ r. ⌜ Prints (refused 27 0 0) (Sentences.explain 27 0) (now (out .entry)) (now (said .entry)) r (now (out .exit)) (now (said .exit)) ⌝ }
+    ensures { λ r. ⌜ Prints (refused 27 0 0) (Sentences.explain 27 0 0 false) (now (out .entry)) (now (said .entry)) r (now (out .exit)) (now (said .exit)) ⌝ }
 {
     let bytes = write_refused(out, 27, 0, 0);
-    let told = explain(27, 0, said);
+    let told = explain(27, 0, 0, false, said);
     Printed {
         bytes: bytes,
         said: told,

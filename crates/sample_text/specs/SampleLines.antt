@@ -7,6 +7,8 @@ use mathlib.Core.List.{List, [], _++_}
 use lib.Dec.{eqb}
 use lib.Ieee.{Float}
 use Rattle.common.specs.Answer.{Answer, Given, Refused}
+use Rattle.common.specs.declared.Fate.{Fate}
+use Rattle.common.specs.declared.Fate.the-variants as Fate
 use Rattle.samples.specs.Counts.{sampleCount}
 use Rattle.samples.specs.declared.Count.{Count}
 use Rattle.samples.specs.declared.Count.the-variants as Count
@@ -44,9 +46,14 @@ abbrev pub lineBy : {A : Type 0} → (A → List ℕ) → Answer A → List ℕ
 lineBy form (Given a) = form a
 lineBy form (Refused number place runs) = Texts.refused number place runs
 
-abbrev pub sentenceBy : {A : Type 0} → Answer A → List ℕ
-sentenceBy (Given a) = []
-sentenceBy (Refused number place runs) = Sentences.explain number place
+-- of a path that was planned a refusal is a sample's, else the plan's
+abbrev pub isPlanned : Fate → Bool
+isPlanned Fate.Going = true
+isPlanned (Fate.Refused number place) = false
+
+abbrev pub sentenceBy : {A : Type 0} → Bool → Answer A → List ℕ
+sentenceBy sampled (Given a) = []
+sentenceBy sampled (Refused number place runs) = Sentences.explain number place runs sampled
 
 abbrev pub moreBy : {A : Type 0} → Answer A → Bool → Bool
 moreBy (Given a) last = not last
@@ -58,10 +65,10 @@ pub record Prints (line : List ℕ) (most : ℕ) (sentence : List ℕ) (more : B
   pub says : Puts said 0 sentence 212 said′ (r .said)
   pub goes : r .more ≡ more
 
-abbrev pub Steps : {A : Type 0} → (A → List ℕ) → ℕ → Answer A → Bool → List ℕ → List ℕ → Line → List ℕ → List ℕ → Type 0
-Steps form most a last = Prints (lineBy form a) most (sentenceBy a) (moreBy a last)
+abbrev pub Steps : {A : Type 0} → (A → List ℕ) → ℕ → Bool → Answer A → Bool → List ℕ → List ℕ → Line → List ℕ → List ℕ → Type 0
+Steps form most sampled a last = Prints (lineBy form a) most (sentenceBy sampled a) (moreBy a last)
 
 -- ---- the step of sample number index
 abbrev pub StepsAt : Course → ℕ → Float → ℕ → List ℕ → List ℕ → Line → List ℕ → List ℕ → Type 0
 StepsAt c requested alpha index =
-    let last = isLast (c .duration) requested alpha index in Steps (sampleLine index last) 272 (answer (sampleCourse c requested alpha index)) last
+    let last = isLast (c .duration) requested alpha index in Steps (sampleLine index last) 272 (isPlanned (c .fate)) (answer (sampleCourse c requested alpha index)) last

@@ -65,18 +65,30 @@ fn put_sample(out: &mut [u8], index: usize, last: bool, s: PathSample) -> usize
     put_either(out, j, last, b"))\n", b")\n")
 }
 
+// Whether a text's plan is a path, so that a refusal is a sample's.
+pub fn is_planned(c: Course) -> bool
+    ensures { λ r. ⌜ r ≡ SampleLines.isPlanned (c .fate) ⌝ }
+{
+    let fate = c.fate;
+    match fate {
+        Fate::Refused(_, _) => false,
+        Fate::Going => true,
+    }
+}
+
 // A refusal, after which no step follows.
 pub fn tell_refused(
+    sampled: bool,
     number: usize,
     place: usize,
     runs: usize,
     out: &mut [u8],
     said: &mut [u8],
 ) -> Line
-    ensures { λ r. ⌜ Prints (Texts.refused number place runs) 100 (Sentences.explain number place) false (now (out .entry)) (now (said .entry)) r (now (out .exit)) (now (said .exit)) ⌝ }
+    ensures { λ r. ⌜ Prints (Texts.refused number place runs) 100 (Sentences.explain number place runs sampled) false (now (out .entry)) (now (said .entry)) r (now (out .exit)) (now (said .exit)) ⌝ }
 {
     let bytes = write_refused(out, number, place, runs);
-    let told = explain(number, place, said);
+    let told = explain(number, place, runs, sampled, said);
     Line {
         bytes: bytes,
         said: told,
@@ -95,11 +107,12 @@ pub fn write_step(
 ) -> Line
     ensures { λ r. ⌜ StepsAt c requested alpha index (now (out .entry)) (now (said .entry)) r (now (out .exit)) (now (said .exit)) ⌝ }
 {
+    let sampled = is_planned(c);
     let d = sample_course(c, requested, alpha, index);
     let made = d.sampled;
     let fate = made.fate;
     match fate {
-        Fate::Refused(number, place) => tell_refused(number, place, d.runs, out, said),
+        Fate::Refused(number, place) => tell_refused(sampled, number, place, d.runs, out, said),
         Fate::Going => {
             let s = made.sample;
             let last = is_last(c.duration, requested, alpha, index);

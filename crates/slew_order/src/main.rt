@@ -9,7 +9,7 @@ use refusal_text::explain;
 // What a refusal means, in a sentence.
 fn say(number: usize, place: usize) {
     let mut sentence = [0u8; 256];
-    let n = explain(number, place, &mut sentence);
+    let n = explain(number, place, 0, false, &mut sentence);
     io::write_all(STDERR_FILENO, &sentence[..n]);
 }
 

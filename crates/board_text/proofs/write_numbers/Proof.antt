@@ -8,7 +8,7 @@ returns : tie.Need-returns
 returns c =
     let told = c .before .before .before .before in
     let fate = told .before .before .before .before in
-    steps-refused _ _ _ _ (fate .before .before .before .board-course .ensures) (fate .fate .given .1) (told .tell-refused .ensures)
+    steps-refused _ _ _ _ (fate .before .before .before .board-course .ensures) (fate .before .before .before .before .is-planned .ensures) (fate .fate .given .1) (told .tell-refused .ensures)
 
 returns-2 : tie.Need-returns-2
 returns-2 c =
@@ -17,4 +17,4 @@ returns-2 c =
     steps-given _ _ _ _ (fate .before .before .before .board-course .ensures) (fate .enum-told .given .1) (put .before .before .is-last .ensures) (put .put-line .ensures)
 
 pub write-numbers-spec : {M : Type 1} → statement M
-write-numbers-spec = tie.close (tie.spec (λ c κs. search needs) (λ c. search needs) (λ c κs. search needs) (λ c. search needs) (λ c κs. search needs) (λ c κs. search needs) (λ c. search needs) (λ c. search needs) returns (λ c. search needs) returns-2)
+write-numbers-spec = tie.close (tie.spec (λ c κs. search needs) (λ c κs. search needs) (λ c. search needs) (λ c κs. search needs) (λ c. search needs) (λ c κs. search needs) (λ c κs. search needs) (λ c. search needs) (λ c. search needs) returns (λ c. search needs) returns-2)

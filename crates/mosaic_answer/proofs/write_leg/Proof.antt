@@ -11,7 +11,7 @@ returns c =
     let headed = told .before .before .before .before .before in
     let planned = headed .before .before .before .before in
     let after = planned .before .before .before in
-    leg-written _ _ _ (after .before .tile-at .ensures) (after .tile-after .ensures) (planned .next .ensures) (headed .write-heading .ensures) (told .tell .ensures) (said .say-leg .ensures)
+    leg-written _ _ _ (after .before .tile-at .ensures) (after .tile-after .ensures) (planned .next .ensures) (headed .write-heading .ensures) (told .tell .ensures) (said .explain-plan .ensures)
 
 pub write-leg-spec : {M : Type 1} → statement M
 write-leg-spec =
