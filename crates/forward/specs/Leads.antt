@@ -1,5 +1,5 @@
 -- A step in two parts: its lead, which is all that it gives but for the attitude, and its attitude. Both together are the step law's step. Assumes nothing.
-use Prim.Native.Nat.{ℕ, _+_, _-_, _<_}
+use Prim.Native.Nat.{ℕ, _+_, _-_, _<_, _≤_}
 use mathlib.Core.Path.{_≡_, refl, sym, ap, _∙_, subst}
 use mathlib.Core.List.{List}
 use native.Mathlib.Omega.{arith}
@@ -130,26 +130,33 @@ leads-same b u k {s} {s2} {l} e h = record {
   hands = h .hands;
 }
 
--- ---- the loop of a run, where i leads are made: at first the lead l ends in the start s, then it is that of the step from s
-pub record Chased (b : Body) (n : ℕ) (z : List Float) (i : ℕ) (s : State) (l : Lead) : Type 0 where
-  pub first : i ≡ 0 → (l .s ≡ s) × Made (b .rig .cmgs) (l .s .delta) (l .a)
-  pub later : 0 < i → i < 17 → Leads b (rowOf n z (i - 1)) (i - 1) s l
+-- x is the lead of step i from where the lead l ends; from step `end` on l stays
+pub record Next (b : Body) (n : ℕ) (z : List Float) (i end : ℕ) (l x : Lead) : Type 0 where
+  pub leads : i < end → Made (b .rig .cmgs) (l .s .delta) (l .a) → Leads b (rowOf n z i) i (l .s) x
+  pub stays : end ≤ i → x ≡ l
 
-module _ (b : Body) (n : ℕ) (z : List Float) (i : ℕ) {s : State} {l : Lead} (c : Chased b n z i s l) where
-  pub chased-step : {t : Attitude} {g : Stepped} → 0 < i → i < 17 → t ≡ turnedTo (expAt (l .turn) (norm3 (l .turn))) (b .frame .tolerance) (s .q) → g ≡ joined t (i - 1) l s
+-- ---- the loop of steps k up to `end`, where the leads below i are made: at first the lead l ends in the start s, then it is that of the step from s, at last it has the matrix in s
+pub record Chased (b : Body) (n : ℕ) (z : List Float) (k end i : ℕ) (s : State) (l : Lead) : Type 0 where
+  pub first : i ≡ k → (l .s ≡ s) × Made (b .rig .cmgs) (l .s .delta) (l .a)
+  pub later : k < i → i ≤ end → Leads b (rowOf n z (i - 1)) (i - 1) s l
+  pub past : end < i → Made (b .rig .cmgs) (s .delta) (l .a)
+
+module _ (b : Body) (n : ℕ) (z : List Float) (k end i : ℕ) {s : State} {l : Lead} (c : Chased b n z k end i s l) where
+  pub chased-step : {t : Attitude} {g : Stepped} → k < i → i ≤ end → t ≡ turnedTo (expAt (l .turn) (norm3 (l .turn))) (b .frame .tolerance) (s .q) → g ≡ joined t (i - 1) l s
       → g ≡ step b (rowOf n z (i - 1)) (i - 1) s
   chased-step h m e j = j ∙ (ap (λ (y : Attitude). joined y (i - 1) l s) e ∙ c .later h m .steps (s .q))
 
-  module _ {x : Lead} (a : i < 16 → Made (b .rig .cmgs) (l .s .delta) (l .a) → Leads b (rowOf n z i) i (l .s) x) where
-    next-by : {s2 : State} → ((q : Quat) → facing q (l .s) ≡ facing q s2) → Made (b .rig .cmgs) (l .s .delta) (l .a) → Chased b n z (i + 1) s2 x
-    next-by {s2} e m = record {
+  module _ {x : Lead} (a : Next b n z i end l x) where
+    next-by : {s2 : State} → k ≤ i → ((q : Quat) → facing q (l .s) ≡ facing q s2) → Made (b .rig .cmgs) (l .s .delta) (l .a) → Chased b n z k end (i + 1) s2 x
+    next-by {s2} o e m = record {
       first = λ h. absurd (omega arith);
-      later = λ h k. subst (λ (j : ℕ). Leads b (rowOf n z j) j s2 x) (omega arith) (leads-same b (rowOf n z i) i e (a (omega arith) m));
+      later = λ h f. subst (λ (j : ℕ). Leads b (rowOf n z j) j s2 x) (omega arith) (leads-same b (rowOf n z i) i e (a .leads (omega arith) m));
+      past = λ h. rw (a .stays (omega arith), ← ap (λ (y : State). y .delta) (e (l .s .q))) m;
     }
 
-    pub chased-first : i ≡ 0 → Chased b n z (i + 1) s x
-    chased-first h = next-by (λ q. ap (facing q) (c .first h .0)) (c .first h .1)
+    pub chased-first : i ≡ k → Chased b n z k end (i + 1) s x
+    chased-first h = next-by (omega arith) (λ q. ap (facing q) (c .first h .0)) (c .first h .1)
 
-    pub chased-next : {t : Attitude} {g : Stepped} → 0 < i → i < 17 → t ≡ turnedTo (expAt (l .turn) (norm3 (l .turn))) (b .frame .tolerance) (s .q) → g ≡ joined t (i - 1) l s → g .fate ≡ Going
-        → Chased b n z (i + 1) (g .s) x
-    chased-next {t} h m e j o = let f = follows t (i - 1) l s j o in next-by (f .same) (c .later h m .hands (f .goes))
+    pub chased-next : {t : Attitude} {g : Stepped} → k < i → i ≤ end → t ≡ turnedTo (expAt (l .turn) (norm3 (l .turn))) (b .frame .tolerance) (s .q) → g ≡ joined t (i - 1) l s → g .fate ≡ Going
+        → Chased b n z k end (i + 1) (g .s) x
+    chased-next {t} h m e j o = let f = follows t (i - 1) l s j o in next-by (omega arith) (f .same) (c .later h m .hands (f .goes))

@@ -7,6 +7,7 @@ pub mod Operations  -- `reconstruct` as a user calls it, the checks first
 -- ---- laws
 pub mod StepLaws  -- what a step needs of the pyramid's skew and matrix, and what it hands on
 pub mod RunLaws  -- what the loop of a run leans on
+pub mod PartLaws  -- a run part of the way, as the code keeps it, and the rest of its steps
 pub mod Defects  -- the largest of the defects by one root
 pub mod Pasted  -- a part put back keeps the list's length
 -- ---- inner words of proofs

@@ -24,16 +24,22 @@ use Rattle.forward.specs.declared.Run.{Run}
 abbrev pub going : State → Float → List Node → Course
 going s d ns = record { fate = Going; s = s; defect = d; nodes = ns }
 
-turn-refused : (b : Body) (n : ℕ) (z : List Float) (k : ℕ) (c : Course) {i j : ℕ} → c .fate ≡ Refused i j → courseTurn b n z k c ≡ c
+pub turn-refused : (b : Body) (n : ℕ) (z : List Float) (k : ℕ) (c : Course) {i j : ℕ} → c .fate ≡ Refused i j → courseTurn b n z k c ≡ c
 unfolding courseTurn
 turn-refused b n z k c h = ap (λ (e : Fate). courseBy e b n z k c) h
 
--- the loop makes a lead before it makes a step: where i leads are made, i - 1 steps are
-pub course-waits : {A : Type 0} (f : ℕ → A → A) (a : A) (i : ℕ) {s : A} → i ≡ 0 → s ≡ iter f a (i - 1) → s ≡ iter f a (i + 1 - 1)
-course-waits f a i h p = let e : i - 1 ≡ i + 1 - 1 = omega arith in rw e at p
+-- the loop makes a lead before it makes a step: where the leads from step k up to i are made, i - k - 1 steps are
+pub course-none : {A : Type 0} (f : ℕ → A → A) (a : A) (k : ℕ) → a ≡ iter f a (k - k - 1)
+course-none f a k = let e : 0 ≡ k - k - 1 = omega arith in rw e at (iter-none f a)
 
-pub course-next : {A : Type 0} (f : ℕ → A → A) (a : A) (i : ℕ) {s r : A} → 0 < i → s ≡ iter f a (i - 1) → r ≡ f (i - 1) s → r ≡ iter f a (i + 1 - 1)
-course-next f a i h p q = let e : i - 1 + 1 ≡ i + 1 - 1 = omega arith in rw e at (iter-next f a (i - 1) p q)
+pub course-waits : {A : Type 0} (f : ℕ → A → A) (a : A) (k i : ℕ) {s : A} → i ≡ k → s ≡ iter f a (i - k - 1) → s ≡ iter f a (i + 1 - k - 1)
+course-waits f a k i h p = let e : i - k - 1 ≡ i + 1 - k - 1 = omega arith in rw e at p
+
+pub course-next : {A : Type 0} (f : ℕ → A → A) (a : A) (k i : ℕ) {s r : A} → k < i → s ≡ iter (λ j. f (j + k)) a (i - k - 1) → r ≡ f (i - 1) s → r ≡ iter (λ j. f (j + k)) a (i + 1 - k - 1)
+course-next f a k i {s} {r} h p q =
+    let e : i - k - 1 + 1 ≡ i + 1 - k - 1 = omega arith in
+    let o : i - 1 ≡ i - k - 1 + k = omega arith in
+    rw e at (iter-next (λ j. f (j + k)) a (i - k - 1) p (rw o at q))
 
 -- one turn of the loop, by the parts
 pub one-turn : (b : Body) (n : ℕ) (z : List Float) (k : ℕ) (s : State) (d : Float) (ns : List Node) {g : Stepped} {node : Node} {d2 : Float}
@@ -56,7 +62,3 @@ module _ (b : Body) (n : ℕ) (z : List Float) (from : State) where
       let c2 : Course = courseTurn b n z k c in
       let e : c2 ≡ iter (courseTurn b n z) (startCourse from) 16 = iter-stays _ _ (k + 1) 16 (omega arith) (iter-next _ _ k p refl) (λ x. turn-refused b n z x c2 q) in
       rw (← e, q) refl
-
-  pub ends-going : (c : Course) → c ≡ iter (courseTurn b n z) (startCourse from) 16 → c .fate ≡ Going → ended b c ≡ runFrom b n z from
-  unfolding runFrom endOf course
-  ends-going c p q = rw (← p, q) refl

@@ -83,6 +83,10 @@ endOf b c = endBy (c .fate) b c
 unfoldable pub runFrom : Body → ℕ → List Float → State → Run
 runFrom b n z s = endOf b (course b n z s)
 
+-- d steps more of a course after k steps
+unfoldable pub onward : Body → ℕ → List Float → ℕ → Course → ℕ → Course
+onward b n z k c d = iter (λ (j : ℕ). courseTurn b n z (j + k)) c d
+
 -- ---- of a checked problem and a decision
 abbrev pub frameOf : CheckedProblem → Float → Frame
 frameOf p dt = record { j = p .inertia; jinv = p .inverse; tolerance = p .«norm_tolerance»; dt = dt }

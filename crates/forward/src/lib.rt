@@ -95,6 +95,20 @@ pub struct Run {
     pub nodes: [Node; 17],
 }
 
+// A run after some of its steps, all of which went on: the state, the pyramid's matrix there, the largest defect squared, the nodes so far.
+pub struct Partway {
+    pub s: State,
+    pub a: [f64; 12],
+    pub square: f64,
+    pub nodes: [Node; 17],
+}
+
+// Some steps of a run: how they ended, and the run after them where they went on.
+pub struct Went {
+    pub fate: Fate,
+    pub at: Partway,
+}
+
 // What `reconstruct` answers: the forward runs begun, 0 or 1, and the run.
 pub struct Reconstructed {
     pub runs: usize,

@@ -16,15 +16,19 @@ ghost use Rattle.forward.specs.Steps as Steps;
 ghost use Rattle.forward.specs.StepLaws.{SkewOf, Made};
 ghost use Rattle.forward.specs.Launch as Launch;
 ghost use Rattle.forward.specs.Leads as Leads;
-ghost use Rattle.forward.specs.Decisions.{rowOf};
+ghost use Rattle.controls.specs.Operations.{rigUnder};
+ghost use Rattle.forward.specs.Decisions.{stepTime};
 ghost use Rattle.forward.specs.Runs as Runs;
+ghost use Rattle.forward.specs.PartLaws as PartLaws;
 use super::Frame;
 use super::Launched;
 use super::Lead;
 use super::Node;
+use super::Partway;
 use super::Run;
 use super::Skew;
 use super::State;
+use super::Went;
 use super::steps::attitude;
 use super::steps::join;
 use super::steps::lead;
@@ -124,7 +128,7 @@ pub fn larger_square(a: f64, x: f64) -> f64
     if a < x { x } else { a }
 }
 
-// The lead of step i from where the lead l ends; there is none past the last step.
+// The lead of step i from where the lead l ends; from step `end` on there is none, and l stays.
 pub fn ahead(
     r: Rig,
     wheels: &[f64; 24],
@@ -135,24 +139,39 @@ pub fn ahead(
     n: usize,
     z: &[f64],
     i: usize,
+    end: usize,
     l: Lead,
 ) -> Lead
-    requires { ⌜ (Sized r (gimbals (r .cmgs)) n) × (((n ≤ 12) × (length (now z) ≡ 193)) × SkewOf (r .cmgs) skew) ⌝ }
-    ensures { λ x. ⌜ (i < 16 → Made (r .cmgs) (l .s .delta) (l .a) → Leads.Leads (Steps.bodyWith r (now (wheels .entry)) powers (now (thrusters .entry)) f) (rowOf n (now (z .entry)) i) i (l .s) x) ⌝ }
+    requires { ⌜ (Sized r (gimbals (r .cmgs)) n) × (((n ≤ 12) × (length (now z) ≡ 193)) × ((end ≤ 16) × SkewOf (r .cmgs) skew)) ⌝ }
+    ensures { λ x. ⌜ Leads.Next (Steps.bodyWith r (now (wheels .entry)) powers (now (thrusters .entry)) f) n (now (z .entry)) i end l x ⌝ }
 {
-    if i < 16 {
+    if i < end {
         let at = 1 + i * n;
-        let end = at + n;
+        let past = at + n;
         let s = l.s;
         let a = l.a;
-        return lead(r, wheels, powers, thrusters, f, skew, &z[at..end], i, s, a);
+        return lead(r, wheels, powers, thrusters, f, skew, &z[at..past], i, s, a);
     }
     l
 }
 
-// The run from a state whose pyramid matrix is a, n controls a row. A turn of the loop has the lead of step i, the sine and cosine of the step before, the length
+// A run before its first step, from a state whose pyramid matrix is a.
+pub fn unbegun(from: State, a: [f64; 12]) -> Partway
+    ensures { λ x. ⌜ x ≡ PartLaws.unbegun from a ⌝ }
+{
+    let blank = blank_node();
+    let nodes = [blank; 17];
+    Partway {
+        s: from,
+        a: a,
+        square: 0.0,
+        nodes: nodes,
+    }
+}
+
+// Steps k up to `end` of a run after k steps, n controls a row. A turn of the loop has the lead of step i, the sine and cosine of the step before, the length
 // of step i's turn, the attitude after the step before: in this order, since none waits for the one before it but the attitude for the sine and cosine.
-pub fn run_from(
+pub fn steps_on(
     r: Rig,
     wheels: &[f64; 24],
     powers: [Power; 8],
@@ -160,54 +179,81 @@ pub fn run_from(
     f: Frame,
     skew: Skew,
     n: usize,
-    z: [f64; 193],
-    from: State,
-    a: [f64; 12],
-) -> Run
-    requires { ⌜ (Sized r (gimbals (r .cmgs)) n) × ((n ≤ 12) × (SkewOf (r .cmgs) skew × Made (r .cmgs) (from .delta) a)) ⌝ }
-    ensures { λ x. ⌜ x ≡ Runs.runFrom (Steps.bodyWith r (now (wheels .entry)) powers (now (thrusters .entry)) f) n z from ⌝ }
+    z: &[f64; 193],
+    k: usize,
+    end: usize,
+    c: Partway,
+) -> Went
+    requires { ⌜ (Sized r (gimbals (r .cmgs)) n) × ((n ≤ 12) × (SkewOf (r .cmgs) skew × (PartLaws.Sound r c × ((k ≤ end) × (end ≤ 16))))) ⌝ }
+    ensures { λ x. ⌜ PartLaws.Reached (Steps.bodyWith r (now (wheels .entry)) powers (now (thrusters .entry)) f) n (now (z .entry)) k end c x ⌝ }
 {
     let dt = f.dt;
-    let mut s = from;
-    let mut l = lead_from([0.0; 3], 0.0, [0.0; 3], from, a);
+    let mut s = c.s;
+    let a = c.a;
+    let mut l = lead_from([0.0; 3], 0.0, [0.0; 3], s, a);
     let mut length = 0.0;
-    let blank = blank_node();
-    let mut nodes = [blank; 17];
-    let mut square = 0.0;
-    let mut i: usize = 0;
-    while i < 17 {
-        let next = ahead(r, wheels, powers, thrusters, f, skew, n, &z, i, l);
+    let mut nodes = c.nodes;
+    let mut square = c.square;
+    let mut i: usize = k;
+    while i <= end {
+        let next = ahead(r, wheels, powers, thrusters, f, skew, n, z, i, end, l);
         let turn = l.turn;
         let turned = geom::exp_at(turn, length);
         let next_turn = next.turn;
         length = geom::norm3(next_turn);
-        if 0 < i {
-            let k = i - 1;
+        if k < i {
+            let j = i - 1;
             let q = s.q;
-            let g = join(attitude(q, turned, f.tolerance), k, l, s);
+            let g = join(attitude(q, turned, f.tolerance), j, l, s);
             let fate = g.fate;
             match fate {
-                Fate::Refused(number, place) => return refused_run(number, place),
+                Fate::Refused(_, _) => return Went { fate: fate, at: c },
                 Fate::Going => {}
             }
             let s2 = g.s;
             let tau = g.tau;
-            let node = node_of(dt, k, s, tau);
-            nodes[k] = node;
+            let node = node_of(dt, j, s, tau);
+            nodes[j] = node;
             square = larger_square(square, g.defect);
             s = s2;
         }
         l = next;
         i += 1;
     }
-    let before = nodes[15];
-    let tau = before.tau;
-    let last = node_of(dt, 16, s, tau);
-    nodes[16] = last;
-    Run {
-        fate: Fate::Going,
-        defect: float::sqrt(square),
+    let a2 = l.a;
+    let at = Partway {
+        s: s,
+        a: a2,
+        square: square,
         nodes: nodes,
+    };
+    Went {
+        fate: Fate::Going,
+        at: at,
+    }
+}
+
+// A run that is through its 16 steps: node 16 repeats node 15's torque. One that was refused has no nodes.
+pub fn end_run(dt: f64, w: Went) -> Run
+    ensures { λ x. ⌜ x ≡ PartLaws.endRun dt w ⌝ }
+{
+    let fate = w.fate;
+    match fate {
+        Fate::Refused(number, place) => refused_run(number, place),
+        Fate::Going => {
+            let c = w.at;
+            let s = c.s;
+            let mut nodes = c.nodes;
+            let before = nodes[15];
+            let tau = before.tau;
+            let last = node_of(dt, 16, s, tau);
+            nodes[16] = last;
+            Run {
+                fate: Fate::Going,
+                defect: float::sqrt(c.square),
+                nodes: nodes,
+            }
+        }
     }
 }
 
@@ -275,6 +321,29 @@ pub fn frame_of(p: CheckedProblem, dt: f64) -> Frame
     }
 }
 
+// Steps k up to `end` of a checked problem's run with the decision z, after its first k steps.
+pub fn steps_under(
+    law: WheelLaw,
+    p: CheckedProblem,
+    z: &[f64; 193],
+    skew: Skew,
+    k: usize,
+    end: usize,
+    c: Partway,
+) -> Went
+    requires { ⌜ (isSized (p .map) ≡ true) × ((controlDim (p .map) ≤ 12) × (SkewOf (p .map .cmgs) skew × (PartLaws.Sound (rigUnder law (p .map)) c × ((k ≤ end) × (end ≤ 16))))) ⌝ }
+    ensures { λ x. ⌜ PartLaws.Reached (Runs.bodyUnder law p (stepTime (now (z .entry)))) (controlDim (p .map)) (now (z .entry)) k end c x ⌝ }
+{
+    let map = p.map;
+    let n = control_dim(map);
+    let rig = rig_under(law, map);
+    let wheels = map.wheel_axes;
+    let powers = map.wheel_powers;
+    let thrusters = map.thruster_axes;
+    let f = frame_of(p, z[0] / 16.0);
+    steps_on(rig, &wheels, powers, &thrusters, f, skew, n, z, k, end, c)
+}
+
 // One forward run of a checked problem and a decision.
 pub fn run_of(p: CheckedProblem, z: [f64; 193]) -> Run
     requires { ⌜ (isSized (p .map) ≡ true) × (controlDim (p .map) ≤ 12) ⌝ }
@@ -289,33 +358,19 @@ pub fn run_under(law: WheelLaw, p: CheckedProblem, z: [f64; 193]) -> Run
     ensures { λ r. ⌜ r ≡ Runs.runUnder law p z ⌝ }
 {
     let map = p.map;
-    let n = control_dim(map);
-    let rig = rig_under(law, map);
-    let wheels = map.wheel_axes;
-    let powers = map.wheel_powers;
-    let thrusters = map.thruster_axes;
-    let f = frame_of(p, z[0] / 16.0);
     let cmgs = map.cmgs;
     let l = launch(cmgs);
     let fate = l.fate;
     match fate {
         Fate::Refused(_, _) => refused_run(11, 0),
         Fate::Going => {
-            let skew = l.skew;
-            let a = l.a;
+            let wheels = map.wheel_axes;
             let momenta = p.momenta;
-            run_from(
-                rig,
-                &wheels,
-                powers,
-                &thrusters,
-                f,
-                skew,
-                n,
-                z,
-                start(&wheels, map.wheel_count, p.q0, momenta),
-                a,
-            )
+            let from = start(&wheels, map.wheel_count, p.q0, momenta);
+            let a = l.a;
+            let skew = l.skew;
+            let w = steps_under(law, p, &z, skew, 0, 16, unbegun(from, a));
+            end_run(z[0] / 16.0, w)
         }
     }
 }

@@ -6,6 +6,7 @@ ghost use Prim.Native.Nat.{_+_, _*_, _≤_, _<_};
 ghost use lib.ListN.{length, take};
 ghost use Rattle.actuators.specs.Maps.{controlDim, isSized};
 ghost use Rattle.residuals.specs.Residuals.{residualsOf};
+ghost use Rattle.shared_runs.specs.Shared as Shared;
 ghost use Rattle.normal_equations.specs.Normal.{slopes};
 ghost use Rattle.normal_equations.specs.Rows.{rows};
 ghost use Rattle.scvx.specs.Search as Search;
@@ -18,7 +19,13 @@ use forward::decisions::unpack;
 use normal_equations::FD_EPS;
 use normal_equations::put_column;
 use problem::CheckedProblem;
-use residuals::terms::residuals_of;
+use residuals::ResidualVector;
+use residuals::terms::of_run;
+use residuals::terms::target_of;
+use shared_runs::Base;
+use shared_runs::base_next;
+use shared_runs::base_start;
+use shared_runs::run_sharing;
 
 // The numbers of a decision.
 pub fn numbers(p: CheckedProblem) -> usize
@@ -48,40 +55,71 @@ pub fn held(p: CheckedProblem, z: [f64; 193]) -> [f64; 193]
 }
 
 // The decision with number c moved by the step of the difference.
-fn nudged(p: CheckedProblem, z: [f64; 193], c: usize) -> [f64; 193]
+fn nudged(p: CheckedProblem, z: &[f64; 193], c: usize) -> [f64; 193]
     requires { ⌜ (controlDim (p .map) ≤ 12) × (c < 193) ⌝ }
-    ensures { λ r. ⌜ r ≡ Search.nudged p z c ⌝ }
+    ensures { λ r. ⌜ r ≡ Search.nudged p (now (z .entry)) c ⌝ }
 {
-    let mut plus = z;
+    let mut plus = *z;
     plus[c] = plus[c] + FD_EPS;
     held(p, plus)
 }
 
-// Column c of m numbers at the decision z, whose residuals are r0: one run. Every other column and all past them stays, and all of v where the run is refused.
+// The residuals of the decision y, n controls a row: its run begins where it parts from the base run of z.
+fn residuals_sharing(
+    p: CheckedProblem,
+    n: usize,
+    z: &[f64; 193],
+    b: Base,
+    y: &[f64; 193],
+) -> ResidualVector
+    requires { ⌜ (isSized (p .map) ≡ true) × ((controlDim (p .map) ≤ 12) × ((n ≡ controlDim (p .map)) × Shared.Keeps p (now z) b)) ⌝ }
+    ensures { λ x. ⌜ x ≡ residualsOf p (now (y .entry)) ⌝ }
+{
+    let run = run_sharing(p, n, z, b, y);
+    let t = target_of(p);
+    of_run(t, y, run)
+}
+
+// Column c of m numbers at the decision z, whose residuals are r0 and whose base run is b: one run. Every other column and all past them stays, and all of v
+// where the run is refused.
 fn column(
     p: CheckedProblem,
+    controls: usize,
     v: &mut [f64],
     m: usize,
     c: usize,
-    z: [f64; 193],
-    r0: [f64; 79],
+    z: &[f64; 193],
+    r0: &[f64; 79],
+    b: Base,
 ) -> Fate
-    requires { ⌜ (isSized (p .map) ≡ true) × ((controlDim (p .map) ≤ 12) × ((c < 193) × ((m ≤ 79) × (c * m + m ≤ length (now v))))) ⌝ }
-    ensures { λ r. ⌜ (r ≡ residualsOf p (Search.nudged p z c) .fate) × ColumnLeft r m c (slopes m (residualsOf p (Search.nudged p z c) .r) r0) (now (v .entry)) (now (v .exit)) ⌝ }
+    requires { ⌜ (isSized (p .map) ≡ true) × ((controlDim (p .map) ≤ 12) × ((controls ≡ controlDim (p .map)) × ((c < 193) × ((m ≤ 79) × ((c * m + m ≤ length (now v)) × Shared.Keeps p (now z) b))))) ⌝ }
+    ensures { λ r. ⌜ (r ≡ residualsOf p (Search.nudged p (now (z .entry)) c) .fate) × ColumnLeft r m c (slopes m (residualsOf p (Search.nudged p (now (z .entry)) c) .r) (now (r0 .entry))) (now (v .entry)) (now (v .exit)) ⌝ }
 {
-    let e = residuals_of(p, nudged(p, z, c));
+    let y = nudged(p, z, c);
+    let e = residuals_sharing(p, controls, z, b, &y);
     let fate = e.fate;
     match fate {
         Fate::Refused(number, place) => Fate::Refused(number, place),
         Fate::Going => {
             let rp = e.r;
-            put_column(v, m, c, &rp, &r0);
+            put_column(v, m, c, &rp, r0);
             Fate::Going
         }
     }
 }
 
-// The n columns of m numbers at the decision z, whose residuals are r0, from the front of v on; a refused run ends them. All past them stays.
+// Whether column c is past the row of the base run's next step.
+fn past_row(steps: usize, controls: usize, c: usize) -> bool
+    requires { ⌜ controls ≤ 12 ⌝ }
+{
+    if steps >= 16 {
+        return false;
+    }
+    (steps + 1) * controls < c
+}
+
+// The n columns of m numbers at the decision z, whose residuals are r0, from the front of v on; a refused run ends them. All past them stays. The base run goes
+// a step further with each row of the decision.
 pub fn jacobian(
     p: CheckedProblem,
     v: &mut [f64],
@@ -93,9 +131,15 @@ pub fn jacobian(
     requires { ⌜ Sizes p n m (length (now v)) ⌝ }
     ensures { λ r. ⌜ (Search.jacobian p z r0 ≡ columnsOf r (rows n m (take (n * m) (now (v .exit))))) × SameFrom (n * m) (now (v .entry)) (now (v .exit)) ⌝ }
 {
+    let map = p.map;
+    let controls = control_dim(map);
+    let mut b = base_start(p);
     let mut c: usize = 0;
     while c < n {
-        let fate = column(p, v, m, c, z, r0);
+        if past_row(b.steps, controls, c) {
+            b = base_next(p, &z, b);
+        }
+        let fate = column(p, controls, v, m, c, &z, &r0, b);
         match fate {
             Fate::Refused(number, place) => return Slopes::Broken(number, place, c + 1),
             Fate::Going => {}

@@ -10,8 +10,8 @@ use Rattle.common.specs.Lists.{at}
 use Rattle.common.specs.declared.Fate.{Fate}
 use Rattle.common.specs.declared.Fate.the-variants.{Going, Refused}
 use Rattle.problem.specs.declared.Momenta.{Momenta}
-use Rattle.wheel_record.specs.Bits.{sameBits}
-use Rattle.wheel_record.specs.BitLaws.{both, same-is, same-self}
+use Rattle.float_bits.specs.Bits.{sameBits}
+use Rattle.float_bits.specs.BitLaws.{both, same-is, same-self}
 use Rattle.wheel_record.specs.Commits.{sameWheel, leadingTurn, leadingSame, same, notStarted, started, commit}
 
 module _ (m n : Momenta) where

@@ -6,7 +6,7 @@ use Rattle.common.specs.Iter.{iter}
 use Rattle.common.specs.Lists.{at}
 use Rattle.common.specs.declared.Fate.the-variants.{Going, Refused}
 use Rattle.problem.specs.declared.Momenta.{Momenta}
-use Rattle.wheel_record.specs.Bits.{sameBits}
+use Rattle.float_bits.specs.Bits.{sameBits}
 use Rattle.wheel_record.specs.declared.Started.{Started}
 
 -- both have wheel k, and with the same bits: a wheel that only one of them has differs

@@ -1,28 +1,15 @@
 // The wheels' momenta on record: whether they still have the bits that a preview began from, and what a start makes of them.
 ghost use mathlib.Core.Path.{_≡_};
 ghost use Prim.Native.Nat.{_<_};
-ghost use Rattle.wheel_record.specs.Bits as Bits;
 ghost use Rattle.wheel_record.specs.Commits as Commits;
 use common::Fate;
+use float_bits::same_bits;
 use problem::Momenta;
 
 // What a start answers: whether it was started, else 26 and its place; and the momenta on record after it.
 pub struct Started {
     pub fate: Fate,
     pub on_record: Momenta,
-}
-
-// Whether two floats are the same bit for bit. -0 is not +0; all NaNs count as one.
-pub fn same_bits(a: f64, b: f64) -> bool
-    ensures { λ r. ⌜ r ≡ Bits.sameBits a b ⌝ }
-{
-    if a != a {
-        return b != b;
-    }
-    if b != b {
-        return false;
-    }
-    f64::to_bits(a) == f64::to_bits(b)
 }
 
 // Whether both have wheel k, and with the same bits.

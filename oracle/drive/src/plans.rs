@@ -13,6 +13,16 @@ use quatopsy_plan::{counted, scvx};
 /// A seed as `solve` takes it: a duration, rates, torques.
 type Sampled = (f64, Vec<[f64; 3]>, Vec<[f64; 3]>);
 
+/// The problems of a family that the times and the counts of instructions are taken on, one after the other, each with room enough.
+pub fn drawn(family: Family) -> impl Iterator<Item = Plan> {
+    let mut random = Random::new(17);
+    std::iter::repeat_with(move || {
+        let mut plan = tame(&mut random, family);
+        plan.lent = plan.room();
+        plan
+    })
+}
+
 /// The seed of our own entry: the profile at 17 nodes, or 7, or 11 where its arc cosine has no answer.
 pub fn own_seed(task: &Task) -> Result<Sampled, (u64, u64)> {
     libm::outside_at();

@@ -1,9 +1,9 @@
 //! bench [PART] [TURNS]: the port's time over the Rust's, measured by turns in one run, as tables in Markdown. PART is leaves, runs, residuals, systems,
-//! samples, planes, orders, region or plans; without one all of them. Each figure is the least of TURNS turns (11), in time of the processor, so that what others do
+//! samples, planes, orders, region, plans or mix; without one all of them. Each figure is the least of TURNS turns (11), in time of the processor, so that what others do
 //! beside it counts little.
 
 use drive::ffi::*;
-use drive::plans::{FAMILIES, Family, Plan, begun, by_rust, tame};
+use drive::plans::{FAMILIES, Family, Plan, begun, by_rust, drawn};
 use drive::random::Random;
 use quatopsy_plan::probe::Task;
 use quatopsy_plan::scvx::probe as scvx;
@@ -248,13 +248,32 @@ fn residuals(turns: u32) {
 
 /// Five problems of a family in which a path is found.
 fn found(family: Family) -> Vec<Plan> {
-    let mut random = Random::new(17);
-    let drawn = std::iter::repeat_with(|| {
-        let mut plan = tame(&mut random, family);
-        plan.lent = plan.room();
-        plan
-    });
-    drawn.filter(|plan| by_rust(plan, false).number == 0).take(5).collect()
+    drawn(family).filter(|plan| by_rust(plan, false).number == 0).take(5).collect()
+}
+
+/// How many of 1,000 plans each family has in the mix.
+const MIX: [usize; 6] = [300, 100, 250, 150, 50, 150];
+
+/// A mix of 1,000 plans as one figure, those that end in a refusal of the search or of the end checks too: each once on each side.
+fn mix(_: u32) {
+    head("1,000 whole plans of a mix, seconds");
+    let mut sums = [0.0; 3];
+    for (family, count) in FAMILIES.into_iter().zip(MIX) {
+        for plan in drawn(family).filter(|plan| begun(plan).is_ok()).take(count) {
+            let (task, duration, rates, torques) = begun(&plan).unwrap_or_else(|_| panic!("a problem with a seed"));
+            let mut ws = vec![0.0; plan.lent];
+            let mut out = Planned { counts: [0; 5], duration: 0.0, max_defect: 0.0, z: [0.0; 193], nodes: [[0.0; 22]; 17], held: [0; 12] };
+            let solve = || drop(black_box(scvx::seeded(&task, duration, &rates, &torques)));
+            let mut ours = || {
+                black_box(slew_plan_numbers(&plan.flat, &plan.body, plan.limited, &mut ws, black_box(&mut out)));
+            };
+            sums[0] += seconds(&mut { solve }, 1);
+            sums[1] += seconds(&mut || unaltered(&mut { solve }), 1);
+            sums[2] += seconds(&mut ours, 1);
+        }
+    }
+    let once = |time: f64| Some(Span { least: time, most: time });
+    line("300 of 3 controls, 100 with pointing, 250 of 4 wheels, 150 of 8, 50 of 12 thrusters, 150 of the pyramid", 1.0, sums[2], once(sums[0]), once(sums[1]));
 }
 
 /// Whole plans by turns: ours as a user calls it (checks, profile, seed, search, end checks, the workspace cleared after it, 374 numbers written); the Rust's
@@ -322,6 +341,7 @@ fn samples(turns: u32) {
     let rust = || assert!(black_box(scvx::dense_kept(drive::shapes::rows(j), &kept, requested, 1.0e-6)).is_finite());
     let [with_ours, platform, ours] = measured(turns, [&mut { rust }, &mut || unaltered(&mut { rust }), &mut ours]);
     line(&format!("one of {count}"), NANOSECONDS * count as f64, ours.least, Some(with_ours), Some(platform));
+    line("all of them as one list, microseconds", MICROSECONDS, ours.least, Some(with_ours), Some(platform));
 }
 
 /// Byte planes by the port's loops: plane by plane.
@@ -409,7 +429,7 @@ fn main() {
     let turns = args.next().map_or(11, |n| n.parse().expect("TURNS is a number"));
     type Part = (&'static str, fn(u32), u32);
     // a plan takes long: a third of the turns
-    let parts: [Part; 9] = [
+    let parts: [Part; 10] = [
         ("leaves", leaves, turns),
         ("runs", runs, turns),
         ("residuals", residuals, turns),
@@ -419,10 +439,11 @@ fn main() {
         ("orders", orders, turns),
         ("region", region, turns),
         ("plans", plans, turns.div_ceil(3)),
+        ("mix", mix, 1),
     ];
     let chosen: Vec<&Part> = parts.iter().filter(|(name, _, _)| part.as_ref().is_none_or(|word| word == name)).collect();
     if chosen.is_empty() {
-        eprintln!("usage: bench [leaves | runs | residuals | systems | samples | planes | orders | region | plans] [TURNS]");
+        eprintln!("usage: bench [leaves | runs | residuals | systems | samples | planes | orders | region | plans | mix] [TURNS]");
         std::process::exit(2);
     }
     println!("The least of {turns} turns in the processor's time. Ratios: ours over the Rust's, below 1 ours is faster.");

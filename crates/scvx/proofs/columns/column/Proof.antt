@@ -13,21 +13,21 @@ use Rattle.scvx.proofs.columns.column.Tie as tie
 
 put-column-requires : tie.Need-put-column-requires
 put-column-requires c κs =
-    let h = c .before .before .before .before .before .before .before .before .before .pre .1 .1 .1 in
-    (h .0, h .1)
+    let h = c .before .before .before .before .before .before .before .before .before .pre .1 .1 .1 .1 in
+    (h .0, h .1 .0)
 
 returns : tie.Need-returns
 returns c =
-    let a = c .before .before .before .before .before .before .args in
-    let run = c .before .before .before .residuals-of .ensures ∙ ap (λ (z : List Float). residualsOf (a .p) z) (c .before .before .before .before .nudged .ensures) in
+    let a = c .before .before .before .before .before .before .before .args in
+    let run = c .before .before .before .residuals-sharing .ensures ∙ ap (λ (z : List Float). residualsOf (a .p) z) (c .before .before .before .before .before .nudged .ensures) in
     (sym (c .before .fate .given .1) ∙ ap (λ (x : ResidualVector). x .fate) run, refl)
 
 returns-2 : tie.Need-returns-2
 returns-2 c =
     let a = c .before .before .before .before .before .before .before .before .before .before .before .before .args in
-    let run = c .before .before .before .before .before .before .before .before .before .residuals-of .ensures ∙ ap (λ (z : List Float). residualsOf (a .p) z) (c .before .before .before .before .before .before .before .before .before .before .nudged .ensures) in (
-      sym (c .before .before .before .before .before .before .before .enum-told .given .1) ∙ ap (λ (x : ResidualVector). x .fate) run,
-      subst (λ (x : ResidualVector). ColumnPut (a .m) (a .c) (slopes (a .m) (x .r) (a .t6)) (a .v .now) (c .before .before .put-column .last .0)) run (c .before .before .put-column .ensures),
+    let run = c .before .before .before .before .before .before .before .before .residuals-sharing .ensures ∙ ap (λ (z : List Float). residualsOf (a .p) z) (c .before .before .before .before .before .before .before .before .before .before .nudged .ensures) in (
+      sym (c .before .before .before .before .before .before .enum-told .given .1) ∙ ap (λ (x : ResidualVector). x .fate) run,
+      subst (λ (x : ResidualVector). ColumnPut (a .m) (a .c) (slopes (a .m) (x .r) (a .r0 .now)) (a .v .now) (c .before .before .put-column .last .0)) run (c .before .before .put-column .ensures),
     )
 
 pub column-spec : {M : Type 1} → statement M

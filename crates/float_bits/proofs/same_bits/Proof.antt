@@ -1,9 +1,9 @@
--- `wheel_record::same_bits` meets its contract: patterns are asked only of numbers. Assumes nothing.
+-- `float_bits::same_bits` meets its contract: patterns are asked only of numbers. Assumes nothing.
 use mathlib.Core.Path.{sym, subst}
 use lib.Dec.{T}
-use Rattle.wheel_record.specs.BitLaws.{no-nan, first-nan, second-nan, same-patterns}
-use Rattle.wheel_record.proofs.same_bits.Statement.{statement}
-use Rattle.wheel_record.proofs.same_bits.Tie as tie
+use Rattle.float_bits.specs.BitLaws.{no-nan, first-nan, second-nan, same-patterns}
+use Rattle.float_bits.proofs.same_bits.Statement.{statement}
+use Rattle.float_bits.proofs.same_bits.Tie as tie
 
 returns : tie.Need-returns
 returns c = first-nan _ _ (c .if1 .taken)

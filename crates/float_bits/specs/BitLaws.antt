@@ -8,7 +8,7 @@ use lib.Dec.{T, eqb}
 use lib.IntN.{ℤ, pos, negsuc}
 use lib.Ieee.{Float, nan, inf, fin, binary64, ofBits, toBits, fits, eq, ne, isNan, up, down}
 use lib.Ieee.Bits.{ofBits-toBits}
-use Rattle.wheel_record.specs.Bits.{sameExponent, sameBits}
+use Rattle.float_bits.specs.Bits.{sameExponent, sameBits}
 
 pub both : (a b : Bool) → a && b ≡ true → (a ≡ true) × (b ≡ true)
 both true b e = (refl, e)

@@ -1,0 +1,39 @@
+-- `shared_runs::base_start` meets its contract. Assumes nothing.
+use mathlib.Core.Path.{refl}
+use lib.Ieee as Ieee
+use Rattle.controls.specs.Sizes.{dim-sized}
+use Rattle.controls.specs.declared.WheelLaw.the-variants.{Once}
+use Rattle.forward.specs.Runs as Runs
+use Rattle.forward.specs.Launch.{launch-goes}
+use Rattle.forward.specs.PartLaws.{stands-first}
+use native.Mathlib.Omega.{arith}
+use borrow.Author.Needs.{needs}
+use Rattle.shared_runs.proofs.base_start.Statement.{statement}
+use Rattle.shared_runs.proofs.base_start.Tie as tie
+
+start-requires : tie.Need-start-requires
+start-requires c κs = dim-sized Once _ (c .before .before .before .before .pre) .wheels
+
+returns : tie.Need-returns
+unfolding Runs.start Ieee.ofBits
+returns c = λ z h.
+    let u = c .before in
+    let l = u .before .before .before in
+    let s = l .before in
+    let made = launch-goes _ (l .launch .ensures) (c .goes .ensures h) in
+    record {
+      few = omega arith;
+      skew = made .0;
+      sound = rw (u .unbegun .ensures, s .start .ensures) (record { matrix = made .1; plus = tt; size = refl });
+      after = rw (u .unbegun .ensures, s .start .ensures) (stands-first _ _ _ _ (l .launch .result .a));
+    }
+
+pub base-start-spec : {M : Type 1} → statement M
+base-start-spec =
+    tie.close
+    (tie.spec
+    start-requires
+    (λ c κs. search needs)
+    (λ c κs. search needs)
+    (λ c κs. search needs)
+    returns)

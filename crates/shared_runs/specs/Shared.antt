@@ -1,0 +1,42 @@
+-- What is kept of a base run, and when another decision's run has it. Definitions only.
+use Prim.Native.Nat.{ℕ, _+_, _*_, _≤_, _<_}
+use mathlib.Core.Path.{_≡_}
+use mathlib.Core.Bool.{true}
+use mathlib.Core.List.{List}
+use lib.ListN.{length}
+use lib.Ieee.{Float}
+use Rattle.common.specs.Lists.{at}
+use Rattle.actuators.specs.Maps.{controlDim}
+use Rattle.controls.specs.Operations.{rigUnder}
+use Rattle.controls.specs.declared.WheelLaw.the-variants.{Once}
+use Rattle.problem.specs.declared.CheckedProblem.{CheckedProblem}
+use Rattle.forward.specs.Decisions.{stepTime}
+use Rattle.forward.specs.StepLaws.{SkewOf}
+use Rattle.forward.specs.Runs.{bodyOf, startOf}
+use Rattle.forward.specs.PartLaws.{Sound, Stands}
+use Rattle.forward.specs.declared.Partway.{Partway}
+use Rattle.shared_runs.specs.declared.Base.{Base}
+
+-- the first e numbers are the same
+abbrev pub Agree : ℕ → List Float → List Float → Type 0
+Agree e y z = (i : ℕ) → i < e → at y i ≡ at z i
+
+-- c is the run of the problem p with the decision z after k steps
+abbrev pub After : CheckedProblem → List Float → ℕ → Partway → Type 0
+After p z k c = Stands (bodyOf p (stepTime z)) (controlDim (p .map)) z (startOf p) k c
+
+-- b keeps the run of z after its first steps
+pub record Kept (p : CheckedProblem) (z : List Float) (b : Base) : Type 0 where
+  pub few : b .steps ≤ 16
+  pub skew : SkewOf (p .map .cmgs) (b .skew)
+  pub sound : Sound (rigUnder Once (p .map)) (b .at)
+  pub after : After p z (b .steps) (b .at)
+
+-- where it is on its way
+abbrev pub Keeps : CheckedProblem → List Float → Base → Type 0
+Keeps p z b = b .on ≡ true → Kept p z b
+
+-- y and z are as long, and their first e numbers are the same
+pub record Same (e : ℕ) (y z : List Float) : Type 0 where
+  pub long : length y ≡ length z
+  pub agree : Agree e y z
