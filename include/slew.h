@@ -25,7 +25,7 @@
  *   .. with a pointing weight                9     16     42     97
  *   slew_plan_eigenaxis_numbers            0.4    0.8    0.4    0.4
  *
- * A refusal is its number of 1 to 28, with a place and the forward runs begun (README.md, "Refusals"); 0 is no refusal. */
+ * A refusal is its number of 1 to 28, with a place and the forward runs begun (docs/REFUSALS.md); 0 is no refusal. */
 #ifndef SLEW_H
 #define SLEW_H
 
@@ -50,7 +50,7 @@ extern "C" {
 /* The least size of the buffer that takes an answer's text, in bytes. */
 #define SLEW_ANSWER 16384
 
-/* Plans the problem of a text (README.md, "A problem's text") with the planner's own seed. The answer is the text that the program slew prints, a path or a
+/* Plans the problem of a text (docs/FORMATS.md, "A problem's text") with the planner's own seed. The answer is the text that the program slew prints, a path or a
  * refusal, without a final zero; what is returned is how many bytes it has. A refusal begins with "(refused". What stood behind the answer in `out` stays.
  *
  * An `out` of less than SLEW_ANSWER bytes gets nothing: 0 is returned and no run begins. The workspace is untouched where no forward run began, and all
@@ -111,7 +111,7 @@ size_t slew_plan_from_numbers(const size_t counts[11], const double actuators[10
                               size_t told[5], double *duration, double *max_defect, double decision[193], double nodes[374],
                               size_t held[12]);
 
-/* The same about one axis (README.md, "Slews about one axis"): the planner's answer from the eigenaxis seed of the shortest duration that the ladder finds, fastest or, where `gentle` is
+/* The same about one axis (docs/MANUAL.md, "Slews about one axis"): the planner's answer from the eigenaxis seed of the shortest duration that the ladder finds, fastest or, where `gentle` is
  * true, along one smooth wave. The weights (body 21 to 26) are not read, so the workspace is that of 28 residuals. The runs told are those of every try, at most 226,258. In libexport_eigenaxis.a. */
 size_t slew_plan_eigenaxis_numbers(const size_t counts[11], const double actuators[100], const double body[37], bool limited, bool gentle,
                                    double *workspace, size_t workspace_count,
@@ -161,8 +161,8 @@ size_t slew_sample_path(const double inertia[9], double tolerance, double durati
 
 /* One leg, from one attitude to another, scalar first. A mosaic begins with `cursor` all 0, sums[0] 0 and the wheels' momenta behind it (the momenta of `body` are not read here).
  * Returns 0, or the leg's refusal; told, duration, max_defect, decision, nodes, held and the workspace as by slew_plan_numbers. A cursor that has 63 legs, or more than 15,000,000 runs (no
- * mosaic has), is refused with 23. Legs of one mosaic may be planned by different ways. After a
- * refusal the cursor stays as it is: its number is returned again, with 0 runs, and nothing is planned. */
+ * mosaic has), is refused with 23. Legs of one mosaic may be planned by different ways. After a refusal the cursor stays as it is: its number is returned again, with 0 runs, and nothing is
+ * planned. */
 size_t slew_mosaic_next(const size_t counts[11], const double actuators[100], const double body[37], bool limited,
                         size_t way, const double from[4], const double to[4], size_t cursor[5], double sums[9],
                         double *workspace, size_t workspace_count,
@@ -171,7 +171,7 @@ size_t slew_mosaic_next(const size_t counts[11], const double actuators[100], co
 
 /* All of it: tiles_count attitudes. Returns 0, or the refusal's number, as in the cursor. Refusal 23: fewer than 2 attitudes, or more than 64. Each lent list gets a row for each
  * answered leg, in turn: forward runs, controls in a row, wheels, iterations; duration, largest defect; decision; nodes. (Which controls were held, slew_mosaic_next tells.) What stands behind those rows stays. A list of fewer rows
- * than there are legs (a leg fewer than attitudes): 99 is returned, and nothing is planned. The workspace is untouched where no leg began a run, and all +0.0 otherwise. */
+ * than there are legs (a leg fewer than attitudes), or a number that is no way: 99 is returned, and nothing is planned. The workspace is untouched where no leg began a run, and all +0.0 otherwise. */
 size_t slew_mosaic(const size_t counts[11], const double actuators[100], const double body[37], bool limited,
                    size_t way, const double (*tiles)[4], size_t tiles_count,
                    size_t (*told)[4], size_t told_count, double (*times)[2], size_t times_count,
@@ -255,7 +255,7 @@ size_t slew_encode_planes(const uint64_t *column, size_t column_count, uint8_t *
  * where bytes_count is not 8 times a count up to SLEW_COLUMN_MOST or `out` is shorter than that count, and `out` is as it was. What stood behind the column stays. */
 size_t slew_decode_planes(const uint8_t *bytes, size_t bytes_count, uint64_t *out, size_t out_count);
 
-/* One text for one problem: the canonical text of a problem's text, which two texts share exactly when they are the same problem (README.md, "A problem's text").
+/* One text for one problem: the canonical text of a problem's text, which two texts share exactly when they are the same problem (docs/FORMATS.md, "A problem's text").
  *
  * out: SLEW_TEXT_MOST bytes or more. The canonical text is never longer than its source.
  * bytes: how many bytes it has; 0 where the text is refused.

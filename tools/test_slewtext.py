@@ -630,6 +630,22 @@ class Mosaics(unittest.TestCase):
 
 
 class Drawings(unittest.TestCase):
+    def test_stored_drawings_are_what_is_drawn(self):
+        top = os.path.dirname(os.path.dirname(TOOL))
+        for example, drawing in (("quarter-turn", "docs/quarter-turn.svg"), ("star-field", "examples/star-field.svg")):
+            beside = os.path.join(top, "examples", example)
+            with open(os.path.join(top, drawing), encoding="utf-8") as stored:
+                self.assertEqual(run("draw", beside + ".toml", beside + ".answer").stdout, stored.read(), drawing)
+
+    def test_stored_texts_are_those_of_the_problems_in_decimal(self):
+        top = os.path.join(os.path.dirname(os.path.dirname(TOOL)), "examples")
+        for name in sorted(name[:-5] for name in os.listdir(top) if name.endswith(".toml")):
+            for command, ending in (("problem", ".slew"), ("mosaic", ".mosaic")):
+                text = os.path.join(top, name + ending)
+                if os.path.exists(text):
+                    with open(text, encoding="utf-8") as stored:
+                        self.assertEqual(run(command, os.path.join(top, name + ".toml")).stdout, stored.read(), name)
+
     def test_panels(self):
         problem = slewtext.read_problem(slewtext.problem_text(QUARTER | {"slew_limit_deg_s": 5, "wheel": [{"axis": [1, 0, 0], "torque_nm": 0.5, "momentum_nms": 4}] * 3}))
         self.assertEqual(problem["wheels"], [4.0, 4.0, 4.0])

@@ -36,7 +36,7 @@ WAYS = ("search", "eigenaxis", "gentle")  # of planning a mosaic's legs, by the 
 
 
 class Refused(Exception):
-    """The planner has no answer: `number`, `place`, `runs` and `sentence` as README's table of refusals has them; of a mosaic the index of the refused `leg`."""
+    """The planner has no answer: `number`, `place`, `runs` and `sentence` as docs/REFUSALS.md has them; of a mosaic the index of the refused `leg`."""
 
     def __init__(self, number: int, place: int, runs: int, sentence: str, leg: Optional[int] = None):
         super().__init__(f"refusal {number} at {place}: {sentence}" if leg is None else f"leg {leg}: refusal {number} at {place}: {sentence}")
