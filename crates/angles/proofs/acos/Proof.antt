@@ -1,4 +1,4 @@
--- `angles::acos` meets its contract.
+-- `angles::acos` meets its contract: the two comparisons are together the definition's test, and inside `arc_cosine` answers.
 use mathlib.Core.Path.{_≡_, sym, ap, _∙_}
 use mathlib.Core.Bool.{Bool, true, false, cond}
 use lib.Ieee.{Float}

@@ -1,4 +1,4 @@
--- `angles::cos` meets its contract, region by region.
+-- `angles::cos` meets its contract: region by region; inside, the cosine is the ring's place after the quarters of `reduced` (`cosine-at`).
 use mathlib.Core.Path.{refl, sym, ap, _∙_}
 use mathlib.Core.Bool.{true}
 use borrow.Author.Needs.{needs}

@@ -1,4 +1,4 @@
--- `angles::region` meets its contract.
+-- `angles::region` meets its contract: three outcomes of the two tests, a law for each.
 use mathlib.Core.Bool.{true}
 use borrow.Author.Needs.{needs}
 use Rattle.angles.proofs.Regions.{is-outside, is-tiny, is-inside}

@@ -1,4 +1,4 @@
--- `angles::sin` meets its contract, region by region.
+-- `angles::sin` meets its contract: region by region; inside, the sine is the ring's place at the quarters of `reduced` (`sine-at`).
 use mathlib.Core.Path.{refl, sym, ap, _∙_}
 use mathlib.Core.Bool.{true}
 use borrow.Author.Needs.{needs}

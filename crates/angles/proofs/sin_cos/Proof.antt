@@ -1,4 +1,4 @@
--- `angles::sin_cos` meets its contract, region by region.
+-- `angles::sin_cos` meets its contract: region by region; inside, `both_at` has the ring's place at the quarters of `reduced` and the next.
 use mathlib.Core.Path.{refl, sym, ap₂, _∙_}
 use mathlib.Core.Bool.{true}
 use borrow.Author.Needs.{needs}

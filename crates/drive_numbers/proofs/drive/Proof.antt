@@ -1,4 +1,4 @@
--- `drive_numbers::drive` meets its contract. Assumes nothing.
+-- `drive_numbers::drive` meets its contract: the sample's fate decides, as in the definition: its own refusal, or its numbers.
 use mathlib.Core.Path.{sym, ap, _∙_}
 use borrow.Author.Needs.{needs}
 use Rattle.common.specs.declared.Fate.{Fate}

@@ -1,4 +1,4 @@
--- `drive_numbers::drive_sample` meets its contract. Assumes nothing.
+-- `drive_numbers::drive_sample` meets its contract: `sample` gives the sample and `drive` its numbers, as in the definition.
 use borrow.Author.Needs.{needs}
 use Rattle.drive_numbers.specs.Drive.{driveSample}
 use Rattle.drive_numbers.proofs.drive_sample.Statement.{statement}

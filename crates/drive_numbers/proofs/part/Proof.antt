@@ -1,4 +1,4 @@
--- `drive_numbers::part` meets its contract. Assumes nothing.
+-- `drive_numbers::part` meets its contract: by `is-counted` the sum's pattern less that of the power of two is the rounded number of units.
 use mathlib.Core.Path.{sym, ap, _∙_, subst}
 use borrow.Author.Needs.{needs}
 use lib.Dec.{T}

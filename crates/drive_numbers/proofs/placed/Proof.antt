@@ -1,4 +1,4 @@
--- `drive_numbers::placed` meets its contract. Assumes nothing.
+-- `drive_numbers::placed` meets its contract: four cases by sign and size, a law for each; where 32 bits hold the number the casts lose nothing.
 use mathlib.Core.Path.{ap, _∙_}
 use native.Mathlib.Omega.{arith}
 use borrow.Author.Needs.{needs}

@@ -1,4 +1,4 @@
--- `drive_numbers::read_back` meets its contract. Assumes nothing.
+-- `drive_numbers::read_back` meets its contract: the word stands for the number itself (`toZ-ofZ`); the product is the definition's in either unit.
 use mathlib.Core.Path.{sym, ap, _∙_}
 use borrow.Author.Needs.{needs}
 use mir.Facts.{toZ-ofZ}

@@ -1,4 +1,4 @@
--- `begun` meets its contract. Assumes nothing.
+-- `begun` meets its contract: either case of the test for 0 is the definition's.
 use borrow.Author.Tests.{eq-eqb, ne-eqb}
 use Rattle.eigenaxis.proofs.begun.Statement.{statement}
 use Rattle.eigenaxis.proofs.begun.Tie as tie

@@ -1,4 +1,4 @@
--- `climb` meets its contract. Assumes nothing.
+-- `climb` meets its contract: the loop keeps the definition's ladder after k turns, at most 7,802 runs a turn, and what `Keeps` says of it.
 use Prim.Native.Nat.{_+_, _*_, _≤_, _-_}
 use mathlib.Core.Path.{_≡_, refl, _∙_}
 use native.Mathlib.Omega.{arith}

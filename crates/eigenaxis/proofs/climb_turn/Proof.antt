@@ -1,4 +1,4 @@
--- `climb_turn` meets its contract. Assumes nothing.
+-- `climb_turn` meets its contract: where the climb has ended the ladder stays (`climb-stays`), else the next rung is tried (`climb-goes`).
 use mathlib.Core.Path.{_∙_, refl}
 use borrow.Author.Tests.{not-true, not-false}
 use Rattle.eigenaxis.specs.LadderLaws.{keeps-same, climb-goes, climb-stays}

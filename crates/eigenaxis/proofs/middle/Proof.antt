@@ -1,4 +1,4 @@
--- `middle` meets its contract. Assumes nothing.
+-- `middle` meets its contract: the sum and the product are the definition's.
 use mathlib.Core.Path.{refl}
 use lib.Ieee as Ieee
 use Rattle.eigenaxis.specs.Ladders as Ladders

@@ -1,4 +1,4 @@
--- `narrow_turn` meets its contract. Assumes nothing.
+-- `narrow_turn` meets its contract: where no answer stands the ladder stays (`narrow-stays`), else the rung at `middle` is tried (`narrow-goes`).
 use mathlib.Core.Path.{_∙_, refl}
 use Rattle.eigenaxis.specs.LadderLaws.{keeps-same, narrow-goes, narrow-stays}
 use borrow.Author.Needs.{needs}

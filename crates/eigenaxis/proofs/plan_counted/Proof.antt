@@ -1,4 +1,4 @@
--- `plan_counted` meets its contract. Assumes nothing.
+-- `plan_counted` meets its contract: `plan_eigenaxis` says all three of its answer, and `counted` gives it the runs of every try.
 use borrow.Author.Needs.{needs}
 use Rattle.eigenaxis.proofs.plan_counted.Statement.{statement}
 use Rattle.eigenaxis.proofs.plan_counted.Tie as tie

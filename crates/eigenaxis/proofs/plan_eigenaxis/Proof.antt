@@ -1,4 +1,4 @@
--- `plan_eigenaxis` meets its contract. Assumes nothing.
+-- `plan_eigenaxis` meets its contract: `ladder-as` joins start, climb and narrowing; `keeps-begin` carries workspace and promise through them.
 use mathlib.Core.Path.{_∙_}
 use Rattle.eigenaxis.specs.Bounds.{climbed-room}
 use Rattle.eigenaxis.specs.LadderLaws.{keeps-begin, ladder-as}

@@ -1,4 +1,4 @@
--- `rung` meets its contract. Assumes nothing.
+-- `rung` meets its contract: three cases, passed over, refused and reached, each with a law of the ladder and one of what is kept.
 use mathlib.Core.Path.{_∙_}
 use borrow.Author.Tests.{not-true, not-false}
 use Rattle.eigenaxis.specs.LadderLaws.{keeps-over, keeps-refused, keeps-reached, rung-over, rung-refused, rung-reached}

@@ -1,4 +1,4 @@
--- `seed_at` meets its contract. Assumes nothing.
+-- `seed_at` meets its contract: check, turn, seed: each call is the definition's, in its order.
 use Rattle.eigenaxis.specs.Ladders as Ladders
 use borrow.Author.Needs.{needs}
 use Rattle.eigenaxis.proofs.seed_at.Statement.{statement}

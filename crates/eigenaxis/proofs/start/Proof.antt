@@ -1,4 +1,4 @@
--- `start` meets its contract. Assumes nothing.
+-- `start` meets its contract: the first try is the definition's, and `tried` bounds its runs and says what it leaves.
 use lib.Ieee as Ieee
 use Rattle.eigenaxis.specs.Ladders as Ladders
 use borrow.Author.Needs.{needs}

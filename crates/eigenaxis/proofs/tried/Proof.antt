@@ -1,4 +1,4 @@
--- `tried` meets its contract. Assumes nothing.
+-- `tried` meets its contract: it is `plan_from` with the seed's numbers, and `plan-from-most` bounds its runs.
 use Rattle.planner.specs.RunsMost.{plan-from-most}
 use borrow.Author.Needs.{needs}
 use Rattle.eigenaxis.proofs.tried.Statement.{statement}

@@ -1,4 +1,4 @@
--- `unweighted` meets its contract. Assumes nothing.
+-- `unweighted` meets its contract: each field is the problem's own but for the weights, which are 0 as in the definition.
 use lib.Ieee as Ieee
 use Rattle.eigenaxis.specs.Ladders as Ladders
 use Rattle.eigenaxis.proofs.unweighted.Statement.{statement}

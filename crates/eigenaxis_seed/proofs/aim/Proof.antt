@@ -1,4 +1,4 @@
--- `aim` meets its contract. Assumes nothing.
+-- `aim` meets its contract: `pace` gives the factor and `scale3` the product, as in the definition.
 use borrow.Author.Needs.{needs}
 use Rattle.eigenaxis_seed.proofs.aim.Statement.{statement}
 use Rattle.eigenaxis_seed.proofs.aim.Tie as tie

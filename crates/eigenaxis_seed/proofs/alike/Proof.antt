@@ -1,4 +1,4 @@
--- `alike` meets its contract. Assumes nothing.
+-- `alike` meets its contract: the loop keeps that `same` is the definition's answer after i comparisons.
 use mathlib.Core.Bool.{true}
 use mathlib.Core.Path.{_≡_}
 use Prim.Native.Nat.{_≤_, _-_}

@@ -1,4 +1,4 @@
--- `also` meets its contract. Assumes nothing.
+-- `also` meets its contract: the comparison is the definition's, and either case its answer.
 use Rattle.eigenaxis_seed.proofs.also.Statement.{statement}
 use Rattle.eigenaxis_seed.proofs.also.Tie as tie
 

@@ -1,4 +1,4 @@
--- `area` meets its contract. Assumes nothing.
+-- `area` meets its contract: `area-small` bounds k (16 - k) for k up to 8, so that the product and the cast lose nothing.
 use Rattle.eigenaxis_seed.specs.ShapeLaws.{area-small}
 use native.Mathlib.Omega.{arith}
 use borrow.Author.Needs.{needs}

@@ -1,4 +1,4 @@
--- `both` meets its contract. Assumes nothing.
+-- `both` meets its contract: the test of a decides, as in the definition.
 use Rattle.eigenaxis_seed.proofs.both.Statement.{statement}
 use Rattle.eigenaxis_seed.proofs.both.Tie as tie
 

@@ -1,4 +1,4 @@
--- `fewer_rising` meets its contract. Assumes nothing.
+-- `fewer_rising` meets its contract: the comparison is the definition's, on the rate of `pace`, and the answer is k or one less.
 use Rattle.eigenaxis_seed.specs.Shapes as Shapes
 use native.Mathlib.Omega.{arith}
 use borrow.Author.Needs.{needs}

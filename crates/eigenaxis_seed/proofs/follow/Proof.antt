@@ -1,4 +1,4 @@
--- `follow` meets its contract. Assumes nothing.
+-- `follow` meets its contract: each part of the motion is its callee's contract, in the definition's order.
 use Rattle.eigenaxis_seed.specs.Seeds as Seeds
 use borrow.Author.Needs.{needs}
 use Rattle.eigenaxis_seed.proofs.follow.Statement.{statement}

@@ -1,4 +1,4 @@
--- `handed` meets its contract. Assumes nothing.
+-- `handed` meets its contract: without a pyramid it is the torque itself, with one that of `pyramid_torque`.
 use borrow.Author.Needs.{needs}
 use Rattle.eigenaxis_seed.proofs.handed.Statement.{statement}
 use Rattle.eigenaxis_seed.proofs.handed.Tie as tie

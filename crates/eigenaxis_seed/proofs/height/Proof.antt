@@ -1,4 +1,4 @@
--- `height` meets its contract. Assumes nothing.
+-- `height` meets its contract: the trapezoid is two calls of `least`, which keep it at most i; the wave is the definition's table.
 use native.Mathlib.Omega.{arith}
 use borrow.Author.Needs.{needs}
 use Rattle.eigenaxis_seed.proofs.height.Statement.{statement}

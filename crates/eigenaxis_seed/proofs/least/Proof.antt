@@ -1,4 +1,4 @@
--- `least` meets its contract. Assumes nothing.
+-- `least` meets its contract: either case of the comparison is the definition's, and is at most a.
 use native.Mathlib.Omega.{arith}
 use borrow.Author.Tests.{lt-ltb, le-ltb}
 use Rattle.eigenaxis_seed.proofs.least.Statement.{statement}

@@ -1,4 +1,4 @@
--- `limited_rising` meets its contract. Assumes nothing.
+-- `limited_rising` meets its contract: the loop keeps that k is the definition's after i turns and at least 8 - i, so above 1 for `fewer_rising`.
 use mathlib.Core.Path.{_≡_}
 use Prim.Native.Nat.{_≤_, _-_, _+_}
 use Rattle.eigenaxis_seed.specs.Shapes as Shapes

@@ -1,4 +1,4 @@
--- `mixed` meets its contract. Assumes nothing.
+-- `mixed` meets its contract: each row is a call of `against` with the second matrix, in the definition's order.
 use Rattle.eigenaxis_seed.specs.Seeds as Seeds
 use borrow.Author.Needs.{needs}
 use Rattle.eigenaxis_seed.proofs.mixed.Statement.{statement}

@@ -1,4 +1,4 @@
--- `net_torque` meets its contract. Assumes nothing.
+-- `net_torque` meets its contract: the change of rate over dt, then `euler_lhs`: the definition's steps in its order.
 use lib.Ieee as Ieee
 use Rattle.eigenaxis_seed.specs.Seeds as Seeds
 use borrow.Author.Needs.{needs}

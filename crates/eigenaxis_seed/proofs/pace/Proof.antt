@@ -1,4 +1,4 @@
--- `pace` meets its contract. Assumes nothing.
+-- `pace` meets its contract: `height` and `area` give the definition's whole numbers, and the operations follow in its order.
 use lib.Ieee as Ieee
 use Rattle.eigenaxis_seed.specs.Shapes as Shapes
 use borrow.Author.Needs.{needs}

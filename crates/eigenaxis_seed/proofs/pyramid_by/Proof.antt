@@ -1,4 +1,4 @@
--- `pyramid_by` meets its contract. Assumes nothing.
+-- `pyramid_by` meets its contract: share, Gram matrix, scaling: each call is the definition's, in its order.
 use Rattle.eigenaxis_seed.specs.Seeds as Seeds
 use borrow.Author.Needs.{needs}
 use Rattle.eigenaxis_seed.proofs.pyramid_by.Statement.{statement}

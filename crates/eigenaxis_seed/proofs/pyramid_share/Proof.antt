@@ -1,4 +1,4 @@
--- `pyramid_share` meets its contract. Assumes nothing.
+-- `pyramid_share` meets its contract: product, inverse, scaled torque: each call is the definition's, in its order.
 use lib.Ieee as Ieee
 use Rattle.eigenaxis_seed.specs.Seeds as Seeds
 use borrow.Author.Needs.{needs}

@@ -1,4 +1,4 @@
--- `pyramid_torque` meets its contract. Assumes nothing.
+-- `pyramid_torque` meets its contract: the two matrices, at the angles and at 0, are the definition's, and `pyramid_by` does the rest.
 use lib.Ieee as Ieee
 use borrow.Author.Needs.{needs}
 use Rattle.eigenaxis_seed.proofs.pyramid_torque.Statement.{statement}

@@ -1,4 +1,4 @@
--- `rate_after` meets its contract. Assumes nothing.
+-- `rate_after` meets its contract: `body_torque`, `rate_dot` and `rate_next` are called on the definition's arguments, in its order.
 use Rattle.eigenaxis_seed.specs.Seeds as Seeds
 use borrow.Author.Needs.{needs}
 use Rattle.eigenaxis_seed.proofs.rate_after.Statement.{statement}

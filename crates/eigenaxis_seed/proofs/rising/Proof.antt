@@ -1,4 +1,4 @@
--- `rising` meets its contract. Assumes nothing.
+-- `rising` meets its contract: without a limit the answer is 8, with one that of `limited_rising`, which is at most 8.
 use native.Mathlib.Omega.{arith}
 use borrow.Author.Needs.{needs}
 use Rattle.eigenaxis_seed.proofs.rising.Statement.{statement}

@@ -1,4 +1,4 @@
--- `row_of` meets its contract. Assumes nothing.
+-- `row_of` meets its contract: the row is the one that `allocate_body_torque` answers.
 use borrow.Author.Needs.{needs}
 use Rattle.eigenaxis_seed.proofs.row_of.Statement.{statement}
 use Rattle.eigenaxis_seed.proofs.row_of.Tie as tie

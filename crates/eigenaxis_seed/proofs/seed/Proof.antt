@@ -1,4 +1,4 @@
--- `seed` meets its contract. Assumes nothing.
+-- `seed` meets its contract: the loop keeps that s is the definition's after i turns; `rising` is at most 8, as `turn` asks.
 use Prim.Native.Nat.{_≤_, _-_}
 use mathlib.Core.Path.{_≡_}
 use native.Mathlib.Omega.{arith}

@@ -1,4 +1,4 @@
--- `seed_torque` meets its contract. Assumes nothing.
+-- `seed_torque` meets its contract: `net_torque`, then `handed`, as in the definition.
 use Rattle.eigenaxis_seed.specs.Seeds as Seeds
 use borrow.Author.Needs.{needs}
 use Rattle.eigenaxis_seed.proofs.seed_torque.Statement.{statement}

@@ -1,4 +1,4 @@
--- `turn` meets its contract. Assumes nothing.
+-- `turn` meets its contract: `aim` gives the target rate of node i + 1, and `step` does the rest.
 use lib.Ieee as Ieee
 use borrow.Author.Needs.{needs}
 use Rattle.eigenaxis_seed.proofs.turn.Statement.{statement}

@@ -1,4 +1,4 @@
--- `turn_of` meets its contract. Assumes nothing.
+-- `turn_of` meets its contract: the answer of `log_so3` decides, as in the definition: zeros, or its three numbers.
 use lib.Ieee as Ieee
 use Rattle.eigenaxis_seed.specs.Seeds as Seeds
 use borrow.Author.Needs.{needs}

@@ -1,4 +1,4 @@
--- `elimination::damped_step` meets its contract. Assumes nothing.
+-- `elimination::damped_step` meets its contract: `equations` makes the definition's matrix and right side, `solve_dense` solves; the columns stay.
 use mathlib.Core.List.{_++_, List}
 use lib.ListN.{length-drop, length, take, drop}
 use lib.Seq.{length-take-le, take-at}

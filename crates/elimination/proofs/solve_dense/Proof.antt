@@ -1,4 +1,4 @@
--- `elimination::solve_dense` meets its contract. Assumes nothing.
+-- `elimination::solve_dense` meets its contract: the loop keeps that k columns are done, two a turn; a refusal stays to the end (`iter-stays`).
 use borrow.Author.Tests.{not-true, not-false}
 use mathlib.Core.Bool.{Bool, true, false}
 use lib.Seq.{length-take-le, length-front}

@@ -1,4 +1,4 @@
--- `ends::end_checks` meets its contract.
+-- `ends::end_checks` meets its contract: each way out is a case of the definition: no rotation, too far from the target, or the rest.
 use lib.Ieee as Ieee
 use borrow.Author.Needs.{needs}
 use Rattle.ends.specs.Ends as Ends

@@ -1,4 +1,4 @@
--- `ends::node_fate` meets its contract.
+-- `ends::node_fate` meets its contract: three tests in the definition's order, each on its callee's contract.
 use lib.Ieee as Ieee
 use borrow.Author.Needs.{needs}
 use Rattle.ends.specs.Ends as Ends

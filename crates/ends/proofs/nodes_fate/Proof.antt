@@ -1,4 +1,4 @@
--- `ends::nodes_fate` meets its contract.
+-- `ends::nodes_fate` meets its contract: the loop keeps that no node before k is refused; the first refusal is the definition's.
 use Prim.Native.Nat.{_≤_, _-_}
 use mathlib.Core.Path.{_≡_}
 use native.Mathlib.Omega.{arith}

@@ -1,4 +1,4 @@
--- `ends::over_momentum` meets its contract.
+-- `ends::over_momentum` meets its contract: a sized map has at most 8 wheels, so `momentum_excess` has its room, and the test is the definition's.
 use lib.Ieee as Ieee
 use native.Mathlib.Omega.{arith}
 use borrow.Author.Needs.{needs}

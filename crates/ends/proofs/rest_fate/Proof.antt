@@ -1,4 +1,4 @@
--- `ends::rest_fate` meets its contract.
+-- `ends::rest_fate` meets its contract: end rate, defect, nodes: the definition's tests in its order.
 use lib.Ieee as Ieee
 use borrow.Author.Needs.{needs}
 use Rattle.ends.specs.Ends as Ends

@@ -1,4 +1,4 @@
--- `ends::too_fast` meets its contract.
+-- `ends::too_fast` meets its contract: without a limit it is false, else it is the definition's comparison of the rate's length.
 use lib.Ieee as Ieee
 use borrow.Author.Needs.{needs}
 use Rattle.ends.proofs.too_fast.Statement.{statement}

@@ -1,4 +1,4 @@
--- `float::ceil` meets its contract. Assumes nothing.
+-- `float::ceil` meets its contract: below 2^52 in size `next_whole` and `cut` have it; anything else is its own ceiling.
 use borrow.Author.Needs.{needs}
 use Rattle.float.proofs.Whole.{wholes}
 use Rattle.float.proofs.ceil.Statement.{statement}

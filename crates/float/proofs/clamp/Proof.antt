@@ -1,4 +1,4 @@
--- `float::clamp` meets its contract. Assumes nothing.
+-- `float::clamp` meets its contract: three cases by two comparisons, each closed by a lemma of `Arms`.
 use borrow.Author.Needs.{needs}
 use Rattle.float.proofs.Arms.{arms}
 use Rattle.float.proofs.clamp.Statement.{statement}

@@ -1,4 +1,4 @@
--- `float::cut` meets its contract. Assumes nothing.
+-- `float::cut` meets its contract: `cut-below` says that the whole part of -x, negated, is the ceiling of x.
 use borrow.Author.Needs.{needs}
 use Rattle.float.proofs.Whole.{cut-fits, negated-small, cut-below}
 use Rattle.float.proofs.cut.Statement.{statement}

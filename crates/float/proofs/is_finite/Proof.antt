@@ -1,4 +1,4 @@
--- `float::is_finite` meets its contract. Assumes nothing.
+-- `float::is_finite` meets its contract: two comparisons with the infinities, each outcome closed by a lemma of `Arms`.
 use borrow.Author.Needs.{needs}
 use lib.Ieee.{nanBits}
 use Rattle.float.proofs.Arms.{arms}

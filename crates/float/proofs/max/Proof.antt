@@ -1,4 +1,4 @@
--- `float::max` meets its contract. Assumes nothing.
+-- `float::max` meets its contract: three cases by two comparisons, a NaN being unlike itself, each closed by a lemma of `Arms`.
 use borrow.Author.Needs.{needs}
 use Rattle.float.proofs.Arms.{arms}
 use Rattle.float.proofs.max.Statement.{statement}

@@ -1,4 +1,4 @@
--- `float::next_whole` meets its contract. Assumes nothing.
+-- `float::next_whole` meets its contract: the whole part is the ceiling, or one below it where it is below x (`same-whole`, `raised-whole`).
 use native.Mathlib.Omega.{arith}
 use mathlib.Core.Path.{_∙_}
 use borrow.Author.Needs.{needs}

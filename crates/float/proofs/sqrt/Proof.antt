@@ -1,4 +1,4 @@
--- `float::sqrt` meets its contract. Assumes nothing.
+-- `float::sqrt` meets its contract: four kinds of x: above 0 and finite by `root_bits`, infinite, zero, anything else.
 use mathlib.Core.Path.{sym, ap, _∙_, subst}
 use lib.Dec.{T}
 use lib.Ieee.{binary64}

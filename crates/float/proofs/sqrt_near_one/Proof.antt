@@ -1,4 +1,4 @@
--- `float::sqrt_near_one` meets its contract. Assumes nothing.
+-- `float::sqrt_near_one` meets its contract: between the two patterns `near_root_bits` has the root, everywhere else `sqrt`.
 use mathlib.Core.Path.{sym, ap, _∙_, subst}
 use lib.Dec.{T}
 use lib.Ieee.{binary64}

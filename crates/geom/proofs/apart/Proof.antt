@@ -1,4 +1,4 @@
--- `apart` meets its contract. Assumes nothing.
+-- `apart` meets its contract: the size of the difference by `abs`, and the comparison is the definition's.
 use borrow.Author.Needs.{needs}
 use lib.Ieee.{ofBits}
 use Rattle.geom.proofs.apart.Statement.{statement}

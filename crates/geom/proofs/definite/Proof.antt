@@ -1,4 +1,4 @@
--- `definite` meets its contract. Assumes nothing.
+-- `definite` meets its contract: three leading minors in order; the first that is not positive decides, as in the definition.
 use borrow.Author.Needs.{needs}
 use Rattle.geom.specs.Tests.{met, unmet}
 use Rattle.geom.proofs.definite.Statement.{statement}

@@ -1,4 +1,4 @@
--- `exp_at` meets its contract. Assumes nothing.
+-- `exp_at` meets its contract: a short vector, an answered turn, a refused one: the definition's cases, sine and cosine by `at-once`.
 use lib.Ieee.{ofBits}
 use Rattle.geom.specs.HalvesLaws.{at-once}
 use Rattle.geom.specs.Quats.{expAt}

@@ -1,4 +1,4 @@
--- `exp_so3` meets its contract. Assumes nothing.
+-- `exp_so3` meets its contract: it is `exp_at` with the vector's own length.
 use borrow.Author.Needs.{needs}
 use Rattle.geom.proofs.exp_so3.Statement.{statement}
 use Rattle.geom.proofs.exp_so3.Tie as tie

@@ -1,4 +1,4 @@
--- `invert3` meets its contract. Assumes nothing.
+-- `invert3` meets its contract: a determinant that is not finite or too small is refused, else the scaled adjugate, as in the definition.
 use borrow.Author.Needs.{needs}
 use lib.Ieee.{ofBits}
 use Rattle.geom.specs.Tensors.{inverseBy}

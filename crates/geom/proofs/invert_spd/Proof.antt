@@ -1,4 +1,4 @@
--- `invert_spd` meets its contract. Assumes nothing.
+-- `invert_spd` meets its contract: `is_spd` decides, as in the definition: `invert3`, or no inverse.
 use borrow.Author.Needs.{needs}
 use Rattle.geom.specs.Tensors.{invertSpd}
 use Rattle.geom.proofs.invert_spd.Statement.{statement}

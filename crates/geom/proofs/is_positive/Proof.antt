@@ -1,4 +1,4 @@
--- `positive` meets its contract. Assumes nothing.
+-- `positive` meets its contract: either case of the comparison is the definition's; above 0 `is_finite` decides.
 use borrow.Author.Needs.{needs}
 use lib.Ieee.{ofBits}
 use Rattle.geom.proofs.is_positive.Statement.{statement}

@@ -1,4 +1,4 @@
--- `is_spd` meets its contract. Assumes nothing.
+-- `is_spd` meets its contract: `symmetric` decides first, then `definite`, as in the definition.
 use borrow.Author.Needs.{needs}
 use Rattle.geom.specs.Tensors.{isSpd}
 use Rattle.geom.proofs.is_spd.Statement.{statement}

@@ -1,4 +1,4 @@
--- `log_so3` meets its contract. Assumes nothing.
+-- `log_so3` meets its contract: the sign of the scalar part decides whether q or its negation goes to `log_up`.
 use borrow.Author.Needs.{needs}
 use lib.Ieee.{ofBits}
 use Rattle.geom.specs.Quats.{logSo3}

@@ -1,4 +1,4 @@
--- `log_up` meets its contract. Assumes nothing.
+-- `log_up` meets its contract: a short vector part, an answered `acos`, a refused one: the definition's three cases.
 use borrow.Author.Needs.{needs}
 use lib.Ieee.{ofBits, neg}
 use Rattle.geom.specs.Quats.{logAt}

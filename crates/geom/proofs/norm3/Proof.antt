@@ -1,4 +1,4 @@
--- `norm3` meets its contract. Assumes nothing.
+-- `norm3` meets its contract: the root of `dot3` with itself, as in the definition.
 use borrow.Author.Needs.{needs}
 use Rattle.geom.specs.Quats.{norm3}
 use Rattle.geom.proofs.norm3.Statement.{statement}

@@ -1,4 +1,4 @@
--- `normal_by` meets its contract. Assumes nothing.
+-- `normal_by` meets its contract: three tests in the definition's order make its refusals, and what passes them is scaled.
 use borrow.Author.Needs.{needs}
 use lib.Ieee.{ofBits}
 use Rattle.geom.specs.Quats.{normalBy}

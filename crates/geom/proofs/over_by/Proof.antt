@@ -1,4 +1,4 @@
--- `over_by` meets its contract. Assumes nothing.
+-- `over_by` meets its contract: the larger of e and the size less the limit, by `max` and `abs`.
 use borrow.Author.Needs.{needs}
 use Rattle.geom.proofs.over_by.Statement.{statement}
 use Rattle.geom.proofs.over_by.Tie as tie

@@ -1,4 +1,4 @@
--- `rest` meets its contract. Assumes nothing.
+-- `rest` meets its contract: three tests in order; the first that fails decides, as in the definition's conjunction.
 use borrow.Author.Needs.{needs}
 use Rattle.geom.specs.Tests.{met, unmet}
 use Rattle.geom.proofs.rest.Statement.{statement}

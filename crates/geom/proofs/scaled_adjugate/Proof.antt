@@ -1,4 +1,4 @@
--- `scaled_adjugate` meets its contract. Assumes nothing.
+-- `scaled_adjugate` meets its contract: each row of the adjugate is scaled, and the three are laid flat, as in the definition.
 use borrow.Author.Needs.{needs}
 use Rattle.geom.specs.Tensors.{scaledAdjugate}
 use Rattle.geom.proofs.scaled_adjugate.Statement.{statement}

@@ -1,4 +1,4 @@
--- `still` meets its contract. Assumes nothing.
+-- `still` meets its contract: `is_finite` decides first, then the comparison of the size, as in the definition.
 use borrow.Author.Needs.{needs}
 use Rattle.geom.proofs.still.Statement.{statement}
 use Rattle.geom.proofs.still.Tie as tie

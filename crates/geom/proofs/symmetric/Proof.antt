@@ -1,4 +1,4 @@
--- `symmetric` meets its contract. Assumes nothing.
+-- `symmetric` meets its contract: three pairs in order; the first that is apart decides, as in the definition.
 use borrow.Author.Needs.{needs}
 use Rattle.geom.proofs.symmetric.Statement.{statement}
 use Rattle.geom.proofs.symmetric.Tie as tie

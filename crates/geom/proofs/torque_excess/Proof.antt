@@ -1,4 +1,4 @@
--- `torque_excess` meets its contract. Assumes nothing.
+-- `torque_excess` meets its contract: three calls of `over_by`, each on the answer of the one before, as in the definition.
 use borrow.Author.Needs.{needs}
 use lib.Ieee.{ofBits}
 use Rattle.geom.proofs.torque_excess.Statement.{statement}

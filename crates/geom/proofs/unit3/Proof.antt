@@ -1,4 +1,4 @@
--- `unit3` meets its contract. Assumes nothing.
+-- `unit3` meets its contract: a length too small or not finite is refused, else each part is scaled, as in the definition.
 use borrow.Author.Needs.{needs}
 use lib.Ieee.{ofBits}
 use Rattle.geom.specs.Quats.{unitBy}

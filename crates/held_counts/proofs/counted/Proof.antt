@@ -1,4 +1,4 @@
--- `held_counts::counted` meets its contract. Assumes nothing.
+-- `held_counts::counted` meets its contract: the flag of `hold` decides, as in the definition.
 use borrow.Author.Needs.{needs}
 use Rattle.held_counts.proofs.counted.Statement.{statement}
 use Rattle.held_counts.proofs.counted.Tie as tie

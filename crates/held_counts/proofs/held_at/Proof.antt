@@ -1,4 +1,4 @@
--- `held_counts::held_at` meets its contract. Assumes nothing.
+-- `held_counts::held_at` meets its contract: the loop keeps that count is the definition's over k rows, at most k (`count-most`), as `counted` asks.
 use Prim.Native.Nat.{_+_, _*_, _-_, _<_, _≤_}
 use mathlib.Core.Path.{_≡_, refl}
 use Rattle.common.specs.Iter.{iter, iter-none, iter-next, row-end}

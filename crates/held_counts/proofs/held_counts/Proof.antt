@@ -1,4 +1,4 @@
--- `held_counts::held_counts` meets its contract. Assumes nothing.
+-- `held_counts::held_counts` meets its contract: the loop keeps that the first i places have their counts, by `limit_in` and `held_at`.
 use Prim.Native.Nat.{_-_, _≤_}
 use mathlib.Core.Path.{_≡_, refl}
 use lib.ListN.{length, length-set}

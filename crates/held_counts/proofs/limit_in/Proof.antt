@@ -1,4 +1,4 @@
--- `held_counts::limit_in` meets its contract. Assumes nothing.
+-- `held_counts::limit_in` meets its contract: with no actuators i is below 3 (`held-bare`); else the tables have room for the counts (`held-tables`).
 use Prim.Native.Nat.{_<_}
 use mathlib.Core.Path.{_≡_, sym, _∙_}
 use mathlib.Core.Bool.{Bool, true, false}

@@ -1,4 +1,4 @@
--- `held_counts::part_limit` meets its contract. Assumes nothing.
+-- `held_counts::part_limit` meets its contract: wheel, thruster, pyramid: two comparisons in the definition's order, and in each case its limit.
 use borrow.Author.Tests.{lt-ltb, le-ltb}
 use borrow.Author.Needs.{needs}
 use Rattle.held_counts.proofs.part_limit.Statement.{statement}

@@ -1,4 +1,4 @@
--- `mosaic::advance_open` meets its contract. Assumes nothing.
+-- `mosaic::advance_open` meets its contract: a full cursor is halted with 23; any other has room for a leg (`open-of`), as `advance` asks.
 use Rattle.mosaic.proofs.Steps.{open-of, turned-full, turned-open}
 use borrow.Author.Needs.{needs}
 use Rattle.mosaic.proofs.advance_open.Statement.{statement}

@@ -1,4 +1,4 @@
--- `mosaic::check_count` meets its contract. Assumes nothing.
+-- `mosaic::check_count` meets its contract: too few, too many or neither: two comparisons, and a law for each of the three.
 use Rattle.mosaic.proofs.Steps.{count-few, count-many, count-fits}
 use Rattle.mosaic.proofs.check_count.Statement.{statement}
 use Rattle.mosaic.proofs.check_count.Tie as tie

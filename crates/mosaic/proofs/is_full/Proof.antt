@@ -1,4 +1,4 @@
--- `mosaic::is_full` meets its contract. Assumes nothing.
+-- `mosaic::is_full` meets its contract: an index above 62 decides (`full-index`), else the runs do (`full-runs`).
 use Rattle.mosaic.proofs.Steps.{full-index, full-runs}
 use Rattle.mosaic.proofs.is_full.Statement.{statement}
 use Rattle.mosaic.proofs.is_full.Tie as tie

@@ -1,4 +1,4 @@
--- `mosaic::moved` meets its contract. Assumes nothing.
+-- `mosaic::moved` meets its contract: the leg's fate decides, as in the definition: `halted` or `took`.
 use mathlib.Core.Path.{_∙_, refl}
 use Rattle.mosaic.specs.Mosaics.{moved}
 use borrow.Author.Needs.{needs}

@@ -1,4 +1,4 @@
--- `mosaic::next` meets its contract. Assumes nothing.
+-- `mosaic::next` meets its contract: a refused cursor stays and plans nothing (`advances-not`); any other turns as `advance_open` says.
 use Rattle.mosaic.proofs.Steps.{advances, advances-not}
 use borrow.Author.Needs.{needs}
 use Rattle.mosaic.proofs.next.Statement.{statement}

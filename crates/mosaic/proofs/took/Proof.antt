@@ -1,4 +1,4 @@
--- `mosaic::took` meets its contract. Assumes nothing.
+-- `mosaic::took` meets its contract: each field is the definition's, and an open cursor has room for both sums.
 use native.Mathlib.Omega.{arith}
 use borrow.Author.Needs.{needs}
 use Rattle.mosaic.proofs.took.Statement.{statement}

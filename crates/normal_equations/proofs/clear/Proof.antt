@@ -1,4 +1,4 @@
--- `normal_equations::clear` meets its contract. Assumes nothing.
+-- `normal_equations::clear` meets its contract: the loop keeps that the numbers before i are +0.0, and at the end that is the whole list.
 use mathlib.Core.List.{List}
 use lib.ListN.{length-replicate, getD-replicate, length, length-set}
 use lib.Ieee.{Float}

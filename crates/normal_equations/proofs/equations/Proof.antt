@@ -1,4 +1,4 @@
--- `normal_equations::equations` meets its contract. Assumes nothing.
+-- `normal_equations::equations` meets its contract: right side and matrix are what `right_side` and `normal_matrix` make of the same columns.
 use lib.Seq.{length-take-le}
 use mathlib.Core.Path.{sym}
 use native.Mathlib.Omega.{arith}

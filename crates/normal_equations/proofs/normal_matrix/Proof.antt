@@ -1,4 +1,4 @@
--- `normal_equations::normal_matrix` meets its contract. Assumes nothing.
+-- `normal_equations::normal_matrix` meets its contract: the loop keeps that the rows before c are right; by them the next ones are (`row-right`).
 use Rattle.normal_equations.specs.Inner as Inner
 use Rattle.normal_equations.specs.Normal as Normal
 use Rattle.normal_equations.specs.NormalLaws.{row-right, normal-rows}

@@ -1,4 +1,4 @@
--- `normal_equations::put_column` meets its contract. Assumes nothing.
+-- `normal_equations::put_column` meets its contract: the lent part is column c and becomes the slopes; what lies before and after it stays.
 use Prim.Native.Nat.{ℕ, _+_, _*_, _≤_}
 use mathlib.Core.Path.{_≡_, refl, ap, sym, subst, _∙_}
 use mathlib.Core.Logic.{⊎-elim}

@@ -1,4 +1,4 @@
--- `normal_equations::put_slopes` meets its contract. Assumes nothing.
+-- `normal_equations::put_slopes` meets its contract: the loop keeps that the numbers before i are the definition's slopes.
 use mathlib.Core.List.{List}
 use lib.Ieee.{Float, binary64, sub, div}
 use Rattle.normal_equations.specs.Normal as Normal

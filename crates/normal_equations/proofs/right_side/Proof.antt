@@ -1,4 +1,4 @@
--- `normal_equations::right_side` meets its contract. Assumes nothing.
+-- `normal_equations::right_side` meets its contract: the loop keeps that the numbers before c are the negated sums of their columns with r.
 use Rattle.normal_equations.specs.NormalLaws.{right-rows}
 use Rattle.normal_equations.specs.Normal as Normal
 use Rattle.common.specs.Iter.{row-end}

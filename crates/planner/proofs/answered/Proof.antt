@@ -1,4 +1,4 @@
--- `planner::answered` meets its contract.
+-- `planner::answered` meets its contract: the fate of what was found decides, as in the definition, and each case is its callee's contract.
 use Rattle.planner.specs.Plans as Plans
 use mathlib.Core.Path.{_∙_, refl}
 use borrow.Author.Needs.{needs}

@@ -1,4 +1,4 @@
--- `planner::counted` meets its contract.
+-- `planner::counted` meets its contract: two tests of a length, and a law for each outcome of the first.
 use Rattle.planner.specs.PlanLaws.{counted-not, counted-so}
 use borrow.Author.Needs.{needs}
 use Rattle.planner.proofs.counted.Statement.{statement}

@@ -1,4 +1,4 @@
--- `planner::ended` meets its contract.
+-- `planner::ended` meets its contract: the fate of `end_checks` decides, as in the definition: no path, or the path of `path_of`.
 use mathlib.Core.Path.{_∙_, refl}
 use borrow.Author.Needs.{needs}
 use Rattle.planner.proofs.ended.Statement.{statement}

@@ -1,4 +1,4 @@
--- `planner::held_of` meets its contract.
+-- `planner::held_of` meets its contract: the test of `tried` is the definition's, and either case its answer.
 use Rattle.planner.proofs.held_of.Statement.{statement}
 use Rattle.planner.proofs.held_of.Tie as tie
 

@@ -1,4 +1,4 @@
--- `planner::path_of` meets its contract.
+-- `planner::path_of` meets its contract: each field is the definition's, with the contracts of `held_of` and `control_dim`.
 use lib.Ieee as Ieee
 use borrow.Author.Needs.{needs}
 use Rattle.planner.proofs.path_of.Statement.{statement}

@@ -1,4 +1,4 @@
--- `planner::plan` meets its contract.
+-- `planner::plan` meets its contract: `check` and `with_profile` are the definition's stages, and `plan-answers` gives the promise.
 use mathlib.Core.Path.{refl}
 use mathlib.Core.List.{[]}
 use Rattle.problem.specs.Problems.{check}

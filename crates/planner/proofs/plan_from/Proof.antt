@@ -1,4 +1,4 @@
--- `planner::plan_from` meets its contract.
+-- `planner::plan_from` meets its contract: `check` and `with_seed` are the definition's stages, and `plan-from-answers` gives the promise.
 use mathlib.Core.Path.{refl, sym, _∙_}
 use Rattle.problem.specs.Problems.{check}
 use Rattle.planner.specs.Plans as Plans

@@ -1,4 +1,4 @@
--- `planner::profiled` meets its contract.
+-- `planner::profiled` meets its contract: it is `bang_coast_bang` on the problem's own numbers, as in the definition.
 use Rattle.planner.specs.Plans as Plans
 use mathlib.Core.Path.{_∙_, refl}
 use borrow.Author.Needs.{needs}

@@ -1,4 +1,4 @@
--- `planner::refused` meets its contract.
+-- `planner::refused` meets its contract: each field is the definition's blank one, the nodes by `blank_node`.
 use lib.Ieee as Ieee
 use borrow.Author.Needs.{needs}
 use Rattle.planner.proofs.refused.Statement.{statement}

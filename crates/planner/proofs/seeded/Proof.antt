@@ -1,4 +1,4 @@
--- `planner::seeded` meets its contract.
+-- `planner::seeded` meets its contract: the three refusals are the definition's, in its order; past them `solve` gives the answer.
 use borrow.Author.Tests.{not-true, not-false}
 use Rattle.planner.specs.PlanLaws.{seeded-uncounted, seeded-untimed, seeded-short, seeded-search}
 use Rattle.planner.specs.OutcomeLaws.{refusal, solved}

@@ -1,4 +1,4 @@
--- `planner::solve` meets its contract.
+-- `planner::solve` meets its contract: `search` finds, `clear` makes the workspace zeros, and `answered` answers what was found.
 use mathlib.Core.Path.{_∙_, refl}
 use lib.Ieee as Ieee
 use Rattle.planner.proofs.Fitting.{array-held}

@@ -1,4 +1,4 @@
--- `planner::with_profile` meets its contract.
+-- `planner::with_profile` meets its contract: a refused profile ends it before any run; else `sample_seed` gives the seed and the rest follows.
 use mathlib.Core.Path.{refl}
 use Rattle.planner.specs.Plans as Plans
 use Rattle.planner.specs.OutcomeLaws.{refusal, profiled-as}

@@ -1,4 +1,4 @@
--- `planner::with_profile_seed` meets its contract.
+-- `planner::with_profile_seed` meets its contract: a profile's seed has 51 torques, so `with_seed` has the 48 that it asks for.
 use native.Mathlib.Omega.{arith}
 use Rattle.planner.proofs.Fitting.{field-count}
 use borrow.Author.Needs.{needs}

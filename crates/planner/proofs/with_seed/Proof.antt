@@ -1,4 +1,4 @@
--- `planner::with_seed` meets its contract.
+-- `planner::with_seed` meets its contract: where `served` does not refuse, the controls are at most 12, as `seeded` asks.
 use mathlib.Core.Path.{_≡_, refl, sym, _∙_}
 use Rattle.planner.specs.Plans as Plans
 use Rattle.planner.specs.OutcomeLaws.{refusal, outcome-as}

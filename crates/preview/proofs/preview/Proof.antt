@@ -1,4 +1,4 @@
--- `preview::preview` meets its contract, by the contracts of what it calls. Assumes nothing.
+-- `preview::preview` meets its contract: `with_momenta` makes the definition's problem, and `plan` says all three of its answer.
 use borrow.Author.Needs.{needs}
 use Rattle.preview.proofs.preview.Statement.{statement}
 use Rattle.preview.proofs.preview.Tie as tie

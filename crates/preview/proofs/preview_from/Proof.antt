@@ -1,4 +1,4 @@
--- `preview::preview_from` meets its contract, by the contracts of what it calls. Assumes nothing.
+-- `preview::preview_from` meets its contract: `with_momenta` makes the definition's problem, and `plan_from` says all three of its answer.
 use borrow.Author.Needs.{needs}
 use Rattle.preview.proofs.preview_from.Statement.{statement}
 use Rattle.preview.proofs.preview_from.Tie as tie

@@ -1,4 +1,4 @@
--- `preview::start` meets its contract, by the contracts of what it calls. Assumes nothing.
+-- `preview::start` meets its contract: `commit` is called with the definition's arguments, by `answered` and `last_momenta`.
 use borrow.Author.Needs.{needs}
 use Rattle.preview.proofs.start.Statement.{statement}
 use Rattle.preview.proofs.start.Tie as tie

@@ -1,4 +1,4 @@
--- `problem::blank_problem` meets its contract. Assumes nothing.
+-- `problem::blank_problem` meets its contract: each field is the definition's zero, the map by `blank_map`.
 use borrow.Author.Needs.{needs}
 use Rattle.problem.proofs.blank_problem.Statement.{statement}
 use Rattle.problem.proofs.blank_problem.Tie as tie

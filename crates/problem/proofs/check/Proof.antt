@@ -1,4 +1,4 @@
--- `problem::check` meets its contract. Assumes nothing.
+-- `problem::check` meets its contract: the fate of `prepare` decides, as in the definition: its refusal, or `with_map`.
 use Rattle.problem.specs.Problems as Problems
 use borrow.Author.Needs.{needs}
 use Rattle.problem.proofs.check.Statement.{statement}

@@ -1,4 +1,4 @@
--- `problem::is_positive` meets its contract. Assumes nothing.
+-- `problem::is_positive` meets its contract: `is_finite` decides first, then the comparison with 0, as in the definition.
 use lib.Ieee as Ieee
 use borrow.Author.Needs.{needs}
 use Rattle.problem.proofs.is_positive.Statement.{statement}

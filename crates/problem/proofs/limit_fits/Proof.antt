@@ -1,4 +1,4 @@
--- `problem::limit_fits` meets its contract. Assumes nothing.
+-- `problem::limit_fits` meets its contract: an absent limit fits, and of one that is there `is_positive` decides, as in the definition.
 use borrow.Author.Needs.{needs}
 use Rattle.problem.proofs.limit_fits.Statement.{statement}
 use Rattle.problem.proofs.limit_fits.Tie as tie

@@ -1,4 +1,4 @@
--- `problem::numbers_fit` meets its contract. Assumes nothing.
+-- `problem::numbers_fit` meets its contract: five tests in order; the first that fails decides, as in the definition's conjunction.
 use borrow.Author.Needs.{needs}
 use Rattle.geom.specs.Tests.{met, unmet}
 use Rattle.problem.specs.Problems as Problems

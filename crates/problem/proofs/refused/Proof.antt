@@ -1,4 +1,4 @@
--- `problem::refused` meets its contract. Assumes nothing.
+-- `problem::refused` meets its contract: the refusal is the definition's, beside the problem of `blank_problem`.
 use borrow.Author.Needs.{needs}
 use Rattle.problem.proofs.refused.Statement.{statement}
 use Rattle.problem.proofs.refused.Tie as tie

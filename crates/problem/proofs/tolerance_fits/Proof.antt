@@ -1,4 +1,4 @@
--- `problem::tolerance_fits` meets its contract. Assumes nothing.
+-- `problem::tolerance_fits` meets its contract: either case of the comparison with 0 is the definition's.
 use lib.Ieee as Ieee
 use borrow.Author.Needs.{needs}
 use Rattle.problem.proofs.tolerance_fits.Statement.{statement}

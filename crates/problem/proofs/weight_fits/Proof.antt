@@ -1,4 +1,4 @@
--- `problem::weight_fits` meets its contract. Assumes nothing.
+-- `problem::weight_fits` meets its contract: `is_finite` decides first, then the comparison with 0, as in the definition.
 use lib.Ieee as Ieee
 use borrow.Author.Needs.{needs}
 use Rattle.problem.proofs.weight_fits.Statement.{statement}

@@ -1,4 +1,4 @@
--- `problem::with_attitudes` meets its contract. Assumes nothing.
+-- `problem::with_attitudes` meets its contract: the fate of `invert_spd` decides: refusal 6, or the definition's record with the starts of `placed`.
 use mathlib.Core.Path.{_≡_, _∙_, ap}
 use Rattle.geom.specs.Vec.{tensor}
 use Rattle.geom.specs.Tensors.{invertSpd}

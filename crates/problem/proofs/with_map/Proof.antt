@@ -1,4 +1,4 @@
--- `problem::with_map` meets its contract. Assumes nothing.
+-- `problem::with_map` meets its contract: check 4, check 22, then `with_starts`: the definition's order, each on its callee's contract.
 use Rattle.geom.specs.Tests.{met, unmet}
 use Rattle.problem.specs.Problems as Problems
 use borrow.Author.Needs.{needs}

@@ -1,4 +1,4 @@
--- `problem::with_starts` meets its contract. Assumes nothing.
+-- `problem::with_starts` meets its contract: each attitude is normalized or refused at its place, in the definition's order.
 use Rattle.problem.specs.Problems as Problems
 use borrow.Author.Needs.{needs}
 use Rattle.problem.proofs.with_starts.Statement.{statement}

@@ -1,4 +1,4 @@
--- `acceleration_of` meets its contract. Assumes nothing.
+-- `acceleration_of` meets its contract: not finite, not above 0, else an acceleration: the definition's tests in its order.
 use borrow.Author.Needs.{needs}
 use lib.Ieee.{ofBits}
 use Rattle.profile.specs.Profiles.{accelerationOf}

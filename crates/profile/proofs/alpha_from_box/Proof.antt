@@ -1,4 +1,4 @@
--- `alpha_from_box` meets its contract. Assumes nothing.
+-- `alpha_from_box` meets its contract: three calls of `box_turn`, from infinity on, then `acceleration_of`, as in the definition.
 use borrow.Author.Needs.{needs}
 use lib.Ieee.{ofBits}
 use Rattle.profile.proofs.alpha_from_box.Statement.{statement}

@@ -1,4 +1,4 @@
--- `bang_coast_bang` meets its contract. Assumes nothing.
+-- `bang_coast_bang` meets its contract: the two refusals are the definition's, in its order; past them `with_half` goes on from `acos`.
 use borrow.Author.Needs.{needs}
 use lib.Ieee.{ofBits, neg}
 use Rattle.profile.specs.Profiles.{bangCoastBang, withRelative}

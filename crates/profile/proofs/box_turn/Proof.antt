@@ -1,4 +1,4 @@
--- `box_turn` meets its contract. Assumes nothing.
+-- `box_turn` meets its contract: either case of the comparison is the definition's, with `abs` and `min` by their contracts.
 use borrow.Author.Needs.{needs}
 use lib.Ieee.{ofBits}
 use Rattle.profile.specs.Profiles.{boxTurn}

@@ -1,4 +1,4 @@
--- `coasting` meets its contract. Assumes nothing.
+-- `coasting` meets its contract: not finite, below 0, else the switch times: the definition's tests in its order.
 use borrow.Author.Needs.{needs}
 use lib.Ieee.{ofBits}
 use Rattle.profile.specs.Profiles.{coasting}

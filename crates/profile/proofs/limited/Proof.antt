@@ -1,4 +1,4 @@
--- `limited` meets its contract. Assumes nothing.
+-- `limited` meets its contract: two refusals of the limit, then no coast or `coasting`: the definition's tests in its order.
 use borrow.Author.Needs.{needs}
 use lib.Ieee.{ofBits}
 use Rattle.profile.specs.Profiles.{limited}

@@ -1,4 +1,4 @@
--- `node_time` meets its contract. Assumes nothing.
+-- `node_time` meets its contract: an index below 17 is cast without loss, and the operations are the definition's.
 use borrow.Author.Needs.{needs}
 use lib.Ieee.{ofBits}
 use Rattle.profile.specs.Seeds.{nodeTime}

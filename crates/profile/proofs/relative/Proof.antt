@@ -1,4 +1,4 @@
--- `relative` meets its contract. Assumes nothing.
+-- `relative` meets its contract: the sign of `dot` decides whether qf or its negation is multiplied, as in the definition.
 use borrow.Author.Needs.{needs}
 use lib.Ieee.{ofBits}
 use Rattle.profile.specs.Profiles.{relative}

@@ -1,4 +1,4 @@
--- `sample_seed` meets its contract. Assumes nothing.
+-- `sample_seed` meets its contract: each part is its callee's: `seed_rates` and `seed_torques`.
 use borrow.Author.Needs.{needs}
 use Rattle.profile.proofs.sample_seed.Statement.{statement}
 use Rattle.profile.proofs.sample_seed.Tie as tie

@@ -1,4 +1,4 @@
--- `seed_torques` meets its contract. Assumes nothing.
+-- `seed_torques` meets its contract: the loop keeps that the first 3 i numbers are the torques of i nodes; `next-node` adds one.
 use Prim.Native.Nat.{_+_, _-_, _*_, _≤_}
 use mathlib.Core.Path.{_≡_}
 use native.Mathlib.Omega.{arith}

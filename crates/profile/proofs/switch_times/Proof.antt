@@ -1,4 +1,4 @@
--- `switch_times` meets its contract. Assumes nothing.
+-- `switch_times` meets its contract: with no slew limit there is no coast, with one `limited` answers, both from the root of `sqrt`.
 use borrow.Author.Needs.{needs}
 use Rattle.profile.specs.Profiles.{switchTimes}
 use Rattle.profile.proofs.switch_times.Statement.{statement}

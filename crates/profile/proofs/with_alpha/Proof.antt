@@ -1,4 +1,4 @@
--- `with_alpha` meets its contract. Assumes nothing.
+-- `with_alpha` meets its contract: the acceleration decides, as in the definition: a refusal, or `with_switches` with its times.
 use borrow.Author.Needs.{needs}
 use Rattle.profile.proofs.with_alpha.Statement.{statement}
 use Rattle.profile.proofs.with_alpha.Tie as tie

@@ -1,4 +1,4 @@
--- `with_half` meets its contract. Assumes nothing.
+-- `with_half` meets its contract: the half angle decides, as in the definition: a refusal, or `with_theta` with twice it.
 use borrow.Author.Needs.{needs}
 use lib.Ieee.{ofBits}
 use Rattle.profile.proofs.with_half.Statement.{statement}

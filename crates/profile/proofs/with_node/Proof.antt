@@ -1,4 +1,4 @@
--- `with_node` meets its contract. Assumes nothing.
+-- `with_node` meets its contract: `put-node` says that the three stores put w right behind the first 3 i numbers.
 use Prim.Native.Nat.{_*_}
 use mathlib.Core.Path.{_≡_}
 use native.Mathlib.Omega.{arith}

@@ -1,4 +1,4 @@
--- `with_switches` meets its contract. Assumes nothing.
+-- `with_switches` meets its contract: the switch times decide, as in the definition: their refusal, or the profile with its fields.
 use borrow.Author.Needs.{needs}
 use lib.Ieee.{ofBits}
 use Rattle.profile.proofs.with_switches.Statement.{statement}

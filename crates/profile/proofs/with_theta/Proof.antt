@@ -1,4 +1,4 @@
--- `with_theta` meets its contract. Assumes nothing.
+-- `with_theta` meets its contract: an angle not finite or not above 0 is refused, any other goes to `with_alpha`, as in the definition.
 use borrow.Author.Needs.{needs}
 use lib.Ieee.{ofBits}
 use Rattle.profile.specs.Profiles.{withTheta}

@@ -1,4 +1,4 @@
--- `reach_avoid::after` meets its contract. Assumes nothing.
+-- `reach_avoid::after` meets its contract: four tests against the ranges; inside, `after-in` says that the index is that of the new state.
 use Rattle.reach_avoid.specs.TableLaws.{after-in, after-out}
 use native.Mathlib.Omega.{arith}
 use borrow.Author.Needs.{needs}

@@ -1,4 +1,4 @@
--- `reach_avoid::answer_to` meets its contract. Assumes nothing.
+-- `reach_avoid::answer_to` meets its contract: the table holds the fewest turns up to 64, so its lowest reply is the definition's (`held-answer`).
 use Rattle.reach_avoid.specs.WholeLaws.{sub-fits, sub-back}
 use Rattle.reach_avoid.specs.Room.{room}
 use Rattle.reach_avoid.specs.RoomLaws.{reply-home, reply-with, reply-without}

@@ -1,4 +1,4 @@
--- `reach_avoid::begin` meets its contract. Assumes nothing.
+-- `reach_avoid::begin` meets its contract: the loop keeps that the entries before k are those before any turn, and the others 255.
 use Rattle.reach_avoid.specs.TableLaws.{Stored, stored-more}
 use Rattle.reach_avoid.specs.TableInner.{turnsAt}
 use lib.ListN.{length-replicate, getD-replicate}

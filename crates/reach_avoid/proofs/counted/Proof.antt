@@ -1,4 +1,4 @@
--- `reach_avoid::counted` meets its contract. Assumes nothing.
+-- `reach_avoid::counted` meets its contract: `test` makes a comparison of words one of whole numbers; inside, the difference fits by the premise.
 use Rattle.reach_avoid.specs.WholeLaws.{not-ltZ}
 use mathlib.Core.Bool.{Bool, true, not, _&&_, and-false}
 use mathlib.Core.Path.{_≡_, ap, _∙_}

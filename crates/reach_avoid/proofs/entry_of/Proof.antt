@@ -1,4 +1,4 @@
--- `reach_avoid::entry_of` meets its contract. Assumes nothing.
+-- `reach_avoid::entry_of` meets its contract: `counted-word` says that 255 means outside a range; else `start-of` says that x * 17 + y is the entry.
 use Rattle.reach_avoid.specs.WholeLaws.{Counted, counted-word, counted-fits}
 use Rattle.reach_avoid.specs.TableLaws.{start-of, start-out}
 use mathlib.Core.Logic.{inl, inr}

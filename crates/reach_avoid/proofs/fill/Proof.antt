@@ -1,4 +1,4 @@
--- `reach_avoid::fill` meets its contract. Assumes nothing.
+-- `reach_avoid::fill` meets its contract: the loop keeps that the table holds the fewest turns up to m, and `sweep` adds a turn.
 use Rattle.reach_avoid.specs.TableInner.{Holds}
 use mathlib.Core.Path.{_≡_, sym, subst}
 use Prim.Native.Nat.{_-_, _≤_}

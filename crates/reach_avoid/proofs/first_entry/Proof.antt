@@ -1,4 +1,4 @@
--- `reach_avoid::first_entry` meets its contract. Assumes nothing.
+-- `reach_avoid::first_entry` meets its contract: four comparisons, those of home counted from the corner: `first-out` outside, `first-in` inside.
 use Rattle.reach_avoid.specs.TableLaws.{first-in, first-out}
 use Prim.Native.Nat.{_/_, _%_}
 use native.Mathlib.Omega.{arith}

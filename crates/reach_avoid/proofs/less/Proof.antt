@@ -1,4 +1,4 @@
--- `reach_avoid::less` meets its contract. Assumes nothing.
+-- `reach_avoid::less` meets its contract: j up to 5 is the same number as an i64, and the difference fits by the premise.
 use Rattle.reach_avoid.specs.WholeLaws.{small}
 use mir.Facts.{toZ-ofZ}
 use borrow.Author.Needs.{needs}

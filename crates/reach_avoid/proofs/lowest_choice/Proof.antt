@@ -1,4 +1,4 @@
--- `reach_avoid::lowest_choice` meets its contract. Assumes nothing.
+-- `reach_avoid::lowest_choice` meets its contract: the loop keeps that no choice below i is sure; `least-found` and `least-end` are its two ends.
 use Rattle.reach_avoid.specs.LeastLaws.{least-found, least-end}
 use Rattle.reach_avoid.specs.Room.{spot}
 use Rattle.reach_avoid.specs.TableLaws.{sure}

@@ -1,4 +1,4 @@
--- `reach_avoid::next_entry` meets its contract. Assumes nothing.
+-- `reach_avoid::next_entry` meets its contract: an entry that is set stays (`stepped-old`); for any other the lowest choice decides (`stepped-new`).
 use Rattle.reach_avoid.specs.TableLaws.{stepped-old, stepped-new}
 use borrow.Author.Tests.{lt-ltb, le-ltb}
 use borrow.Author.Needs.{needs}

@@ -1,4 +1,4 @@
--- `reach_avoid::outcome` meets its contract. Assumes nothing.
+-- `reach_avoid::outcome` meets its contract: `tell` gives the definition's outcome of a start inside, and `tells` says that its promise holds.
 use Rattle.reach_avoid.specs.Game.{fewest}
 use Rattle.reach_avoid.specs.Room.{State, room, telling}
 use Rattle.reach_avoid.specs.RoomLaws.{outcome-out, outcome-in}

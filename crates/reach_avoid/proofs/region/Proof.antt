@@ -1,4 +1,4 @@
--- `reach_avoid::region` meets its contract. Assumes nothing.
+-- `reach_avoid::region` meets its contract: the table of `fill` is the definition's region (`region-right`).
 use Rattle.reach_avoid.specs.PromisesKept.{region-right}
 use borrow.Author.Needs.{needs}
 use Rattle.reach_avoid.proofs.region.Statement.{statement}

@@ -1,4 +1,4 @@
--- `reach_avoid::reply` meets its contract. Assumes nothing.
+-- `reach_avoid::reply` meets its contract: five ways out, each the definition's, and `replies` says that the promise holds of it.
 use Rattle.reach_avoid.specs.WholeLaws.{Counted, counted-word, counted-fits, is-one, sub-is}
 use Rattle.reach_avoid.specs.Room.{State, replying}
 use Rattle.reach_avoid.specs.RoomLaws.{reply-out, reply-in}

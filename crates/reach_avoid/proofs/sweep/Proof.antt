@@ -1,4 +1,4 @@
--- `reach_avoid::sweep` meets its contract. Assumes nothing.
+-- `reach_avoid::sweep` meets its contract: the loop keeps that the entries before k have one more turn; the mixed table steps alike (`stepped-is`).
 use Rattle.reach_avoid.specs.TableInner.{stepped, turnsAt}
 use Rattle.reach_avoid.specs.TableLaws.{Stored, stored-more, stepped-is}
 use mathlib.Core.Path.{ap, _∙_}

@@ -1,4 +1,4 @@
--- `reach_avoid::tell` meets its contract. Assumes nothing.
+-- `reach_avoid::tell` meets its contract: the entry is the fewest turns, and `held-choice` says that the table's lowest choice is the definition's.
 use Rattle.reach_avoid.specs.LeastLaws.{least-within}
 use Rattle.reach_avoid.specs.Game.{fewest}
 use Rattle.reach_avoid.specs.WholeLaws.{sub-fits, sub-back}

@@ -1,4 +1,4 @@
--- `samples::sample` meets its contract. Assumes nothing.
+-- `samples::sample` meets its contract: the count's answer and the index decide as in the definition; a count given is at most 100,000.
 use mathlib.Core.Path.{sym, _∙_}
 use borrow.Author.Needs.{needs}
 use Rattle.samples.specs.CountLaws.{given-count}

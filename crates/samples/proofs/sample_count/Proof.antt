@@ -1,4 +1,4 @@
--- `samples::sample_count` meets its contract. Assumes nothing.
+-- `samples::sample_count` meets its contract: four cases, a law for each; where `whole_above` is called the steps are in its range (`steps-most`).
 use mathlib.Core.Path.{refl}
 use native.Mathlib.Omega.{arith}
 use lib.Ieee.{ofBits}

@@ -1,4 +1,4 @@
--- `wheel_record::commit` meets its contract. Assumes nothing.
+-- `wheel_record::commit` meets its contract: the tests are the definition's, in its order, on the count of `leading_same`.
 use borrow.Author.Tests.{not-true, not-false, eq-eqb, ne-eqb}
 use borrow.Author.Needs.{needs}
 use Rattle.wheel_record.specs.Commits as Commits

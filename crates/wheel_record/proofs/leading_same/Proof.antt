@@ -1,4 +1,4 @@
--- `wheel_record::leading_same` meets its contract. Assumes nothing.
+-- `wheel_record::leading_same` meets its contract: the loop keeps that the first k wheels are the same; the first that is not ends it.
 use Prim.Native.Nat.{_-_, _≤_}
 use native.Mathlib.Omega.{arith}
 use mathlib.Core.Path.{_≡_}

@@ -1,4 +1,4 @@
--- `wheel_record::same_wheel` meets its contract. Assumes nothing.
+-- `wheel_record::same_wheel` meets its contract: two comparisons with the counts, then `same_bits`, as in the definition.
 use borrow.Author.Tests.{lt-ltb, le-ltb}
 use borrow.Author.Needs.{needs}
 use Rattle.wheel_record.specs.Commits.{sameWheel}

@@ -1,4 +1,4 @@
--- `whole_mosaic::check_rows` meets its contract. Assumes nothing.
+-- `whole_mosaic::check_rows` meets its contract: four comparisons in the definition's order, and a law for each of the five ways out.
 use Rattle.whole_mosaic.specs.Rooms.{short-counts, short-times, short-decisions, short-nodes, enough}
 use Rattle.whole_mosaic.proofs.check_rows.Statement.{statement}
 use Rattle.whole_mosaic.proofs.check_rows.Tie as tie

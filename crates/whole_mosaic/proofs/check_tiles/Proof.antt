@@ -1,4 +1,4 @@
--- `whole_mosaic::check_tiles` meets its contract. Assumes nothing.
+-- `whole_mosaic::check_tiles` meets its contract: the count is checked first; past it there are at least 2 tiles, so that 1 can be taken off.
 use mathlib.Core.Path.{_∙_, sym}
 use native.Mathlib.Omega.{arith}
 use Rattle.mosaic_laws.specs.Tiles.{count-least}

@@ -1,4 +1,4 @@
--- `whole_mosaic::plan_mosaic` meets its contract. Assumes nothing.
+-- `whole_mosaic::plan_mosaic` meets its contract: a refusal writes nothing (`filled-not`); else the lent rows have the room that `put_legs` asks for.
 use native.Mathlib.Omega.{arith}
 use Rattle.whole_mosaic.specs.Rooms.{lends, lends-tile, filled-not, filled-all}
 use borrow.Author.Needs.{needs}

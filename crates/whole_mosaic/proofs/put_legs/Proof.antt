@@ -1,4 +1,4 @@
--- `whole_mosaic::put_legs` meets its contract. Assumes nothing.
+-- `whole_mosaic::put_legs` meets its contract: the loop keeps that k legs are answered and their rows stand (`Filling`); a refused leg ends it.
 use Prim.Native.Nat.{_-_, _≤_}
 use mathlib.Core.Path.{_≡_, refl, ap, _∙_}
 use native.Mathlib.Omega.{arith}

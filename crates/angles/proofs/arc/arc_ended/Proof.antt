@@ -1,4 +1,4 @@
--- `angles::arc::arc_ended` meets its contract.
+-- `angles::arc::arc_ended` meets its contract: `whole-at` says that the cast gives the definition's whole number, at most 2^60; root and sum follow.
 use mathlib.Core.Path.{_≡_, sym, ap, _∙_, subst}
 use Prim.Native.Nat.{ℕ, _-_, _/_, _^_, _≤_}
 use lib.Dec.{T}

@@ -1,4 +1,4 @@
--- `angles::arc::arc_term` meets its contract.
+-- `angles::arc::arc_term` meets its contract: `term-at` says that the term and the next p are the definition's, `term-fits` that they have room.
 use mathlib.Core.Path.{sym, subst}
 use Prim.Native.Nat.{ℕ, _+_, _*_, _^_, _≤_}
 use native.Mathlib.Nat.{div-le-self}

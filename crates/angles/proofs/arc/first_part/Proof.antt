@@ -1,4 +1,4 @@
--- `angles::arc::first_part` meets its contract.
+-- `angles::arc::first_part` meets its contract: a root of 0 ends the series at once (`run-none`), any other goes on (`run-first`).
 use borrow.Author.Needs.{needs}
 use Rattle.angles.proofs.ArcTerms.{first-fits}
 use Rattle.angles.proofs.ArcEnds.{run-none, run-first}

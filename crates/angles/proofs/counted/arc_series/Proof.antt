@@ -1,4 +1,4 @@
--- `angles::counted::arc_series` meets its contract.
+-- `angles::counted::arc_series` meets its contract: the two comparisons are together the definition's test, and inside `arc_ended` answers.
 use mathlib.Core.Path.{_≡_, sym, ap, _∙_}
 use mathlib.Core.Bool.{Bool, true, false, cond}
 use lib.Ieee.{Float}

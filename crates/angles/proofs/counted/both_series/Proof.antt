@@ -1,4 +1,4 @@
--- `angles::counted::both_series` meets its contract, region by region.
+-- `angles::counted::both_series` meets its contract: region by region; inside, the rest of `reduced` has the ends that `both_sizes` answers.
 use mathlib.Core.Path.{sym, ap₂, _∙_}
 use borrow.Author.Needs.{needs}
 use Rattle.angles.specs.declared.series.Ended.{Ended}

@@ -1,4 +1,4 @@
--- `angles::counted::sine_series` meets its contract, region by region.
+-- `angles::counted::sine_series` meets its contract: region by region; inside, the rest of `reduced` has the end that `sine_size` answers.
 use mathlib.Core.Path.{sym, ap, _∙_}
 use borrow.Author.Needs.{needs}
 use Rattle.angles.specs.declared.Zone.the-variants as Zone

@@ -1,4 +1,4 @@
--- `angles::fixed::over_60` meets its contract.
+-- `angles::fixed::over_60` meets its contract: each half over 2^60 is a float exactly, so that only the sum rounds (`over-60-law`).
 use Rattle.angles.proofs.Rounding.{upper-in, lower-in, over-60-law}
 use Rattle.angles.proofs.fixed.over_60.Statement.{statement}
 use Rattle.angles.proofs.fixed.over_60.Tie as tie

@@ -1,4 +1,4 @@
--- `angles::fixed::to_float` meets its contract.
+-- `angles::fixed::to_float` meets its contract: three cases by sign and zero, a law for each; a zero stays positive.
 use Rattle.angles.proofs.Rounding.{float-zero, float-neg, float-pos}
 use borrow.Author.Needs.{needs}
 use Rattle.angles.proofs.fixed.to_float.Statement.{statement}

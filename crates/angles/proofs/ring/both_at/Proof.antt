@@ -1,4 +1,4 @@
--- `angles::ring::both_at` meets its contract.
+-- `angles::ring::both_at` meets its contract: `placed` says of q and of the next place that size and sign make the ring's number.
 use mathlib.Core.Path.{ap, _∙_}
 use mathlib.Core.Bool.{false}
 use borrow.Author.Needs.{needs}

@@ -1,4 +1,4 @@
--- `angles::ring::negative_at` meets its contract.
+-- `angles::ring::negative_at` meets its contract: the sign of the rest counts at an even place (`even-sign`), not at an odd one (`odd-sign`).
 use Rattle.angles.proofs.Places.{even-sign, odd-sign}
 use Rattle.angles.proofs.ring.negative_at.Statement.{statement}
 use Rattle.angles.proofs.ring.negative_at.Tie as tie

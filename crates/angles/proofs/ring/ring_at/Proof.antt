@@ -1,4 +1,4 @@
--- `angles::ring::ring_at` meets its contract.
+-- `angles::ring::ring_at` meets its contract: `placed` says that the size and the sign at place q make the ring's number.
 use borrow.Author.Needs.{needs}
 use Rattle.angles.proofs.Places.{placed}
 use Rattle.angles.proofs.ring.ring_at.Statement.{statement}

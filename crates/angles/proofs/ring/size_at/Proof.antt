@@ -1,4 +1,4 @@
--- `angles::ring::size_at` meets its contract.
+-- `angles::ring::size_at` meets its contract: an even place has the sine's sum (`even-size`), an odd one the cosine's (`odd-size`).
 use mathlib.Core.Path.{ap, _∙_}
 use mathlib.Core.Bool.{false}
 use borrow.Author.Needs.{needs}

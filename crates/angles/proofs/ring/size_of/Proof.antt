@@ -1,4 +1,4 @@
--- `angles::ring::size_of` meets its contract.
+-- `angles::ring::size_of` meets its contract: an even place has the sine's size (`even-size`), an odd one the cosine's (`odd-size`).
 use mathlib.Core.Path.{_∙_}
 use Rattle.angles.proofs.Places.{even-size, odd-size}
 use Rattle.angles.proofs.ring.size_of.Statement.{statement}

@@ -1,4 +1,4 @@
--- `angles::series::both_sizes` meets its contract: eight steps of each series.
+-- `angles::series::both_sizes` meets its contract: eight steps of each series, each from stage to stage; `sine-end` and `cosine-end` close them.
 use mathlib.Core.Path.{sym, subst}
 use Prim.Native.Nat.{_≤_}
 use lib.Dec.{lit≤}

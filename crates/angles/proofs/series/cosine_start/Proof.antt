@@ -1,4 +1,4 @@
--- `angles::series::cosine_start` meets its contract.
+-- `angles::series::cosine_start` meets its contract: the first stage is the definition's for every u, by computing.
 use mathlib.Core.Path.{refl}
 use Rattle.angles.specs.SizesInner.{termOf, sumOf}
 use Rattle.angles.specs.EndedInner.{countOf}

@@ -1,4 +1,4 @@
--- `angles::series::further` meets its contract.
+-- `angles::series::further` meets its contract: it is term j + 1 (`term-same`) and not zero (`some-above`), and the sum has room for it.
 use mathlib.Core.Path.{_≡_, sym, ap, subst}
 use Prim.Native.Nat.{ℕ, suc, _+_, _*_, _^_, _≤_, _<_}
 use native.Mathlib.Omega.{arith}

@@ -1,4 +1,4 @@
--- `angles::series::mul_shift` meets its contract.
+-- `angles::series::mul_shift` meets its contract: t times 16 u over 2^64 is t times u over 2^60 (`shift-16`).
 use mathlib.Core.Path.{_∙_}
 use Rattle.angles.proofs.Division.{shift-16}
 use borrow.Author.Needs.{needs}

@@ -1,4 +1,4 @@
--- `angles::series::next_term` meets its contract.
+-- `angles::series::next_term` meets its contract: two products and a division, as in the definition; `next-fits` gives `over` its room.
 use mathlib.Core.Path.{_∙_, ap, subst, sym}
 use Prim.Native.Nat.{ℕ, _*_, _/_, _^_, _<_}
 use borrow.Author.Needs.{needs}

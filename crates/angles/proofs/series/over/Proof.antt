@@ -1,4 +1,4 @@
--- `angles::series::over` meets its contract.
+-- `angles::series::over` meets its contract: `as-product` says that the product's upper word is the quotient while q * d is below 2^64.
 use mathlib.Core.Path.{_∙_}
 use native.Mathlib.Omega.{arith}
 use borrow.Author.Needs.{needs}

@@ -1,4 +1,4 @@
--- `angles::series::quick_term` meets its contract.
+-- `angles::series::quick_term` meets its contract: a lower word of at least `least` makes the upper word the term (`term-quick`), else `next_term`.
 use mathlib.Core.Path.{ap, _∙_, subst}
 use Prim.Native.Nat.{ℕ, _+_, _-_, _*_, _/_, _^_, _<_}
 use native.Mathlib.Omega.{arith}

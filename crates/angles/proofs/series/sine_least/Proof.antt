@@ -1,4 +1,4 @@
--- `angles::series::sine_least` meets its contract.
+-- `angles::series::sine_least` meets its contract: each arm is the definition's entry, and what no arm names is 7 (`seventh`).
 use mathlib.Core.Path.{sym, ap}
 use borrow.Author.Needs.{needs}
 use Rattle.angles.specs.EndedInner.{leastOf}

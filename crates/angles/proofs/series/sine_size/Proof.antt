@@ -1,4 +1,4 @@
--- `angles::series::sine_size` meets its contract: eight steps.
+-- `angles::series::sine_size` meets its contract: eight steps, each from a stage to the next; `sine-end` says that the last is the end.
 use mathlib.Core.Path.{sym, subst}
 use Prim.Native.Nat.{_≤_}
 use lib.Dec.{lit≤}

@@ -1,4 +1,4 @@
--- `angles::series::sine_start` meets its contract.
+-- `angles::series::sine_start` meets its contract: u is zero or not, and the count of the first stage says which.
 use mathlib.Core.Path.{sym, ap}
 use Prim.Native.Nat.{ℕ}
 use native.Mathlib.Omega.{arith}

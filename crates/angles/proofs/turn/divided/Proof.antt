@@ -1,4 +1,4 @@
--- `angles::turn::divided` meets its contract.
+-- `angles::turn::divided` meets its contract: the loop keeps that x * 2^i is k quarters and r, with r below a quarter.
 use mathlib.Core.Path.{_≡_, sym, ap, _∙_}
 use mathlib.Core.Logic.{⊎-elim}
 use Prim.Native.Nat.{ℕ, _+_, _-_, _*_, _^_, _<_, _≤_}

@@ -1,4 +1,4 @@
--- `angles::turn::magnitude` meets its contract.
+-- `angles::turn::magnitude` meets its contract: for either sign a law says that the size is in range and that it scales as x does.
 use Rattle.angles.proofs.Regions.{above, under-zero}
 use Rattle.angles.proofs.turn.magnitude.Statement.{statement}
 use Rattle.angles.proofs.turn.magnitude.Tie as tie

@@ -1,4 +1,4 @@
--- `angles::turn::place` meets its contract.
+-- `angles::turn::place` meets its contract: quarters and rest of `split` make up the size, and of them `nearest_turn` has its contract.
 use mathlib.Core.Path.{sym, subst}
 use Prim.Native.Nat.{ℕ}
 use borrow.Author.Needs.{needs}

@@ -1,4 +1,4 @@
--- `angles::turn::reduced` meets its contract.
+-- `angles::turn::reduced` meets its contract: `magnitude` gives the size, `place` its turn, and `mirrored` the argument's turn from both.
 use borrow.Author.Needs.{needs}
 use Rattle.angles.proofs.turn.reduced.Statement.{statement}
 use Rattle.angles.proofs.turn.reduced.Tie as tie

@@ -1,4 +1,4 @@
--- `angles::turn::split` meets its contract.
+-- `angles::turn::split` meets its contract: by the exponent the digits are cut (`cut-down`), shifted (`cut-up`), or shifted and doubled (`in-steps`).
 use mathlib.Core.Path.{sym, ap, _∙_, subst}
 use Prim.Native.Nat.{ℕ, _-_, _*_, _/_, _^_, _≤_}
 use native.Mathlib.Nat.{mul-one}

@@ -1,4 +1,4 @@
--- `drive_numbers::lists::drive_list` meets its contract. Assumes nothing.
+-- `drive_numbers::lists::drive_list` meets its contract: too many samples, too few rows, or the rows of `put_rows`: a law for each.
 use Rattle.drive_numbers.proofs.Listing.{lists-many, lists-short, lists-room}
 use borrow.Author.Needs.{needs}
 use Rattle.drive_numbers.proofs.lists.drive_list.Statement.{statement}

@@ -1,4 +1,4 @@
--- `drive_numbers::lists::put_rows` meets its contract. Assumes nothing.
+-- `drive_numbers::lists::put_rows` meets its contract: the loop keeps that k rows are put and the rest stays; a refused sample ends it (`goes-cut`).
 use Prim.Native.Nat.{_-_, _≤_}
 use mathlib.Core.Path.{_≡_, refl, _∙_}
 use native.Mathlib.Omega.{arith}

@@ -1,4 +1,4 @@
--- `elimination::columns::begin` meets its contract. Assumes nothing.
+-- `elimination::columns::begin` meets its contract: by `pivot-small` the pivot's test decides, and by `right-done` the right side is eliminated.
 use lib.Ieee.{ofBits, Float, binary64, lt}
 use mathlib.Core.Bool.{true, false, cond}
 use Rattle.wide.proofs.Patterns.{never}

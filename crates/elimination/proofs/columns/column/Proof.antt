@@ -1,4 +1,4 @@
--- `elimination::columns::column` meets its contract. Assumes nothing.
+-- `elimination::columns::column` meets its contract: `begin` leaves only the elimination in a, which `eliminate` does; a refused pivot ends it.
 use borrow.Author.Tests.{not-true, not-false}
 use mathlib.Core.Bool.{true, false}
 use Rattle.elimination.specs.Elimination as Elimination

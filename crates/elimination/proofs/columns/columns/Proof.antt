@@ -1,4 +1,4 @@
--- `elimination::columns::columns` meets its contract. Assumes nothing.
+-- `elimination::columns::columns` meets its contract: `begin` does column k but for the elimination in a, `finish` that and column k + 1.
 use borrow.Author.Tests.{not-true, not-false}
 use mathlib.Core.Bool.{true, false}
 use Rattle.elimination.specs.Elimination as Elimination

@@ -1,4 +1,4 @@
--- `elimination::columns::finish` meets its contract. Assumes nothing.
+-- `elimination::columns::finish` meets its contract: `two-done` says that both eliminations in one pass leave the rows of one after the other.
 use lib.Ieee.{Float}
 use mathlib.Core.Bool.{true, false}
 use Rattle.elimination.specs.TwoColumns.{pivot-found, right-done, pivot-line, two-done}

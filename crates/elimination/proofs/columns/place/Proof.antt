@@ -1,4 +1,4 @@
--- `elimination::columns::place` meets its contract. Assumes nothing.
+-- `elimination::columns::place` meets its contract: `place_rows` returns the pivot's number, and the right side is divided by that number.
 use Rattle.elimination.specs.Inner as Inner
 use Rattle.elimination.specs.Elimination as Elimination
 use Rattle.common.specs.Lists.{at}

@@ -1,4 +1,4 @@
--- `elimination::columns::scale_right` meets its contract. Assumes nothing.
+-- `elimination::columns::scale_right` meets its contract: `right-placed` says that the two stores are the swap, then the division.
 use Rattle.elimination.specs.EliminationLaws.{right-placed}
 use lib.ListN.{length-set}
 use native.Mathlib.Omega.{arith}

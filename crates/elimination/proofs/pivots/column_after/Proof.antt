@@ -1,4 +1,4 @@
--- `elimination::pivots::column_after` meets its contract. Assumes nothing.
+-- `elimination::pivots::column_after` meets its contract: the loop keeps each number before i eliminated, and number k is set last (`column-put`).
 use lib.Ieee.{binary64, sub, mul}
 use Rattle.common.specs.Iter.{row-end}
 use Rattle.elimination.specs.TwoColumns.{column-put}

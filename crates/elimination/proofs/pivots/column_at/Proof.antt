@@ -1,4 +1,4 @@
--- `elimination::pivots::column_at` meets its contract. Assumes nothing.
+-- `elimination::pivots::column_at` meets its contract: the loop keeps that each number before i is the one of its row in column k.
 use Rattle.common.specs.Iter.{row-end}
 use Rattle.normal_equations.specs.Rows.{cell-rows}
 use Rattle.normal_equations.specs.Filled.{Filled, filled-none, filled-set}

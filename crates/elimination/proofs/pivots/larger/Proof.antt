@@ -1,4 +1,4 @@
--- `elimination::pivots::larger` meets its contract. Assumes nothing.
+-- `elimination::pivots::larger` meets its contract: `positive` keeps the size of x, so the test compares what the definition compares.
 use Rattle.float.specs.Ops as Ops
 use lib.Ieee.{lt}
 use mathlib.Core.Bool.{true, false}

@@ -1,4 +1,4 @@
--- `elimination::pivots::pivot` meets its contract. Assumes nothing.
+-- `elimination::pivots::pivot` meets its contract: the loop keeps that best is the definition's choice among the rows up to k + t, with its size.
 use Rattle.float.specs.Ops as Ops
 use Rattle.elimination.specs.EliminationLaws.{choice, choice-within}
 use Rattle.elimination.specs.TwoColumns.{pivot-of}

@@ -1,4 +1,4 @@
--- `elimination::pivots::positive` meets its contract. Assumes nothing.
+-- `elimination::pivots::positive` meets its contract: `abs-neg` says that the negated number has the same size.
 use Rattle.elimination.specs.TwoColumns.{abs-neg}
 use mathlib.Core.Path.{refl}
 use Rattle.elimination.proofs.pivots.positive.Statement.{statement}

@@ -1,4 +1,4 @@
--- `elimination::rows::divide` meets its contract. Assumes nothing.
+-- `elimination::rows::divide` meets its contract: the loop keeps that the numbers from k to j are divided and the others unchanged.
 use lib.Ieee.{Float, binary64, div}
 use mathlib.Core.List.{List}
 use borrow.Author.Tests.{le-leb, lt-leb}

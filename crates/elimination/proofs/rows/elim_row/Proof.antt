@@ -1,4 +1,4 @@
--- `elimination::rows::elim_row` meets its contract. Assumes nothing.
+-- `elimination::rows::elim_row` meets its contract: row k stays; any other row is the part of a that `take_row` changes, and the rest stays.
 use mathlib.Core.Bool.{cond}
 use Rattle.elimination.specs.Elimination as Elimination
 use Rattle.normal_equations.specs.Rows.{row, length-row, at-row, row-same, row-other, part-row}

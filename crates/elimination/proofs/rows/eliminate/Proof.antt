@@ -1,4 +1,4 @@
--- `elimination::rows::eliminate` meets its contract. Assumes nothing.
+-- `elimination::rows::eliminate` meets its contract: the loop keeps that the rows before i are eliminated and the others unchanged; top is row k.
 use lib.ListN.{getD, length}
 use Rattle.elimination.specs.Elimination as Elimination
 use Rattle.common.specs.Iter.{row-end}

@@ -1,4 +1,4 @@
--- `elimination::rows::eliminate_two` meets its contract. Assumes nothing.
+-- `elimination::rows::eliminate_two` meets its contract: the loop keeps that the rows before i have had both eliminations and the others none.
 use Rattle.elimination.specs.Inner as Inner
 use Rattle.common.specs.Iter.{row-end}
 use Rattle.normal_equations.specs.Rows.{row}

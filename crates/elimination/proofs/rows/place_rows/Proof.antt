@@ -1,4 +1,4 @@
--- `elimination::rows::place_rows` meets its contract. Assumes nothing.
+-- `elimination::rows::place_rows` meets its contract: row k goes to p and the divided row p to k; `rows-placed` says that this is the definition's.
 use Rattle.elimination.specs.EliminationLaws.{rows-placed, swap-cell}
 use lib.Dec.{eqb}
 use mathlib.Core.Bool.{cond}

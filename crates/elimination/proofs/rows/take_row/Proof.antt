@@ -1,4 +1,4 @@
--- `elimination::rows::take_row` meets its contract. Assumes nothing.
+-- `elimination::rows::take_row` meets its contract: the loop keeps that the numbers from k to j are reduced and the others unchanged.
 use lib.Ieee.{Float, binary64, sub, mul}
 use mathlib.Core.List.{List}
 use borrow.Author.Tests.{le-leb, lt-leb}

@@ -1,4 +1,4 @@
--- `elimination::rows::take_two` meets its contract. Assumes nothing.
+-- `elimination::rows::take_two` meets its contract: the loop keeps k + 1 to j reduced by both rows; `two-put` says that this is one after the other.
 use lib.Ieee.{Float, binary64, sub, mul}
 use mathlib.Core.List.{List}
 use Rattle.elimination.specs.TwoColumns.{firstDone, two-put}

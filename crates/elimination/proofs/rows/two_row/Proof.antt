@@ -1,4 +1,4 @@
--- `elimination::rows::two_row` meets its contract. Assumes nothing.
+-- `elimination::rows::two_row` meets its contract: row k has one elimination, row k + 1 none, any other row the two of `take_two`.
 use Rattle.elimination.specs.Elimination as Elimination
 use Rattle.elimination.specs.Inner as Inner
 use Rattle.elimination.specs.TwoColumns.{two-first, two-second, two-rest}

@@ -1,4 +1,4 @@
--- `float::root::argument` meets its contract. Assumes nothing.
+-- `float::root::argument` meets its contract: each operation is the definition's, and `radicand-range` keeps the product in a word.
 use native.Mathlib.Omega.{arith}
 use Rattle.float.proofs.Settled.{radicand-range}
 use borrow.Author.Needs.{needs}

@@ -1,4 +1,4 @@
--- `float::root::guess` meets its contract. Assumes nothing.
+-- `float::root::guess` meets its contract: the larger of v and 1.0 is no NaN, so that its pattern can be taken; the remainder keeps the range.
 use mathlib.Core.Logic.{⊎-elim}
 use lib.Ieee.{isNan, ofBits}
 use Rattle.wide.proofs.Patterns.{above-no-nan}

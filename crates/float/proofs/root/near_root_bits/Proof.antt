@@ -1,4 +1,4 @@
--- `float::root::near_root_bits` meets its contract. Assumes nothing.
+-- `float::root::near_root_bits` meets its contract: `near-law` says that halfway between b and the pattern of 1 is the root's pattern.
 use native.Mathlib.Omega.{arith}
 use borrow.Author.Needs.{needs}
 use Rattle.float.proofs.Near.{near-law}

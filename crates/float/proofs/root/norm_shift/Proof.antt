@@ -1,4 +1,4 @@
--- `float::root::norm_shift` meets its contract. Assumes nothing.
+-- `float::root::norm_shift` meets its contract: `shift-ok` says that the leading zeros less 11 bring the top bit to bit 52.
 use Rattle.float.proofs.Shapes.{shift-ok}
 use Rattle.float.proofs.root.norm_shift.Statement.{statement}
 use Rattle.float.proofs.root.norm_shift.Tie as tie

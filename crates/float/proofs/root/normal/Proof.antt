@@ -1,4 +1,4 @@
--- `float::root::normal` meets its contract. Assumes nothing.
+-- `float::root::normal` meets its contract: a small number is shifted up first (`small-units`), a large one goes as it is (`large-squared`).
 use mathlib.Core.Path.{_≡_, refl, sym, subst}
 use Prim.Native.Nat.{ℕ, _+_, _-_, _*_, _/_, _%_, _^_, _<_}
 use native.Mathlib.Nat.{mod-eq-of-lt, lt-of-lt-of-le}

@@ -1,4 +1,4 @@
--- `float::root::rest` meets its contract. Assumes nothing.
+-- `float::root::rest` meets its contract: where the upper words agree, the difference of the lower ones is the whole rest (`rest-law`).
 use native.Mathlib.Omega.{arith}
 use mathlib.Core.Path.{sym, subst}
 use lib.Dec.{T, ltb→lt}

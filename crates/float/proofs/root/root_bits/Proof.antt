@@ -1,4 +1,4 @@
--- `float::root::root_bits` meets its contract. Assumes nothing.
+-- `float::root::root_bits` meets its contract: `root-bits-law` puts the square of `normal` and the digits of `root_digits` together.
 use Rattle.float.proofs.Cases.{root-bits-law}
 use native.Mathlib.Omega.{arith}
 use borrow.Author.Needs.{needs}

@@ -1,4 +1,4 @@
--- `float::root::root_digits` meets its contract. Assumes nothing.
+-- `float::root::root_digits` meets its contract: a near guess is settled, any other goes to `slow_root`; `digits-range` bounds both.
 use native.Mathlib.Omega.{arith}
 use Rattle.float.proofs.Settled.{radicand-range, digits-range}
 use borrow.Author.Needs.{needs}

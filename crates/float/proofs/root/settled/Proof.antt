@@ -1,4 +1,4 @@
--- `float::root::settled` meets its contract. Assumes nothing.
+-- `float::root::settled` meets its contract: d tells whether the root is s - 1, s or s + 1 (`one-less`, `itself`, `one-more`).
 use mathlib.Core.Path.{ap, _∙_}
 use Prim.Native.Nat.{ℕ, _+_}
 use mathlib.Core.Logic.{⊎-elim}

@@ -1,4 +1,4 @@
--- `float::root::slow_root` meets its contract. Assumes nothing.
+-- `float::root::slow_root` meets its contract: `isqrt` rounds down, and the test of (2q + 1)^2 tells which is nearer (`slow-down`, `slow-up`).
 use Rattle.wide.proofs.Products.{is-above, not-above}
 use Rattle.float.proofs.Shapes.{words54}
 use Rattle.float.proofs.Settled.{whole-root, slow-down, slow-up}

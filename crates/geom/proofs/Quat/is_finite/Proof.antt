@@ -1,4 +1,4 @@
--- `Quat::is_finite` meets its contract. Assumes nothing.
+-- `Quat::is_finite` meets its contract: four tests in order; the first that fails decides, as in the definition's conjunction.
 use borrow.Author.Needs.{needs}
 use Rattle.geom.specs.Tests.{met, unmet}
 use Rattle.geom.proofs.Quat.is_finite.Statement.{statement}

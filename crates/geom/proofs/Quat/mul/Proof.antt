@@ -1,4 +1,4 @@
--- `Quat::mul` is Hamilton's product. Assumes nothing.
+-- `Quat::mul` is Hamilton's product: each part's products and sums stand in the definition's order.
 use mathlib.Core.Path.{refl}
 use Rattle.geom.specs.Quats.{quatMul}
 use Rattle.geom.proofs.Quat.mul.Statement.{statement}

@@ -1,4 +1,4 @@
--- `Quat::norm` meets its contract. Assumes nothing.
+-- `Quat::norm` meets its contract: the root of `dot` with itself, since `sqrt_near_one` has the same contract as `sqrt`.
 use borrow.Author.Needs.{needs}
 use Rattle.geom.specs.Quats.{normQ}
 use Rattle.geom.proofs.Quat.norm.Statement.{statement}

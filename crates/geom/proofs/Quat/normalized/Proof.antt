@@ -1,4 +1,4 @@
--- `Quat::normalized` meets its contract. Assumes nothing.
+-- `Quat::normalized` meets its contract: `is_finite` decides, as in the definition: no answer, or that of `normal_by` with the length.
 use borrow.Author.Needs.{needs}
 use Rattle.geom.specs.Quats.{normalized}
 use Rattle.geom.proofs.Quat.normalized.Statement.{statement}

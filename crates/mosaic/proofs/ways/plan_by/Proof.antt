@@ -1,4 +1,4 @@
--- `mosaic::ways::plan_by` meets its contract. Assumes nothing.
+-- `mosaic::ways::plan_by` meets its contract: `plan` or `plan_counted` answers, and a law for each way says that its contract is the way's.
 use Rattle.mosaic.specs.WayLaws.{search-is, search-answers, eigenaxis-is, eigenaxis-answers}
 use borrow.Author.Needs.{needs}
 use Rattle.mosaic.proofs.ways.plan_by.Statement.{statement}

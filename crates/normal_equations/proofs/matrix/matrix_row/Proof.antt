@@ -1,4 +1,4 @@
--- `normal_equations::matrix::matrix_row` meets its contract. Assumes nothing.
+-- `normal_equations::matrix::matrix_row` meets its contract: `sum_row` makes the sums from the diagonal on, as `put_sums` asks.
 use Rattle.normal_equations.specs.Inner as Inner
 use lib.Seq.{length-take-le}
 use lib.Ieee.{Float}

@@ -1,4 +1,4 @@
--- `normal_equations::matrix::matrix_rows` meets its contract. Assumes nothing.
+-- `normal_equations::matrix::matrix_rows` meets its contract: both rows are summed first; putting row c leaves the columns, so row c + 1's sums hold.
 use Rattle.normal_equations.specs.Inner as Inner
 use lib.Seq.{length-take-le}
 use lib.Ieee.{Float}

@@ -1,4 +1,4 @@
--- `normal_equations::matrix::mirror` meets its contract. Assumes nothing.
+-- `normal_equations::matrix::mirror` meets its contract: the loop keeps that the numbers before d are those of column c in the rows above.
 use Rattle.common.specs.Iter.{row-end}
 use Rattle.normal_equations.specs.Filled.{Filled, filled-none, filled-set}
 use Rattle.common.specs.Lists.{at}

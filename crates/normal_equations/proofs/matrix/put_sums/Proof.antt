@@ -1,4 +1,4 @@
--- `normal_equations::matrix::put_sums` meets its contract. Assumes nothing.
+-- `normal_equations::matrix::put_sums` meets its contract: by `row-mirrored` sums, mirrored part and damped diagonal are the row that is stored.
 use Rattle.normal_equations.specs.Inner as Inner
 use mathlib.Core.List.{_++_, List}
 use Rattle.normal_equations.specs.NormalLaws.{row-mirrored}

@@ -1,4 +1,4 @@
--- `normal_equations::rows::copy` meets its contract. Assumes nothing.
+-- `normal_equations::rows::copy` meets its contract: the loop keeps that the numbers before i are those of `from`, so that in the end all are.
 use lib.Ieee.{nan}
 use lib.Seq.{ext-getD}
 use Rattle.normal_equations.specs.Filled.{Filled, filled-none, filled-set}

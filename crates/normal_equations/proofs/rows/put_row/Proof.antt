@@ -1,4 +1,4 @@
--- `normal_equations::rows::put_row` meets its contract. Assumes nothing.
+-- `normal_equations::rows::put_row` meets its contract: the lent part is row c, which `copy` fills; every other row lies outside it.
 use Rattle.normal_equations.specs.Rows.{row-same, row-other}
 use lib.ListN.{length}
 use mathlib.Core.Path.{_≡_, ap, _∙_}

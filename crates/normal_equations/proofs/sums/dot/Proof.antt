@@ -1,4 +1,4 @@
--- `normal_equations::sums::dot` meets its contract. Assumes nothing.
+-- `normal_equations::sums::dot` meets its contract: the loop keeps that s is the definition's sum of the first i products.
 use Rattle.normal_equations.specs.Normal as Normal
 use Rattle.common.specs.Iter.{iter-none, iter-next}
 use lib.ListN.{length}

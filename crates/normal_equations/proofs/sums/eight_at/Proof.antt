@@ -1,4 +1,4 @@
--- `normal_equations::sums::eight_at` meets its contract. Assumes nothing.
+-- `normal_equations::sums::eight_at` meets its contract: `dot8` gives the eight sums, and `four-cells` says that the stores put four in each row.
 use Rattle.normal_equations.specs.NormalLaws.{four-cells}
 use lib.ListN.{length, length-set}
 use mathlib.Core.Path.{refl}

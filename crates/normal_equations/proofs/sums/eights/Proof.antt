@@ -1,4 +1,4 @@
--- `normal_equations::sums::eights` meets its contract. Assumes nothing.
+-- `normal_equations::sums::eights` meets its contract: the loop keeps that in both rows the cells from `from` to d are right, four more a turn.
 use Rattle.normal_equations.specs.Inner as Inner
 use native.Mathlib.Nat.{add-mul, mul-le-mul-right}
 use Rattle.normal_equations.specs.Filled.{Filled, filled-none, filled-join}

@@ -1,4 +1,4 @@
--- `normal_equations::sums::ones` meets its contract. Assumes nothing.
+-- `normal_equations::sums::ones` meets its contract: the loop keeps that the cells from `from` to d are the sums of p with their columns.
 use Rattle.normal_equations.specs.Inner as Inner
 use Rattle.normal_equations.specs.Normal as Normal
 use Rattle.common.specs.Iter.{row-end}

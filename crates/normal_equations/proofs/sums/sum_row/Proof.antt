@@ -1,4 +1,4 @@
--- `normal_equations::sums::sum_row` meets its contract. Assumes nothing.
+-- `normal_equations::sums::sum_row` meets its contract: the part of j that is lent is column c, so the cells of `ones` are its sums (`summed`).
 use Rattle.normal_equations.specs.NormalLaws.{part-length, summed}
 use Rattle.normal_equations.specs.Rows.{part-row}
 use Rattle.common.specs.Iter.{row-end}

@@ -1,4 +1,4 @@
--- `normal_equations::sums::sums` meets its contract. Assumes nothing.
+-- `normal_equations::sums::sums` meets its contract: by `filled-join` the cells of `eights` and the rest of `ones` are together the cells from c on.
 use Rattle.normal_equations.specs.Inner as Inner
 use Rattle.normal_equations.specs.NormalLaws.{part-length, summed}
 use native.Mathlib.Nat.{add-mul}

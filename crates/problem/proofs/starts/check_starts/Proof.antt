@@ -1,4 +1,4 @@
--- `problem::starts::check_starts` meets its contract. Assumes nothing.
+-- `problem::starts::check_starts` meets its contract: the count of `leading_starts` is compared with both counts, in the definition's order.
 use borrow.Author.Tests.{eq-eqb, ne-eqb}
 use borrow.Author.Needs.{needs}
 use Rattle.problem.specs.Starts.{checkStarts}

@@ -1,4 +1,4 @@
--- `problem::starts::leading_starts` meets its contract. Assumes nothing.
+-- `problem::starts::leading_starts` meets its contract: the loop keeps that the first k starts fit; the first that does not ends it.
 use Prim.Native.Nat.{_-_, _≤_}
 use native.Mathlib.Omega.{arith}
 use mathlib.Core.Path.{_≡_}

@@ -1,4 +1,4 @@
--- `problem::starts::place_start` meets its contract. Assumes nothing.
+-- `problem::starts::place_start` meets its contract: either case of the comparison is the definition's.
 use lib.Ieee as Ieee
 use borrow.Author.Tests.{lt-ltb, le-ltb}
 use Rattle.problem.proofs.starts.place_start.Statement.{statement}

@@ -1,4 +1,4 @@
--- `problem::starts::placed` meets its contract. Assumes nothing.
+-- `problem::starts::placed` meets its contract: each of the eight numbers is that of `place_start`, in order.
 use borrow.Author.Needs.{needs}
 use Rattle.problem.specs.Starts as Starts
 use Rattle.problem.proofs.starts.placed.Statement.{statement}

@@ -1,4 +1,4 @@
--- `problem::starts::start_fits` meets its contract. Assumes nothing.
+-- `problem::starts::start_fits` meets its contract: `is_finite` decides first, then the comparison of the size with the limit.
 use borrow.Author.Needs.{needs}
 use Rattle.problem.proofs.starts.start_fits.Statement.{statement}
 use Rattle.problem.proofs.starts.start_fits.Tie as tie

@@ -1,4 +1,4 @@
--- `problem::starts::wheel_starts` meets its contract. Assumes nothing.
+-- `problem::starts::wheel_starts` meets its contract: two comparisons with the counts, then `start_fits`, as in the definition.
 use mathlib.Core.Path.{_≡_, refl}
 use mathlib.Core.Bool.{Bool, true, false, _&&_}
 use borrow.Author.Tests.{lt-ltb, le-ltb}

@@ -1,4 +1,4 @@
--- `Profile::angle` meets its contract. Assumes nothing.
+-- `Profile::angle` meets its contract: two comparisons in the definition's order, and in each case its formula.
 use lib.Ieee.{ofBits}
 use Rattle.profile.specs.Profiles.{angle}
 use Rattle.profile.proofs.Profile.angle.Statement.{statement}

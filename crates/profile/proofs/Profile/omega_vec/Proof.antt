@@ -1,4 +1,4 @@
--- `Profile::omega_vec` meets its contract. Assumes nothing.
+-- `Profile::omega_vec` meets its contract: the axis scaled by `rate`, as in the definition.
 use borrow.Author.Needs.{needs}
 use Rattle.profile.proofs.Profile.omega_vec.Statement.{statement}
 use Rattle.profile.proofs.Profile.omega_vec.Tie as tie

@@ -1,4 +1,4 @@
--- `Profile::quaternion` meets its contract. Assumes nothing.
+-- `Profile::quaternion` meets its contract: the answer of `sin_cos` decides; `at-once` says that it is the definition's sine and cosine.
 use borrow.Author.Needs.{needs}
 use lib.Ieee.{ofBits}
 use Rattle.geom.specs.HalvesLaws.{at-once}

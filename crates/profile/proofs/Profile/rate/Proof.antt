@@ -1,4 +1,4 @@
--- `Profile::rate` meets its contract. Assumes nothing.
+-- `Profile::rate` meets its contract: two comparisons in the definition's order, and in each case its formula.
 use Rattle.profile.specs.Profiles.{rate}
 use Rattle.profile.proofs.Profile.rate.Statement.{statement}
 use Rattle.profile.proofs.Profile.rate.Tie as tie

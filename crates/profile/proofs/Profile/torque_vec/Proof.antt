@@ -1,4 +1,4 @@
--- `Profile::torque_vec` meets its contract. Assumes nothing.
+-- `Profile::torque_vec` meets its contract: `body_euler_torque` of the definition's tensor, acceleration and rate.
 use borrow.Author.Needs.{needs}
 use lib.Ieee.{ofBits}
 use Rattle.profile.specs.Profiles.{torqueVec}

@@ -1,4 +1,4 @@
--- `samples::counts::spacing` meets its contract. Assumes nothing.
+-- `samples::counts::spacing` meets its contract: each operation is the definition's, in its order, with the contract of `max`.
 use lib.Ieee.{ofBits}
 use Rattle.samples.specs.Counts.{spacing}
 use borrow.Author.Needs.{needs}

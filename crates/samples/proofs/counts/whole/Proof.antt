@@ -1,4 +1,4 @@
--- `samples::counts::whole` meets its contract. Assumes nothing.
+-- `samples::counts::whole` meets its contract: as an i64 it is the same number, and up to 2^53 the cast to a float loses nothing.
 use Prim.Native.Nat.{_^_}
 use native.Mathlib.Omega.{arith}
 use lib.Dec.{le→leb}

@@ -1,4 +1,4 @@
--- `samples::counts::whole_above` meets its contract. Assumes nothing.
+-- `samples::counts::whole_above` meets its contract: x cut to a whole number is its ceiling or one less, and the comparison tells which.
 use native.Mathlib.Omega.{arith}
 use mathlib.Core.Path.{_∙_}
 use borrow.Author.Needs.{needs}

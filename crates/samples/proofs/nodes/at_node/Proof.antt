@@ -1,4 +1,4 @@
--- `samples::nodes::at_node` meets its contract. Assumes nothing.
+-- `samples::nodes::at_node` meets its contract: each field is the node's own, by the contracts of the four readers.
 use Rattle.samples.specs.Samples.{atNode}
 use borrow.Author.Needs.{needs}
 use Rattle.samples.proofs.nodes.at_node.Statement.{statement}

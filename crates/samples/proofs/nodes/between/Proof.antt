@@ -1,4 +1,4 @@
--- `samples::nodes::between` meets its contract. Assumes nothing.
+-- `samples::nodes::between` meets its contract: each call's value is the definition's, in its order; `between-is` puts them together.
 use Rattle.samples.specs.SampleLaws.{between-is}
 use mathlib.Core.Path.{_∙_}
 use borrow.Author.Needs.{needs}

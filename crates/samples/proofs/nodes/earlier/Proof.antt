@@ -1,4 +1,4 @@
--- `samples::nodes::earlier` meets its contract: after i turns the walk stands at node i. Assumes nothing.
+-- `samples::nodes::earlier` meets its contract: after i turns the walk stands at node i, and it stops where node i + 1 is not before t.
 use Prim.Native.Nat.{_≤_, _-_}
 use mathlib.Core.Path.{_≡_, refl}
 use native.Mathlib.Omega.{arith}

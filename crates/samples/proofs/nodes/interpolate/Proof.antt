@@ -1,4 +1,4 @@
--- `samples::nodes::interpolate` meets its contract. Assumes nothing.
+-- `samples::nodes::interpolate` meets its contract: the end tests are the definition's; past them the last node is not before t, as `earlier` asks.
 use mathlib.Core.Path.{_∙_}
 use borrow.Author.Needs.{needs}
 use Rattle.samples.specs.SampleLaws.{not-below, at-first, at-last, amid}

@@ -1,4 +1,4 @@
--- `samples::nodes::mean` meets its contract. Assumes nothing.
+-- `samples::nodes::mean` meets its contract: two scalings and a sum, as in the definition.
 use lib.Ieee.{ofBits}
 use Rattle.samples.specs.Samples.{mean}
 use borrow.Author.Needs.{needs}

@@ -1,4 +1,4 @@
--- `samples::nodes::rate_change` meets its contract. Assumes nothing.
+-- `samples::nodes::rate_change` meets its contract: the difference, scaled, as in the definition.
 use lib.Ieee.{ofBits}
 use Rattle.samples.specs.Samples.{rateChange}
 use borrow.Author.Needs.{needs}

@@ -1,4 +1,4 @@
--- `samples::nodes::time_of` meets its contract. Assumes nothing.
+-- `samples::nodes::time_of` meets its contract: each operation is the definition's, on the exact counts of `whole`.
 use lib.Ieee.{ofBits}
 use borrow.Author.Needs.{needs}
 use Rattle.samples.specs.Samples.{timeOf}

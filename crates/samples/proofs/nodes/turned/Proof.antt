@@ -1,4 +1,4 @@
--- `samples::nodes::turned` meets its contract. Assumes nothing.
+-- `samples::nodes::turned` meets its contract: the refusals of `exp_so3` and `normalized` are the definition's, else the turned attitude.
 use Rattle.samples.specs.Samples.{turned}
 use borrow.Author.Needs.{needs}
 use Rattle.samples.proofs.nodes.turned.Statement.{statement}

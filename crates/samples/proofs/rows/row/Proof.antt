@@ -1,4 +1,4 @@
--- `samples::rows::row` meets its contract. Assumes nothing.
+-- `samples::rows::row` meets its contract: each of the 22 numbers is read where the definition reads it.
 use Rattle.samples.specs.Rows.{row}
 use borrow.Author.Needs.{needs}
 use Rattle.samples.proofs.rows.row.Statement.{statement}

@@ -1,4 +1,4 @@
--- `samples::rows::rows` meets its contract. Assumes nothing.
+-- `samples::rows::rows` meets its contract: the loop keeps that the rows are the definition's after k turns, each by `row`.
 use Prim.Native.Nat.{_≤_, _-_}
 use mathlib.Core.Path.{_≡_}
 use native.Mathlib.Omega.{arith}

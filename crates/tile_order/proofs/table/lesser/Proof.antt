@@ -1,4 +1,4 @@
--- `tile_order::table::lesser` meets its contract, by the tests on the way. Assumes nothing.
+-- `tile_order::table::lesser` meets its contract: the diagonal leaves m, and any other time is compared with it: the definition's minimum.
 use native.Mathlib.Omega.{arith}
 use borrow.Author.Needs.{needs}
 use borrow.Author.Tests.{eq-eqb, ne-eqb}

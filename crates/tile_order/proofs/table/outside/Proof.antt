@@ -1,4 +1,4 @@
--- `tile_order::table::outside` meets its contract, by the tests on the way. Assumes nothing.
+-- `tile_order::table::outside` meets its contract: the diagonal, a time of 0, a time too long: the definition's tests in its order.
 use Rattle.tile_order.specs.Tables.{longest}
 use mathlib.Core.Path.{ap, sym, _∙_}
 use borrow.Author.Needs.{needs}

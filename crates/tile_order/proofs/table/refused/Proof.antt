@@ -1,4 +1,4 @@
--- `tile_order::table::refused` meets its contract, by the tests on the way. Assumes nothing.
+-- `tile_order::table::refused` meets its contract: the tests are the definition's, in its order; with at most 10 tiles n * n fits a word.
 use Prim.Native.Nat.{_≤_}
 use native.Mathlib.Nat.{mul-le-mul}
 use native.Mathlib.Omega.{arith}

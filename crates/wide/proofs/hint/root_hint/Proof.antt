@@ -1,4 +1,4 @@
--- `wide::hint::root_hint` meets its contract. Assumes nothing.
+-- `wide::hint::root_hint` meets its contract: it has only to be safe: both patterns are below a NaN's, and the difference is not below 0.
 use native.Mathlib.Omega.{arith}
 use Rattle.wide.proofs.Patterns.{no-nan-bits}
 use borrow.Author.Needs.{needs}

@@ -1,4 +1,4 @@
--- `wide::isqrt::digit` meets its contract. Assumes nothing.
+-- `wide::isqrt::digit` meets its contract: `above` decides, as in the definition, and s + b fits a word by the premise.
 use borrow.Author.Needs.{needs}
 use Rattle.wide.proofs.isqrt.digit.Statement.{statement}
 use Rattle.wide.proofs.isqrt.digit.Tie as tie

@@ -1,4 +1,4 @@
--- `wide::isqrt::hint` meets its contract. Assumes nothing.
+-- `wide::isqrt::hint` meets its contract: it has only to be safe: above 0 there is no NaN, so a pattern, which is tested for `root_hint`.
 use Rattle.wide.proofs.Patterns.{above-no-nan}
 use borrow.Author.Needs.{needs}
 use Rattle.wide.proofs.isqrt.hint.Statement.{statement}

@@ -1,4 +1,4 @@
--- `wide::isqrt::is_root` meets its contract. Assumes nothing.
+-- `wide::isqrt::is_root` meets its contract: s * s is not above and (s + 1)^2 is, so s is the root (`between`); the largest word by `top-root`.
 use mathlib.Core.Path.{sym, subst}
 use lib.Dec.{T}
 use Rattle.wide.proofs.Digits.{between, top-root}

@@ -1,4 +1,4 @@
--- `wide::isqrt::isqrt` meets its contract. Assumes nothing.
+-- `wide::isqrt::isqrt` meets its contract: whatever the guess, a root is answered only where `is_root` holds, and else that of `by_digits`.
 use borrow.Author.Needs.{needs}
 use Rattle.wide.proofs.isqrt.isqrt.Statement.{statement}
 use Rattle.wide.proofs.isqrt.isqrt.Tie as tie

@@ -1,4 +1,4 @@
--- `wide::isqrt::word` meets its contract. Assumes nothing.
+-- `wide::isqrt::word` meets its contract: it has only to be safe: the cast is reached only above -1 and below 2^64, where it is allowed.
 use mathlib.Core.Path.{sym, subst}
 use lib.Dec.{T}
 use lib.Ieee.{ofBits, neg}

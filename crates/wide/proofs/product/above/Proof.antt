@@ -1,4 +1,4 @@
--- `wide::product::above` meets its contract. Assumes nothing.
+-- `wide::product::above` meets its contract: where the upper words are equal the lower ones decide (`same-high`), else the upper ones (`other-high`).
 use native.Mathlib.Omega.{arith}
 use Prim.Native.Nat.{_*_, _%_, _^_}
 use Rattle.wide.proofs.Products.{same-high, other-high}

@@ -1,4 +1,4 @@
--- `wide::product::high_product` meets its contract, by the four products of the halves. Assumes nothing.
+-- `wide::product::high_product` meets its contract: the products of the halves fit (`halves`), and `word-mul` says what they sum to.
 use native.Mathlib.Omega.{arith}
 use Rattle.wide.proofs.Products.{halves, word-mul}
 use Rattle.wide.proofs.product.high_product.Statement.{statement}

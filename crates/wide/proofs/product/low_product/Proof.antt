@@ -1,4 +1,4 @@
--- `wide::product::low_product` meets its contract. Assumes nothing.
+-- `wide::product::low_product` meets its contract: `word-mul` says what the products of the halves sum to, and what wraps is a multiple of 2^64.
 use native.Mathlib.Omega.{arith}
 use Rattle.wide.proofs.Products.{halves, word-mul}
 use borrow.Author.Needs.{needs}

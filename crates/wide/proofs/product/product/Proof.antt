@@ -1,4 +1,4 @@
--- `wide::product::product` meets its contract. Assumes nothing.
+-- `wide::product::product` meets its contract: u * v over 2^64 and its remainder are together u * v.
 use native.Mathlib.Omega.{arith}
 use borrow.Author.Needs.{needs}
 use Rattle.wide.proofs.product.product.Statement.{statement}
