@@ -150,7 +150,7 @@ module _ (f : Format) (a b c p q : ℕ) (C : 0 < c) (h : a * 2 ^ low f ≡ p * c
       r3 : (s : Bool) → round f s (a - b) c ≡ round f s (p - q) (2 ^ low f)
       r3 s = round-same f s (a - b) c (p - q) (2 ^ low f) C L (sub-frac b a c q p (2 ^ low f) k h)
 
-add-units : (f : Format) (s : Bool) (m : ℕ) (e : ℤ) (t : Bool) (n : ℕ) (d : ℤ) → T (fits f (fin s m e)) → T (fits f (fin t n d))
+pub add-units : (f : Format) (s : Bool) (m : ℕ) (e : ℤ) (t : Bool) (n : ℕ) (d : ℤ) → T (fits f (fin s m e)) → T (fits f (fin t n d))
     → add f (fin s m e) (fin t n d) ≡ sum f s (mag f (fin s m e)) t (mag f (fin t n d)) (2 ^ low f)
 unfolding add
 add-units f s m e t n d g h =

@@ -15,44 +15,44 @@ use Rattle.common.specs.declared.Fate.the-variants.{Going, Refused}
 use Rattle.problem.specs.declared.CheckedProblem.{CheckedProblem}
 use Rattle.residuals.specs.Residuals.{residualsOf}
 use Rattle.residuals.specs.declared.ResidualVector.{ResidualVector}
-use Rattle.normal_equations.specs.Tab.{tab, tab-same}
 use Rattle.normal_equations.specs.Normal.{line, slopes}
-use Rattle.normal_equations.specs.Rows.{row, rows, rows-more, row-take}
-use Rattle.normal_equations.specs.Placed.{ColumnPut}
+use Rattle.normal_equations.specs.Rows.{row, row-take}
+use Rattle.kept_rows.specs.Kept.{kept, scatter, columns}
+use Rattle.kept_rows.specs.KeptLaws.{columns-none, columns-more, columns-same}
 use Rattle.scvx.specs.Search.{numbers, width, nudged, Columns, Formed, Broken, columnBy, columnOf, columnTurn, jacobian}
-use Rattle.scvx.specs.Stands.{ColumnLeft, SameFrom}
+use Rattle.scvx.specs.Stands.{ColumnStands, ColumnLeft, SameFrom, columnsIn}
 
 module _ (p : CheckedProblem) (m : ℕ) (z r0 : List Float) where
-  -- v holds the first c columns, one after the other
+  -- v holds the kept rows of the first c columns, one after the other
   abbrev pub Front : ℕ → List Float → Type 0
-  Front c v = iter (columnTurn p m z r0) (Formed []) c ≡ Formed (rows c m v)
+  Front c v = iter (columnTurn p m z r0) (Formed []) c ≡ Formed (columns c m v)
 
   pub front-none : (v : List Float) → Front 0 v
-  unfolding iter tab
-  front-none v = refl
+  unfolding iter
+  front-none v = ap Formed (columns-none m v)
 
   module _ (c : ℕ) (v : List Float) (front : Front c v) where
     abbrev e : ResidualVector
     e = residualsOf p (nudged p z c)
 
-    by-run : {j : Columns} → j ≡ columnOf m r0 c (rows c m v) e → j ≡ iter (columnTurn p m z r0) (Formed []) (c + 1)
+    by-run : {j : Columns} → j ≡ columnOf m r0 c (columns c m v) e → j ≡ iter (columnTurn p m z r0) (Formed []) (c + 1)
     by-run g = iter-next (columnTurn p m z r0) (Formed []) c (sym front) g
 
     -- one column more
     pub front-next : (u : List Float) {f : Fate} → f ≡ e .fate → f ≡ Going → ColumnLeft f m c (slopes m (e .r) r0) v u → Front (c + 1) u
     front-next u fate f left =
-        let put : ColumnPut m c (slopes m (e .r) r0) v u = subst (λ (x : Fate). ColumnLeft x m c (slopes m (e .r) r0) v u) f left in
-        let same : rows c m u ≡ rows c m v = tab-same c (row m u) (row m v) (λ x l. put .others x (λ b. omega arith)) in
-        sym (by-run (ap Formed (rows-more c m u ∙ ap (λ l. l ++ (row m u c ∷ [])) same ∙ ap (λ x. rows c m v ++ (x ∷ [])) (put .own))
-        ∙ sym (ap (λ (x : Fate). columnBy m r0 c (rows c m v) x (e .r)) (sym fate ∙ f))))
+        let stands : ColumnStands m c (slopes m (e .r) r0) v u = subst (λ (x : Fate). ColumnLeft x m c (slopes m (e .r) r0) v u) f left in
+        let same : columns c m u ≡ columns c m v = columns-same c m u v (λ x l. stands .put .others x (λ b. omega arith)) in
+        sym (by-run (ap Formed (columns-more c m u ∙ ap (λ l. l ++ (scatter m (row (kept m) u c) ∷ [])) same ∙ ap (λ x. columns c m v ++ (x ∷ [])) (stands .whole))
+        ∙ sym (ap (λ (x : Fate). columnBy m r0 c (columns c m v) x (e .r)) (sym fate ∙ f))))
 
     -- either way as many numbers, and all past the column
     pub left-length : (u : List Float) (f : Fate) → ColumnLeft f m c (slopes m (e .r) r0) v u → length u ≡ length v
-    left-length u Going put = put .size
+    left-length u Going stands = stands .put .size
     left-length u (Refused number place) same = ap length same
 
-    pub left-past : (u : List Float) (f : Fate) → ColumnLeft f m c (slopes m (e .r) r0) v u → (end : ℕ) → c * m + m ≤ end → SameFrom end v u
-    left-past u Going put end h i l = put .outside i (inr (omega arith))
+    pub left-past : (u : List Float) (f : Fate) → ColumnLeft f m c (slopes m (e .r) r0) v u → (end : ℕ) → c * kept m + kept m ≤ end → SameFrom end v u
+    left-past u Going stands end h i l = stands .put .outside i (inr (omega arith))
     left-past u (Refused number place) same end h i l = ap (λ w. at w i) same
 
     -- a run that is refused ends the columns
@@ -61,15 +61,15 @@ module _ (p : CheckedProblem) (m : ℕ) (z r0 : List Float) where
     front-broken {number} {place} em h f =
         rw (← em)
         (sym (iter-stays (columnTurn p m z r0) (Formed []) (c + 1) (numbers p) (omega arith)
-        (by-run (sym (ap (λ (x : Fate). columnBy m r0 c (rows c m v) x (e .r)) f)))
+        (by-run (sym (ap (λ (x : Fate). columnBy m r0 c (columns c m v) x (e .r)) f)))
         (λ j. refl)))
 
   -- all of them: the Jacobian stands in the front of v
-  pub front-whole : (n : ℕ) (v : List Float) → n ≡ numbers p → m ≡ width p → n * m ≤ length v → Front n v → jacobian p z r0 ≡ Formed (rows n m (take (n * m) v))
+  pub front-whole : (n : ℕ) (v : List Float) → n ≡ numbers p → m ≡ width p → n * kept m ≤ length v → Front n v → jacobian p z r0 ≡ Formed (columnsIn n m v)
   unfolding jacobian
   front-whole n v en em room front =
       rw (← en, ← em)
-      (front ∙ ap Formed (tab-same n (row m v) (row m (take (n * m) v)) (λ i h. sym (row-take n m v i h room))))
+      (front ∙ ap Formed (columns-same n m v (take (n * kept m) v) (λ i h. sym (row-take n (kept m) v i h room))))
 
 -- ---- each column by itself: what the others are does not enter
 module _ (p : CheckedProblem) (m : ℕ) (z r0 : List Float) where

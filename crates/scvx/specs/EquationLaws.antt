@@ -1,6 +1,6 @@
 -- The chain from the search's definition to the normal equations that the code forms: they are the same, bit for bit. Assumes nothing.
 use Prim.Native.Nat.{ℕ, _*_, _<_}
-use mathlib.Core.Path.{_≡_, ap, _∙_}
+use mathlib.Core.Path.{_≡_, ap, sym, _∙_}
 use mathlib.Core.Bool.{cond}
 use mathlib.Core.List.{List}
 use lib.Dec.{eqb}
@@ -15,7 +15,10 @@ use Rattle.normal_equations.specs.Normal.{line, cell, slopes, dot}
 use Rattle.normal_equations.specs.NormalLaws.{normal-cell, right-sums}
 use Rattle.normal_equations.specs.Rows.{rows}
 use Rattle.normal_equations.specs.Placed.{Equations}
+use Rattle.kept_rows.specs.Kept.{kept, Gathered, Zeros}
+use Rattle.kept_rows.specs.KeptLaws.{matrix-kept, right-kept}
 use Rattle.scvx.specs.Search.{numbers, width, nudged, Formed, jacobian, normalMatrix, rightSide}
+use Rattle.scvx.specs.Stands.{columnsIn, width-laid}
 use Rattle.scvx.specs.ColumnLaws.{jacobian-each}
 
 -- a, by rows, and g are the normal equations that the search names at the decision z, whose residuals are r0
@@ -32,10 +35,12 @@ pub record SearchEquations (p : CheckedProblem) (z r0 : List Float) (lambda : Fl
       → cell a c d ≡ cond (eqb c d) (add binary64 (dot (width p) (line columns c) (line columns d)) lambda) (dot (width p) (line columns c) (line columns d))
   pub sides : (c : ℕ) → c < numbers p → at g c ≡ neg (dot (width p) (line columns c) r0)
 
--- THE CHAIN: with the columns of `jacobian p z r0` in the front of the workspace v, the matrix and the right side that `normal_equations::equations` forms are those that the search names
-pub formed-equations-are-the-searchs : (p : CheckedProblem) (z r0 v u g : List Float) (lambda : Float) {n m : ℕ} → n ≡ numbers p → m ≡ width p
-    → jacobian p z r0 ≡ Formed (rows n m (take (n * m) v)) → Equations n m v r0 lambda u g → SearchEquations p z r0 lambda (rows n n (drop (n * m) u)) g
-formed-equations-are-the-searchs p z r0 v u g lambda {n} {m} en em h q =
+-- THE CHAIN: with the kept rows of the columns of `jacobian p z r0` in the front of the workspace v, and those of the residuals r0 in x, the matrix and the right side that
+-- `normal_equations::equations` forms are those that the search names
+pub formed-equations-are-the-searchs : (p : CheckedProblem) (z r0 x v u g : List Float) (lambda : Float) {n m : ℕ} → n ≡ numbers p → m ≡ width p
+    → jacobian p z r0 ≡ Formed (columnsIn n m v) → Gathered m r0 x → Zeros m r0 → Equations n (kept m) v x lambda u g
+    → SearchEquations p z r0 lambda (rows n n (drop (n * kept m) u)) g
+formed-equations-are-the-searchs p z r0 x v u g lambda {n} {m} en em h k o q =
     record {
       columns = j;
       formed = h;
@@ -47,10 +52,10 @@ formed-equations-are-the-searchs p z r0 v u g lambda {n} {m} en em h q =
     }
   where
     j : List (List Float)
-    j = rows n m (take (n * m) v)
+    j = columnsIn n m v
 
-    same : rows n n (drop (n * m) u) ≡ normalMatrix p j lambda
-    same = q .matrix ∙ ap (λ k. Normal.normalMatrix k m j lambda) en ∙ ap (λ k. Normal.normalMatrix (numbers p) k j lambda) em
+    same : rows n n (drop (n * kept m) u) ≡ normalMatrix p j lambda
+    same = q .matrix ∙ sym (matrix-kept n m (take (n * kept m) v) (width-laid p em) lambda) ∙ ap (λ k. Normal.normalMatrix k m j lambda) en ∙ ap (λ k. Normal.normalMatrix (numbers p) k j lambda) em
 
     sides : g ≡ rightSide p j r0
-    sides = q .right ∙ ap (λ k. Normal.rightSide k m j r0) en ∙ ap (λ k. Normal.rightSide (numbers p) k j r0) em
+    sides = q .right ∙ sym (right-kept n m (take (n * kept m) v) (width-laid p em) r0 x k o) ∙ ap (λ k. Normal.rightSide k m j r0) en ∙ ap (λ k. Normal.rightSide (numbers p) k j r0) em

@@ -1,10 +1,12 @@
 -- What the code of the search keeps besides a state, the sizes it works with, and what holds of them. Definitions, and the sizes of a workspace that has room.
 use Prim.Native.Nat.{ℕ, _+_, _*_, _≤_}
 use mathlib.Core.Path.{_≡_, refl, ap, sym, subst, _∙_}
+use mathlib.Core.Logic.{inl, inr}
 use mathlib.Core.Bool.{Bool, true, false, cond}
 use mathlib.Core.List.{List}
 use native.Mathlib.Nat.{mul-add, mul-le-mul, le-refl}
 use native.Mathlib.Omega.{arith}
+use lib.ListN.{take}
 use lib.Ieee.{Float, lt}
 use Rattle.common.specs.Lists.{at}
 use Rattle.common.specs.declared.Fate.{Fate}
@@ -15,18 +17,23 @@ use Rattle.problem.specs.Problems.{plusZero}
 use Rattle.problem.specs.declared.CheckedProblem.{CheckedProblem}
 use Rattle.residuals.specs.Sums.{normSlice}
 use Rattle.residuals.specs.Residuals.{residualsOf}
+use Rattle.normal_equations.specs.Normal.{slopes}
+use Rattle.normal_equations.specs.Rows.{row}
 use Rattle.normal_equations.specs.Placed.{ColumnPut}
+use Rattle.kept_rows.specs.Kept.{Laid, kept, Gathered, Zeros, scatter, columns}
+use Rattle.kept_rows.specs.KeptLaws.{kept-most}
+use Rattle.kept_rows.specs.ZeroLaws.{residuals-zeros}
 use Rattle.scvx.specs.declared.Status.the-variants.{Going}
 use Rattle.scvx.specs.declared.Candidate.{Candidate}
 use Rattle.scvx.specs.declared.State.{State}
 use Rattle.scvx.specs.declared.Progress.{Progress}
 use Rattle.scvx.specs.declared.Slopes.{Slopes}
 use Rattle.scvx.specs.declared.Slopes.the-variants as Slopes
-use Rattle.scvx.specs.Search.{numbers, width, measured, room, Columns, Formed, Broken, jacobian, firstDamping}
+use Rattle.scvx.specs.Search.{numbers, width, nudged, measured, room, Columns, Formed, Broken, jacobian, firstDamping}
 
 -- ---- sizes
 
--- n numbers a decision and m residuals of a problem that runs may take, and a workspace of len numbers that holds the columns and the matrix
+-- n numbers a decision and m residuals of a problem that runs may take, and a workspace of len numbers that holds the columns' kept rows and the matrix
 pub record Sizes (p : CheckedProblem) (n m len : ℕ) : Type 0 where
   pub sized : isSized (p .map) ≡ true
   pub narrow : controlDim (p .map) ≤ 12
@@ -34,7 +41,7 @@ pub record Sizes (p : CheckedProblem) (n m len : ℕ) : Type 0 where
   pub m-is : m ≡ width p
   pub n-most : n ≤ 193
   pub m-most : m ≤ 79
-  pub fits : n * m + n * n ≤ len
+  pub fits : n * kept m + n * n ≤ len
 
 pub numbers-most : (p : CheckedProblem) → controlDim (p .map) ≤ 12 → numbers p ≤ 193
 unfolding numbers
@@ -47,6 +54,14 @@ width-most p = by (lt plusZero (p .weights .pointing))
     by : (b : Bool) → cond b 79 28 ≤ 79
     by true = omega arith
     by false = omega arith
+
+pub width-laid : (p : CheckedProblem) {m : ℕ} → m ≡ width p → Laid m
+unfolding width
+width-laid p e = rw e (by (lt plusZero (p .weights .pointing)))
+  where
+    by : (b : Bool) → Laid (cond b 79 28)
+    by true = inr refl
+    by false = inl refl
 
 pub spread : (n m : ℕ) → n * (n + m + 6) ≡ n * n + n * m + n * 6
 spread n m = mul-add n (n + m) 6 ∙ ap (λ x. x + n * 6) (mul-add n n m)
@@ -65,22 +80,35 @@ sizes-of p n m len s h en em r =
       m-is = em;
       n-most = omega (arith, numbers-most p h);
       m-most = omega (arith, width-most p);
-      fits = rw (en, em) (omega (arith, spread (numbers p) (width p)));
+      fits = omega (arith, mul-le-mul (le-refl n) (kept-most m (width-laid p em)), spread n m, rw (← en, ← em) at r);
     }
 
 -- of a workspace that is as long, and of the step's own numbers
 pub sizes-kept : {p : CheckedProblem} {n m a b : ℕ} → Sizes p n m a → b ≡ a → Sizes p n m b
 sizes-kept {p} {n} {m} s e = subst (λ k. Sizes p n m k) (sym e) s
 
-pub sizes-step : {p : CheckedProblem} {n m len : ℕ} (k : ℕ) → Sizes p n m len → k ≡ n → Sizes p k m (k * m + k * k)
-sizes-step {p} {n} {m} k s e = subst (λ x. Sizes p x m (x * m + x * x)) (sym e) (record { sized = s .sized; narrow = s .narrow; n-is = s .n-is; m-is = s .m-is; n-most = s .n-most; m-most = s .m-most; fits = le-refl (n * m + n * n) })
+pub sizes-step : {p : CheckedProblem} {n m len : ℕ} (k : ℕ) → Sizes p n m len → k ≡ n → Sizes p k m (k * kept m + k * k)
+sizes-step {p} {n} {m} k s e = subst (λ x. Sizes p x m (x * kept m + x * x)) (sym e) (record { sized = s .sized; narrow = s .narrow; n-is = s .n-is; m-is = s .m-is; n-most = s .n-most; m-most = s .m-most; fits = le-refl (n * kept m + n * n) })
 
 -- ---- what is kept
 
+-- the n columns of m numbers whose kept rows stand in the front of the workspace v
+abbrev pub columnsIn : ℕ → ℕ → List Float → List (List Float)
+columnsIn n m v = columns n m (take (n * kept m) v)
+
+-- column c of m numbers, which are x: its kept rows stand in u, and all else is as it was in v
+pub record ColumnStands (m c : ℕ) (x v u : List Float) : Type 0 where
+  pub put : ColumnPut (kept m) c (row (kept m) u c) v u
+  pub whole : scatter m (row (kept m) u c) ≡ x
+
 -- what column c of m numbers, which are x, leaves of the workspace v in u, by its run: a run that goes on changes the column alone, a refused one nothing
 abbrev pub ColumnLeft : Fate → ℕ → ℕ → List Float → List Float → List Float → Type 0
-ColumnLeft Fate.Going m c x v u = ColumnPut m c x v u
+ColumnLeft Fate.Going m c x v u = ColumnStands m c x v u
 ColumnLeft (Fate.Refused number place) m c x v u = u ≡ v
+
+-- the same of column c at the decision z: x has the kept rows of its residuals
+abbrev pub ColumnMade : CheckedProblem → ℕ → ℕ → List Float → List Float → Fate → List Float → List Float → Type 0
+ColumnMade p m c z x f v u = (r0 : List Float) → Gathered m r0 x → Zeros m r0 → ColumnLeft f m c (slopes m (residualsOf p (nudged p z c) .r) r0) v u
 
 -- from place e on, u is as v was
 abbrev pub SameFrom : ℕ → List Float → List Float → Type 0
@@ -121,6 +149,19 @@ start m seed r = record { state = record { candidate = measured seed r m; lambda
 
 pub known-of : {p : CheckedProblem} (c : Candidate) {e : ResidualVector} {m : ℕ} → e ≡ residualsOf p (c .z) → e .fate ≡ Fate.Going → m ≡ width p → c .residual ≡ normSlice (e .r) m → Known p c (e .r)
 known-of {p} c {e} q g em l = record { goes = rw (← q) g; are = rw (← q) refl; long = l ∙ ap (λ x. normSlice (e .r) x) em }
+
+-- a column whose kept rows were put
+pub column-stands : {m c : ℕ} {x y v u : List Float} → ColumnPut (kept m) c y v u → scatter m y ≡ x → ColumnStands m c x v u
+column-stands {m} {c} {x} {y} {v} {u} put whole =
+    record { put = subst (λ z. ColumnPut (kept m) c z v u) (sym (put .own)) put; whole = ap (scatter m) (put .own) ∙ whole }
+
+-- the rows left out are +0.0 in the residuals of a decision
+pub width-zeros : (p : CheckedProblem) (z : List Float) {m : ℕ} → m ≡ width p → Zeros m (residualsOf p z .r)
+unfolding width
+width-zeros p z e = rw e (residuals-zeros p z)
+
+pub known-zeros : {p : CheckedProblem} {c : Candidate} {r : List Float} {m : ℕ} → Known p c r → m ≡ width p → Zeros m r
+known-zeros {p} {c} k e = rw (← k .are) (width-zeros p (c .z) e)
 
 -- a decision that was let in: its columns are not there
 pub stands-new : {p : CheckedProblem} {c : Candidate} {r : List Float} {j : List (List Float)} → Known p c r → Standing p c r false j

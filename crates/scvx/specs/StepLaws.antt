@@ -17,12 +17,14 @@ use Rattle.residuals.specs.Residuals.{residualsOf}
 use Rattle.residuals.specs.declared.ResidualVector.{ResidualVector}
 use Rattle.normal_equations.specs.Rows.{rows}
 use Rattle.elimination.specs.Elimination.{Solution, told, dampedStep}
+use Rattle.kept_rows.specs.Kept.{Laid, kept, Gathered, Zeros}
+use Rattle.kept_rows.specs.KeptLaws.{matrix-kept, right-kept}
 use Rattle.scvx.specs.declared.Status.{Status}
 use Rattle.scvx.specs.declared.Status.the-variants.{Going, Ended, Refused}
 use Rattle.scvx.specs.declared.Candidate.{Candidate}
 use Rattle.scvx.specs.declared.State.{State}
 use Rattle.scvx.specs.Search.{numbers, width, Columns, Formed, Broken, jacobian, ran, ended, damped, moved, stiffer, weaker, stronger, judged, tried, steppedBy, stepped, linearBy, linear, goal, improved, goingBy, begun, going, turnBy, turn, statusOf, startOf, start, searched, none, lastBy, last, closedBy, closed, search}
-use Rattle.scvx.specs.Stands.{Standing}
+use Rattle.scvx.specs.Stands.{Standing, columnsIn}
 use Rattle.scvx.specs.Stands as Stands
 
 -- ---- the step of the equations, on a front of the workspace: w is the length of the lent right side
@@ -39,6 +41,12 @@ module _ (w n m : ℕ) (v : List Float) (e : w ≡ n) (fits : n * m + n * n ≤ 
       take-append-le (n * m) u (drop (n * m + n * n) v) (omega (arith, length-take-le (n * m + n * n) v fits))
       ∙ subst (λ k. take (k * m) u ≡ take (k * m) (take (n * m + n * n) v)) e h
       ∙ inside
+
+-- the step of the kept rows is that of all rows
+pub step-kept : (n m : ℕ) (v r x : List Float) (lambda : Float) → Laid m → Gathered m r x → Zeros m r
+    → dampedStep n (kept m) (rows n (kept m) (take (n * kept m) v)) x lambda ≡ dampedStep n m (columnsIn n m v) r lambda
+unfolding dampedStep
+step-kept n m v r x lambda l g z = rw (matrix-kept n m (take (n * kept m) v) l lambda, right-kept n m (take (n * kept m) v) l r x g z)
 
 module _ (p : CheckedProblem) (s : State) (n m : ℕ) (j : List (List Float)) (r : List Float) (en : n ≡ numbers p) (em : m ≡ width p) where
   by-told : (b : Bool) (d : List Float) → told b d ≡ dampedStep n m j r (s .lambda) → steppedBy p s (told b d) ≡ stepped p s j r

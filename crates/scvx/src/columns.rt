@@ -1,21 +1,22 @@
 // The Jacobian by columns, each a forward difference over one run. Carried over from `jacobian` of quatopsy-plan/src/scvx.rs (Apache-2.0), changed: the
-// columns stand one after the other in the front of the workspace.
+// kept rows of the columns stand one after the other in the front of the workspace.
 ghost use mathlib.Core.Path.{_≡_};
 ghost use mathlib.Core.Bool.{true};
 ghost use Prim.Native.Nat.{_+_, _*_, _≤_, _<_};
-ghost use lib.ListN.{length, take};
+ghost use lib.ListN.{length};
 ghost use Rattle.actuators.specs.Maps.{controlDim, isSized};
 ghost use Rattle.residuals.specs.Residuals.{residualsOf};
 ghost use Rattle.shared_runs.specs.Shared as Shared;
-ghost use Rattle.normal_equations.specs.Normal.{slopes};
-ghost use Rattle.normal_equations.specs.Rows.{rows};
+ghost use Rattle.kept_rows.specs.Kept.{kept, Zeros};
 ghost use Rattle.scvx.specs.Search as Search;
-ghost use Rattle.scvx.specs.Stands.{Sizes, ColumnLeft, SameFrom, columnsOf};
+ghost use Rattle.scvx.specs.Stands.{Sizes, ColumnMade, SameFrom, columnsIn, columnsOf};
 use super::Slopes;
 use actuators::control_dim;
 use common::Fate;
 use forward::decisions::project_decision;
 use forward::decisions::unpack;
+use kept_rows::gather;
+use kept_rows::kept;
 use normal_equations::FD_EPS;
 use normal_equations::put_column;
 use problem::CheckedProblem;
@@ -80,8 +81,8 @@ fn residuals_sharing(
     of_run(t, y, run)
 }
 
-// Column c of m numbers at the decision z, whose residuals are r0 and whose base run is b: one run. Every other column and all past them stays, and all of v
-// where the run is refused.
+// Column c of m numbers at the decision z, whose residuals' kept rows are r0 and whose base run is b: one run. Its kept rows are put; every other column and all
+// past them stays, and all of v where the run is refused.
 fn column(
     p: CheckedProblem,
     controls: usize,
@@ -92,8 +93,8 @@ fn column(
     r0: &[f64; 79],
     b: Base,
 ) -> Fate
-    requires { ⌜ (isSized (p .map) ≡ true) × ((controlDim (p .map) ≤ 12) × ((controls ≡ controlDim (p .map)) × ((c < 193) × ((m ≤ 79) × ((c * m + m ≤ length (now v)) × Shared.Keeps p (now z) b))))) ⌝ }
-    ensures { λ r. ⌜ (r ≡ residualsOf p (Search.nudged p (now (z .entry)) c) .fate) × ColumnLeft r m c (slopes m (residualsOf p (Search.nudged p (now (z .entry)) c) .r) (now (r0 .entry))) (now (v .entry)) (now (v .exit)) ⌝ }
+    requires { ⌜ (isSized (p .map) ≡ true) × ((controlDim (p .map) ≤ 12) × ((controls ≡ controlDim (p .map)) × ((c < 193) × ((m ≡ Search.width p) × ((c * kept m + kept m ≤ length (now v)) × Shared.Keeps p (now z) b))))) ⌝ }
+    ensures { λ r. ⌜ (r ≡ residualsOf p (Search.nudged p (now (z .entry)) c) .fate) × ColumnMade p m c (now (z .entry)) (now (r0 .entry)) r (now (v .entry)) (now (v .exit)) ⌝ }
 {
     let y = nudged(p, z, c);
     let e = residuals_sharing(p, controls, z, b, &y);
@@ -101,8 +102,9 @@ fn column(
     match fate {
         Fate::Refused(number, place) => Fate::Refused(number, place),
         Fate::Going => {
-            let rp = e.r;
-            put_column(v, m, c, &rp, r0);
+            let mut rp = e.r;
+            gather(m, &mut rp[..]);
+            put_column(v, kept(m), c, &rp, r0);
             Fate::Going
         }
     }
@@ -118,8 +120,8 @@ fn past_row(steps: usize, controls: usize, c: usize) -> bool
     (steps + 1) * controls < c
 }
 
-// The n columns of m numbers at the decision z, whose residuals are r0, from the front of v on; a refused run ends them. All past them stays. The base run goes
-// a step further with each row of the decision.
+// The n columns of m numbers at the decision z, whose residuals are r0: their kept rows from the front of v on; a refused run ends them. All past them stays. The
+// base run goes a step further with each row of the decision.
 pub fn jacobian(
     p: CheckedProblem,
     v: &mut [f64],
@@ -128,18 +130,20 @@ pub fn jacobian(
     z: [f64; 193],
     r0: [f64; 79],
 ) -> Slopes
-    requires { ⌜ Sizes p n m (length (now v)) ⌝ }
-    ensures { λ r. ⌜ (Search.jacobian p z r0 ≡ columnsOf r (rows n m (take (n * m) (now (v .exit))))) × SameFrom (n * m) (now (v .entry)) (now (v .exit)) ⌝ }
+    requires { ⌜ Sizes p n m (length (now v)) × Zeros m r0 ⌝ }
+    ensures { λ r. ⌜ (Search.jacobian p z r0 ≡ columnsOf r (columnsIn n m (now (v .exit)))) × SameFrom (n * kept m) (now (v .entry)) (now (v .exit)) ⌝ }
 {
     let map = p.map;
     let controls = control_dim(map);
+    let mut front = r0;
+    gather(m, &mut front[..]);
     let mut b = base_start(p);
     let mut c: usize = 0;
     while c < n {
         if past_row(b.steps, controls, c) {
             b = base_next(p, &z, b);
         }
-        let fate = column(p, controls, v, m, c, &z, &r0, b);
+        let fate = column(p, controls, v, m, c, &z, &front, b);
         match fate {
             Fate::Refused(number, place) => return Slopes::Broken(number, place, c + 1),
             Fate::Going => {}

@@ -7,9 +7,9 @@ ghost use Rattle.common.specs.Iter.{iter};
 ghost use Rattle.actuators.specs.Maps.{controlDim};
 ghost use Rattle.problem.specs.declared.CheckedProblem.{CheckedProblem};
 ghost use Rattle.elimination.specs.Elimination.{told, dampedStep};
-ghost use Rattle.normal_equations.specs.Rows.{rows};
+ghost use Rattle.kept_rows.specs.Kept.{Laid, kept, Zeros};
 ghost use Rattle.scvx.specs.Search as Search;
-ghost use Rattle.scvx.specs.Stands.{Sizes, Known, Keeps, Holds};
+ghost use Rattle.scvx.specs.Stands.{Sizes, Known, Keeps, Holds, columnsIn};
 use super::Candidate;
 use super::Progress;
 use super::Slopes;
@@ -30,6 +30,8 @@ use elimination::damped_step;
 use float::max;
 use float::min;
 use held_counts::held_counts;
+use kept_rows::gather;
+use kept_rows::kept;
 use problem::CheckedProblem;
 use residuals::terms::residuals_of;
 
@@ -82,7 +84,7 @@ fn judged(g: Progress, t: Candidate, r: [f64; 79]) -> Progress
 
 // The trial of a step d: one run.
 fn tried(p: CheckedProblem, g: Progress, d: &[f64], m: usize) -> Progress
-    requires { ⌜ Sizes p (length (now d)) m (length (now d) * m + length (now d) * length (now d)) × (g .state .runs ≤ 8500) ⌝ }
+    requires { ⌜ Sizes p (length (now d)) m (length (now d) * kept m + length (now d) * length (now d)) × (g .state .runs ≤ 8500) ⌝ }
     ensures { λ x. ⌜ (x .state ≡ Search.tried p (g .state) (now (d .entry))) × Keeps p g x ⌝ }
 {
     let s = g.state;
@@ -102,14 +104,17 @@ fn tried(p: CheckedProblem, g: Progress, d: &[f64], m: usize) -> Progress
     }
 }
 
-// The step of the equations whose n columns of m numbers stand in the front of ws, where they stay.
+// The step of the equations whose n columns of m numbers have their kept rows in the front of ws, where they stay.
 fn step_of(ws: &mut [f64], n: usize, m: usize, r: [f64; 79], lambda: f64) -> Step
-    requires { ⌜ (n ≤ 193) × ((m ≤ 79) × (n * m + n * n ≤ length (now ws))) ⌝ }
-    ensures { λ x. ⌜ (told (x .solved) (take n (x .d)) ≡ dampedStep n m (rows n m (take (n * m) (now (ws .entry)))) r lambda) × ((length (x .d) ≡ 193) × (take (n * m) (now (ws .exit)) ≡ take (n * m) (now (ws .entry)))) ⌝ }
+    requires { ⌜ (n ≤ 193) × (Laid m × ((n * kept m + n * n ≤ length (now ws)) × Zeros m r)) ⌝ }
+    ensures { λ x. ⌜ (told (x .solved) (take n (x .d)) ≡ dampedStep n m (columnsIn n m (now (ws .entry))) r lambda) × ((length (x .d) ≡ 193) × (columnsIn n m (now (ws .exit)) ≡ columnsIn n m (now (ws .entry)))) ⌝ }
 {
-    let end = n * m + n * n;
+    let w = kept(m);
+    let mut front = r;
+    gather(m, &mut front[..]);
+    let end = n * w + n * n;
     let mut d = [0.0; 193];
-    let solved = damped_step(&mut ws[..end], m, &r, lambda, &mut d[..n]);
+    let solved = damped_step(&mut ws[..end], w, &front, lambda, &mut d[..n]);
     Step {
         solved: solved,
         d: d,
@@ -118,8 +123,8 @@ fn step_of(ws: &mut [f64], n: usize, m: usize, r: [f64; 79], lambda: f64) -> Ste
 
 // The step of an iteration whose columns stand there: its trial, or a stronger damping where the equations are singular.
 fn stepped(p: CheckedProblem, ws: &mut [f64], n: usize, m: usize, g: Progress) -> Progress
-    requires { ⌜ Sizes p n m (length (now ws)) × (g .state .runs ≤ 8400) ⌝ }
-    ensures { λ x. ⌜ (x .state ≡ Search.stepped p (g .state) (rows n m (take (n * m) (now (ws .entry)))) (g .r)) × (Keeps p g x × (take (n * m) (now (ws .exit)) ≡ take (n * m) (now (ws .entry)))) ⌝ }
+    requires { ⌜ Sizes p n m (length (now ws)) × ((g .state .runs ≤ 8400) × Zeros m (g .r)) ⌝ }
+    ensures { λ x. ⌜ (x .state ≡ Search.stepped p (g .state) (columnsIn n m (now (ws .entry))) (g .r)) × (Keeps p g x × (columnsIn n m (now (ws .exit)) ≡ columnsIn n m (now (ws .entry)))) ⌝ }
 {
     let s = g.state;
     let r = g.r;
@@ -133,8 +138,8 @@ fn stepped(p: CheckedProblem, ws: &mut [f64], n: usize, m: usize, g: Progress) -
 
 // The columns of the decision are formed, then the step.
 fn formed(p: CheckedProblem, ws: &mut [f64], n: usize, m: usize, g: Progress) -> Progress
-    requires { ⌜ Sizes p n m (length (now ws)) × ((g .state .runs ≤ 8200) × Holds p (rows n m (take (n * m) (now ws))) g) ⌝ }
-    ensures { λ x. ⌜ (x .state ≡ Search.linear p (g .state) (g .r)) × Holds p (rows n m (take (n * m) (now (ws .exit)))) x ⌝ }
+    requires { ⌜ Sizes p n m (length (now ws)) × ((g .state .runs ≤ 8200) × Holds p (columnsIn n m (now ws)) g) ⌝ }
+    ensures { λ x. ⌜ (x .state ≡ Search.linear p (g .state) (g .r)) × Holds p (columnsIn n m (now (ws .exit))) x ⌝ }
 {
     let s = g.state;
     let c = s.candidate;
@@ -164,8 +169,8 @@ fn formed(p: CheckedProblem, ws: &mut [f64], n: usize, m: usize, g: Progress) ->
 
 // The step of an iteration. Columns that stand there already are counted as runs, and not formed again.
 fn linear(p: CheckedProblem, ws: &mut [f64], n: usize, m: usize, g: Progress) -> Progress
-    requires { ⌜ Sizes p n m (length (now ws)) × ((g .state .runs ≤ 8200) × Holds p (rows n m (take (n * m) (now ws))) g) ⌝ }
-    ensures { λ x. ⌜ (x .state ≡ Search.linear p (g .state) (g .r)) × Holds p (rows n m (take (n * m) (now (ws .exit)))) x ⌝ }
+    requires { ⌜ Sizes p n m (length (now ws)) × ((g .state .runs ≤ 8200) × Holds p (columnsIn n m (now ws)) g) ⌝ }
+    ensures { λ x. ⌜ (x .state ≡ Search.linear p (g .state) (g .r)) × Holds p (columnsIn n m (now (ws .exit))) x ⌝ }
 {
     if g.columns {
         let s = g.state;
@@ -183,8 +188,8 @@ pub fn going(
     k: usize,
     g: Progress,
 ) -> Progress
-    requires { ⌜ Sizes p n m (length (now ws)) × ((k < 40) × ((g .state .runs ≤ 8000) × Holds p (rows n m (take (n * m) (now ws))) g)) ⌝ }
-    ensures { λ x. ⌜ (x .state ≡ Search.going p k (g .state)) × Holds p (rows n m (take (n * m) (now (ws .exit)))) x ⌝ }
+    requires { ⌜ Sizes p n m (length (now ws)) × ((k < 40) × ((g .state .runs ≤ 8000) × Holds p (columnsIn n m (now ws)) g)) ⌝ }
+    ensures { λ x. ⌜ (x .state ≡ Search.going p k (g .state)) × Holds p (columnsIn n m (now (ws .exit))) x ⌝ }
 {
     let before = g.state;
     let s = begun(k, before);

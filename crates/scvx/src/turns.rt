@@ -2,15 +2,14 @@
 // quatopsy-plan/src/scvx.rs (Apache-2.0), changed: runs are counted, a refusal is a number and a place.
 ghost use mathlib.Core.Path.{_≡_};
 ghost use mathlib.Core.Bool.{true};
-ghost use Prim.Native.Nat.{_*_, _≤_};
-ghost use lib.ListN.{length, take};
+ghost use Prim.Native.Nat.{_≤_};
+ghost use lib.ListN.{length};
 ghost use Rattle.common.specs.Iter.{iter};
 ghost use Rattle.actuators.specs.Maps.{controlDim, isSized};
-ghost use Rattle.normal_equations.specs.Rows.{rows};
 ghost use Rattle.scvx.specs.declared.Status.the-variants.{Going};
 ghost use Rattle.scvx.specs.Search as Search;
 ghost use Rattle.scvx.specs.Stands as Stands;
-ghost use Rattle.scvx.specs.Stands.{Sizes, Holds};
+ghost use Rattle.scvx.specs.Stands.{Sizes, Holds, columnsIn};
 use super::Found;
 use super::Progress;
 use super::State;
@@ -44,7 +43,7 @@ pub fn start(m: usize, seed: [f64; 193], r: [f64; 79]) -> Progress
 
 // At most 40 iterations, left where the search no longer goes on.
 pub fn turns(p: CheckedProblem, ws: &mut [f64], n: usize, m: usize, first: Progress) -> State
-    requires { ⌜ Sizes p n m (length (now ws)) × ((first .state .runs ≡ 1) × ((first .state .status ≡ Going) × Holds p (rows n m (take (n * m) (now ws))) first)) ⌝ }
+    requires { ⌜ Sizes p n m (length (now ws)) × ((first .state .runs ≡ 1) × ((first .state .status ≡ Going) × Holds p (columnsIn n m (now ws)) first)) ⌝ }
     ensures { λ s. ⌜ s ≡ iter (Search.turn p) (first .state) 40 ⌝ }
 {
     let mut g = first;

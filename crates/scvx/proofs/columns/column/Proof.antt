@@ -1,33 +1,51 @@
--- `scvx::columns::column` meets its contract. Assumes nothing.
-use mathlib.Core.Path.{refl, ap, sym, subst, _∙_}
+-- `scvx::columns::column` meets its contract: the slopes of the kept rows are the kept rows of the slopes. Assumes nothing.
+use mathlib.Core.Path.{_≡_, refl, ap, sym, _∙_}
 use mathlib.Core.List.{List}
+use lib.ListN.{length}
 use lib.Ieee.{Float}
-use Rattle.normal_equations.specs.Normal.{slopes}
-use Rattle.normal_equations.specs.Placed.{ColumnPut}
 use Rattle.residuals.specs.Residuals.{residualsOf}
 use Rattle.residuals.specs.declared.ResidualVector.{ResidualVector}
+use Rattle.kept_rows.specs.KeptLaws.{slopes-kept, kept-most}
+use Rattle.scvx.specs.Search.{nudged}
+use Rattle.scvx.specs.Stands.{column-stands, width-laid, width-zeros, width-most}
 use native.Mathlib.Omega.{arith}
 use borrow.Author.Needs.{needs}
 use Rattle.scvx.proofs.columns.column.Statement.{statement}
 use Rattle.scvx.proofs.columns.column.Tie as tie
 
+abbrev start : tie.After-residuals-sharing → tie.Start
+start c = c .before .before .before .before
+
+-- the run is that of the nudged decision
+run : (c : tie.After-residuals-sharing) → c .residuals-sharing .result ≡ residualsOf (start c .args .p) (nudged (start c .args .p) (start c .args .z .now) (start c .args .c))
+run c = c .residuals-sharing .ensures ∙ ap (λ (z : List Float). residualsOf (start c .args .p) z) (c .before .before .nudged .ensures)
+
+long : (c : tie.After-residuals-sharing) → length (c .residuals-sharing .result .r) ≡ 79
+long c = search needs
+
+gather-requires : tie.Need-gather-requires
+gather-requires c κs =
+    let st = start (c .before .before .before .before) in
+    (width-laid (st .args .p) (st .pre .1 .1 .1 .1 .0), omega (arith, width-most (st .args .p), st .pre .1 .1 .1 .1 .0, long (c .before .before .before .before)))
+
 put-column-requires : tie.Need-put-column-requires
 put-column-requires c κs =
-    let h = c .before .before .before .before .before .before .before .before .before .pre .1 .1 .1 .1 in
-    (h .0, h .1 .0)
+    let st = start (c .before .before .before .before .before .before .before .before .before) in
+    let em = st .pre .1 .1 .1 .1 .0 in
+    rw (c .before .kept .ensures) (omega (arith, kept-most (st .args .m) (width-laid (st .args .p) em), width-most (st .args .p), em), st .pre .1 .1 .1 .1 .1 .0)
 
 returns : tie.Need-returns
-returns c =
-    let a = c .before .before .before .before .before .before .before .args in
-    let run = c .before .before .before .residuals-sharing .ensures ∙ ap (λ (z : List Float). residualsOf (a .p) z) (c .before .before .before .before .before .nudged .ensures) in
-    (sym (c .before .fate .given .1) ∙ ap (λ (x : ResidualVector). x .fate) run, refl)
+returns c = (sym (c .before .fate .given .1) ∙ ap (λ (x : ResidualVector). x .fate) (run (c .before .before .before)), λ r0 g z. refl)
 
 returns-2 : tie.Need-returns-2
 returns-2 c =
-    let a = c .before .before .before .before .before .before .before .before .before .before .before .before .args in
-    let run = c .before .before .before .before .before .before .before .before .residuals-sharing .ensures ∙ ap (λ (z : List Float). residualsOf (a .p) z) (c .before .before .before .before .before .before .before .before .before .before .nudged .ensures) in (
-      sym (c .before .before .before .before .before .before .enum-told .given .1) ∙ ap (λ (x : ResidualVector). x .fate) run,
-      subst (λ (x : ResidualVector). ColumnPut (a .m) (a .c) (slopes (a .m) (x .r) (a .r0 .now)) (a .v .now) (c .before .before .put-column .last .0)) run (c .before .before .put-column .ensures),
+    let r = c .before .before .before .before .before .before .before .before .before .before .before .before in
+    let a = start r .args in
+    let em = start r .pre .1 .1 .1 .1 .0 in
+    let gathered = rw (run r) at (c .before .before .before .before .before .before .before .gather .ensures) in
+    let put = rw (c .before .before .before .before .kept .ensures) at (c .before .before .put-column .ensures) in (
+      sym (c .before .before .before .before .before .before .before .before .before .before .enum-told .given .1) ∙ ap (λ (x : ResidualVector). x .fate) (run r),
+      λ r0 g z. column-stands put (slopes-kept (a .m) _ r0 _ _ (width-laid (a .p) em) gathered g (width-zeros (a .p) (nudged (a .p) (a .z .now) (a .c)) em) z),
     )
 
 pub column-spec : {M : Type 1} → statement M
@@ -38,6 +56,9 @@ column-spec =
     (λ c κs. search needs)
     (λ c. search needs)
     (λ c. search needs)
+    (λ c. search needs)
+    gather-requires
+    (λ c κs. search needs)
     put-column-requires
     returns
     (λ c. search needs)

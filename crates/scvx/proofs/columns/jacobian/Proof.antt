@@ -1,11 +1,14 @@
--- `scvx::columns::jacobian` meets its contract. Assumes nothing.
-use Prim.Native.Nat.{_+_, _*_, _-_, _≤_}
+-- `scvx::columns::jacobian` meets its contract: each turn of its loop puts one column more of the definition. Assumes nothing.
+use Prim.Native.Nat.{_*_, _-_, _≤_}
 use mathlib.Core.Path.{_≡_, refl, sym, _∙_}
 use mathlib.Core.Logic.{⊎-elim}
+use mathlib.Core.List.{List}
 use lib.ListN.{length}
+use lib.Ieee.{Float}
 use Rattle.common.specs.Iter.{row-end}
 use Rattle.shared_runs.specs.Shared as Shared
-use Rattle.scvx.specs.Stands.{SameFrom}
+use Rattle.kept_rows.specs.Kept.{kept, Gathered, Zeros}
+use Rattle.scvx.specs.Stands.{SameFrom, width-laid}
 use Rattle.scvx.specs.ColumnLaws.{Front, front-none, front-next, front-broken, front-whole, left-length, left-past}
 use native.Mathlib.Omega.{arith}
 use borrow.Author.Needs.{needs}
@@ -13,58 +16,88 @@ use Rattle.scvx.proofs.columns.jacobian.Statement.{statement}
 use Rattle.scvx.proofs.columns.jacobian.Tie as tie
 
 abbrev Inv-loop : tie.InvT-loop
-Inv-loop p v₀ n m z r0 controls b₀ c₀ v b c = (c ≤ n) × ((length v ≡ length v₀) × (Front p m z r0 c v × (SameFrom (n * m) v₀ v × Shared.Keeps p z b)))
+Inv-loop p v₀ n m z controls front b₀ c₀ v b c =
+    (c ≤ n) × ((length v ≡ length v₀) × (((r0 : List Float) → Gathered m r0 front → Zeros m r0 → Front p m z r0 c v) × (SameFrom (n * kept m) v₀ v × Shared.Keeps p z b)))
 
 abbrev μ-loop : tie.MeasureT-loop
-μ-loop p v₀ n m z r0 controls b₀ c₀ v b c = n - c
+μ-loop p v₀ n m z controls front b₀ c₀ v b c = n - c
+
+-- the residuals are gathered before the loop
+abbrev gathered : tie.After-base-start Inv-loop μ-loop → tie.After-gather Inv-loop μ-loop
+gathered c = c .before .before
+
+abbrev start : tie.After-base-start Inv-loop μ-loop → tie.Start Inv-loop μ-loop
+start c = gathered c .before .before .before .before .before
+
+gather-requires : tie.Need-gather-requires Inv-loop μ-loop
+gather-requires c κs =
+    let st = c .before .before .before .before in
+    let whole : length (st .args .r0) ≡ 79 = search needs in
+    (width-laid (st .args .p) (st .pre .0 .m-is), omega (arith, st .pre .0 .m-most))
 
 loop-holds : tie.Need-loop-holds Inv-loop μ-loop
-loop-holds c = (search needs, (search needs, (front-none _ _ _ _ _, (λ i h. refl, c .base-start .ensures _))))
+loop-holds c = (search needs, (search needs, (λ r0 g z. front-none _ _ _ r0 _, (λ i h. refl, c .base-start .ensures _))))
 
 past-row-requires : tie.Need-past-row-requires Inv-loop μ-loop
-past-row-requires c κs = rw (c .before .before .before .control-dim .ensures) (c .before .before .before .before .before .before .pre .narrow)
+past-row-requires c κs = rw (gathered (c .before .before) .before .before .control-dim .ensures) (start (c .before .before) .pre .0 .narrow)
 
 base-next-requires : tie.Need-base-next-requires Inv-loop μ-loop
 base-next-requires c κs =
-    let s = c .before .before .before .before .before .before .before .before .before .pre in
+    let s = start (c .before .before .before .before .before) .pre .0 in
     (s .sized, (s .narrow, c .before .before .before .before .loop .inv .1 .1 .1 .1))
 
 column-requires : tie.Need-column-requires Inv-loop μ-loop
 column-requires c κs =
     let j = c .before .before .before in
     let l = j .before .before .before .loop in
-    let d = j .before .before .before .before .before in
-    let a = d .before .before .before .args in
-    let s = d .before .before .before .pre in
-    (s .sized, (s .narrow, (d .control-dim .ensures, (omega (arith, s .n-most), (s .m-most, (omega (arith, row-end (l .c) (a .n) (a .m) (omega arith), s .fits, l .inv .1 .0), ⊎-elim (λ w. rw (w .3) (w .2 .ensures)) (λ w. rw (w .1) (l .inv .1 .1 .1 .1)) (j .if1 .came)))))))
+    let d = gathered (j .before .before .before .before) .before .before in
+    let a = start (j .before .before .before .before) .args in
+    let s = start (j .before .before .before .before) .pre .0 in
+    (s .sized, (s .narrow, (d .control-dim .ensures, (omega (arith, s .n-most), (s .m-is, (omega (arith, row-end (l .c) (a .n) (kept (a .m)) (omega arith), s .fits, l .inv .1 .0), ⊎-elim (λ w. rw (w .3) (w .2 .ensures)) (λ w. rw (w .1) (l .inv .1 .1 .1 .1)) (j .if1 .came)))))))
 
 returns : tie.Need-returns Inv-loop μ-loop
 returns c =
-    let a = c .before .before .before .before .before .before .before .before .before .before .before .before .before .before .before .before .before .args in
-    let s = c .before .before .before .before .before .before .before .before .before .before .before .before .before .before .before .before .before .pre in
+    let first = c .before .before .before .before .before .before .before .before .before .before .before .before .before in
+    let a = start first .args in
+    let s = start first .pre .0 in
+    let g = gathered first .gather .ensures in
+    let z = start first .pre .1 in
     let l = c .before .before .before .before .before .before .before .before .before .before .before .before .loop in
     let t = c .before .before .before .before .before .column in
-    let past = left-past (a .p) (a .m) (a .t5) (a .t6) (l .c) (l .v) (l .inv .1 .1 .0) (t .last .1 .1 .0) (t .result) (t .ensures .1) (a .n * a .m) (row-end (l .c) (a .n) (a .m) (omega arith)) in
-    (front-broken (a .p) (a .m) (a .t5) (a .t6) (l .c) (l .v) (l .inv .1 .1 .0) (s .m-is) (omega (arith, s .n-is)) (sym (t .ensures .0) ∙ c .before .fate .given .1), λ i h. past i h ∙ l .inv .1 .1 .1 .0 i h)
+    let past = left-past (a .p) (a .m) (a .t5) (a .r0) (l .c) (l .v) (l .inv .1 .1 .0 (a .r0) g z) (t .last .1 .1 .0) (t .result) (t .ensures .1 (a .r0) g z) (a .n * kept (a .m)) (row-end (l .c) (a .n) (kept (a .m)) (c .before .before .before .before .before .before .before .before .before .before .before .loop-test .taken)) in
+    (front-broken (a .p) (a .m) (a .t5) (a .r0) (l .c) (l .v) (l .inv .1 .1 .0 (a .r0) g z) (s .m-is) (omega (arith, s .n-is, c .before .before .before .before .before .before .before .before .before .before .before .loop-test .taken)) (sym (t .ensures .0) ∙ c .before .fate .given .1), λ i h. past i h ∙ l .inv .1 .1 .1 .0 i h)
 
 loop-again : tie.Need-loop-again Inv-loop μ-loop
 loop-again c =
-    let a = c .before .before .before .before .before .before .before .before .before .before .before .before .before .before .before .before .args in
+    let first = c .before .before .before .before .before .before .before .before .before .before .before .before in
+    let a = start first .args in
+    let g = gathered first .gather .ensures in
+    let z = start first .pre .1 in
     let l = c .before .before .before .before .before .before .before .before .before .before .before .loop in
     let t = c .before .before .before .before .column in
     let u = t .last .1 .1 .0 in
-    let size = left-length (a .p) (a .m) (a .t5) (a .t6) (l .c) (l .v) (l .inv .1 .1 .0) u (t .result) (t .ensures .1) in
-    let next = front-next (a .p) (a .m) (a .t5) (a .t6) (l .c) (l .v) (l .inv .1 .1 .0) u (t .ensures .0) (c .enum-told .given .1) (t .ensures .1) in
-    let past = left-past (a .p) (a .m) (a .t5) (a .t6) (l .c) (l .v) (l .inv .1 .1 .0) u (t .result) (t .ensures .1) (a .n * a .m) (row-end (l .c) (a .n) (a .m) (omega arith)) in
-    (search needs, (size ∙ l .inv .1 .0, (next, (λ i h. past i h ∙ l .inv .1 .1 .1 .0 i h, ⊎-elim (λ w. rw (w .3) (w .2 .ensures)) (λ w. rw (w .1) (l .inv .1 .1 .1 .1)) (c .before .before .before .before .before .before .before .before .if1 .came)))))
+    let here = l .inv .1 .1 .0 (a .r0) g z in
+    let size = left-length (a .p) (a .m) (a .t5) (a .r0) (l .c) (l .v) here u (t .result) (t .ensures .1 (a .r0) g z) in
+    let past = left-past (a .p) (a .m) (a .t5) (a .r0) (l .c) (l .v) here u (t .result) (t .ensures .1 (a .r0) g z) (a .n * kept (a .m)) (row-end (l .c) (a .n) (kept (a .m)) (c .before .before .before .before .before .before .before .before .before .before .loop-test .taken)) in (
+      omega (arith, c .before .before .before .before .before .before .before .before .before .before .loop-test .taken),
+      (
+        size ∙ l .inv .1 .0,
+        (
+          λ r0 h o. front-next (a .p) (a .m) (a .t5) r0 (l .c) (l .v) (l .inv .1 .1 .0 r0 h o) u (t .ensures .0) (c .enum-told .given .1) (t .ensures .1 r0 h o),
+          (λ i h. past i h ∙ l .inv .1 .1 .1 .0 i h, ⊎-elim (λ w. rw (w .3) (w .2 .ensures)) (λ w. rw (w .1) (l .inv .1 .1 .1 .1)) (c .before .before .before .before .before .before .before .before .if1 .came)),
+        ),
+      ),
+    )
 
 returns-2 : tie.Need-returns-2 Inv-loop μ-loop
 returns-2 c =
-    let a = c .before .before .before .before .before .before .args in
-    let s = c .before .before .before .before .before .before .pre in
+    let first = c .before .before in
+    let a = start first .args in
+    let s = start first .pre .0 in
     let l = c .before .loop in
     let e : l .c ≡ a .n = omega arith in
-    (front-whole (a .p) (a .m) (a .t5) (a .t6) (a .n) (l .v) (s .n-is) (s .m-is) (omega (arith, s .fits, l .inv .1 .0)) (rw e at (l .inv .1 .1 .0)), l .inv .1 .1 .1 .0)
+    let here = l .inv .1 .1 .0 (a .r0) (gathered first .gather .ensures) (start first .pre .1) in
+    (front-whole (a .p) (a .m) (a .t5) (a .r0) (a .n) (l .v) (s .n-is) (s .m-is) (omega (arith, s .fits, l .inv .1 .0)) (rw e at here), l .inv .1 .1 .1 .0)
 
 pub jacobian-spec : {M : Type 1} → statement M
 jacobian-spec =
@@ -73,13 +106,15 @@ jacobian-spec =
     Inv-loop
     μ-loop
     (λ c κs. search needs)
-    (λ c κs. c .before .before .before .pre .sized)
+    (λ c. search needs)
+    gather-requires
+    (λ c κs. c .before .before .before .before .before .before .pre .0 .sized)
     loop-holds
     past-row-requires
     base-next-requires
     column-requires
     (λ c. search needs)
-    (λ c. search needs)
+    (λ c. omega (arith, c .before .before .before .before .before .before .before .before .before .before .before .loop-test .taken, start (c .before .before .before .before .before .before .before .before .before .before .before .before .before) .pre .0 .n-most))
     (λ c. search needs)
     returns
     (λ c. search needs)

@@ -2,12 +2,15 @@
 use mathlib.Core.Path.{ap, _∙_}
 use Rattle.scvx.specs.declared.State.{State}
 use Rattle.scvx.specs.Counts.{broken-le}
-use Rattle.scvx.specs.Stands.{sizes-kept, stands-formed, stands-broken}
+use Rattle.scvx.specs.Stands.{sizes-kept, known-zeros, stands-formed, stands-broken}
 use Rattle.scvx.specs.StepLaws.{linear-formed, linear-broken}
 use native.Mathlib.Omega.{arith}
 use borrow.Author.Needs.{needs}
 use Rattle.scvx.proofs.steps.formed.Statement.{statement}
 use Rattle.scvx.proofs.steps.formed.Tie as tie
+
+jacobian-requires : tie.Need-jacobian-requires
+jacobian-requires c κs = let h = c .before .before .before .before .before .before .pre in (h .0, known-zeros (h .1 .1 .known) (h .0 .m-is))
 
 ran-requires : tie.Need-ran-requires
 ran-requires c κs =
@@ -17,7 +20,7 @@ ran-requires c κs =
 stepped-requires : tie.Need-stepped-requires
 stepped-requires c κs =
     let q = ap (λ (x : State). x .runs) (c .before .ran2 .ensures) in
-    (sizes-kept (c .before .before .before .before .before .before .before .before .before .before .before .before .before .pre .0) (c .before .before .before .before .before .before .jacobian .kept .1 .0), omega (arith, c .before .before .before .before .before .before .before .before .before .before .before .before .before .pre .0 .n-most, c .before .before .before .before .before .before .before .before .before .before .before .before .before .pre .1 .0))
+    (sizes-kept (c .before .before .before .before .before .before .before .before .before .before .before .before .before .pre .0) (c .before .before .before .before .before .before .jacobian .kept .1 .0), (omega (arith, c .before .before .before .before .before .before .before .before .before .before .before .before .before .pre .0 .n-most, c .before .before .before .before .before .before .before .before .before .before .before .before .before .pre .1 .0), known-zeros (c .before .before .before .before .before .before .before .before .before .before .before .before .before .pre .1 .1 .known) (c .before .before .before .before .before .before .before .before .before .before .before .before .before .pre .0 .m-is)))
 
 returns : tie.Need-returns
 returns c =
@@ -37,7 +40,7 @@ pub formed-spec : {M : Type 1} → statement M
 formed-spec =
     tie.close
     (tie.spec
-    (λ c κs. search needs)
+    jacobian-requires
     (λ c. search needs)
     ran-requires
     (λ c κs. search needs)

@@ -2,6 +2,7 @@
 use mathlib.Core.Path.{ap, _∙_}
 use Rattle.scvx.specs.declared.State.{State}
 use Rattle.scvx.specs.declared.Progress.{Progress}
+use Rattle.scvx.specs.Stands.{known-zeros}
 use Rattle.scvx.specs.StepLaws.{linear-formed}
 use native.Mathlib.Omega.{arith}
 use borrow.Author.Needs.{needs}
@@ -11,7 +12,7 @@ use Rattle.scvx.proofs.steps.linear.Tie as tie
 stepped-requires : tie.Need-stepped-requires
 stepped-requires c κs =
     let q = ap (λ (x : Progress). x .state .runs) (c .over .ensures) ∙ ap (λ (x : State). x .runs) (c .before .ran .ensures) in
-    (c .before .before .before .before .before .before .pre .0, omega (arith, c .before .before .before .before .before .before .pre .0 .n-most, c .before .before .before .before .before .before .pre .1 .0))
+    (c .before .before .before .before .before .before .pre .0, (omega (arith, c .before .before .before .before .before .before .pre .0 .n-most, c .before .before .before .before .before .before .pre .1 .0), rw (c .over .ensures) (known-zeros (c .before .before .before .before .before .before .pre .1 .1 .known) (c .before .before .before .before .before .before .pre .0 .m-is))))
 
 returns : tie.Need-returns
 returns c =

@@ -3,12 +3,18 @@ use mathlib.Core.Path.{_∙_, sym}
 use lib.Seq.{length-take-le}
 use lib.Ieee as Ieee
 use borrow.Author.Tests.{not-true, not-false}
-use Rattle.scvx.specs.Stands.{sizes-step}
+use Rattle.scvx.specs.Stands.{sizes-step, width-laid}
 use Rattle.scvx.specs.StepLaws.{singular, solved}
 use native.Mathlib.Omega.{arith}
 use borrow.Author.Needs.{needs}
 use Rattle.scvx.proofs.steps.stepped.Statement.{statement}
 use Rattle.scvx.proofs.steps.stepped.Tie as tie
+
+step-of-requires : tie.Need-step-of-requires
+step-of-requires c κs =
+    let st = c .before .before .before .before in
+    let z = st .pre .0 in
+    (z .n-most, (width-laid (st .args .p) (z .m-is), (z .fits, st .pre .1 .1)))
 
 returns : tie.Need-returns
 unfolding Ieee.ofBits
@@ -27,7 +33,7 @@ slice-aggregate-tried : tie.Need-slice-aggregate-tried
 slice-aggregate-tried c = sym (length-take-le _ _ (omega (arith, c .before .before .before .before .before .before .before .before .before .before .before .pre .0 .n-most, c .before .before .before .before .before .before .step-of .ensures .1 .0)))
 
 tried-requires : tie.Need-tried-requires
-tried-requires c κs = (sizes-step _ (c .before .before .before .before .before .before .before .before .before .before .before .pre .0) (length-take-le _ _ (omega (arith, c .before .before .before .before .before .before .before .before .before .before .before .pre .0 .n-most, c .before .before .before .before .before .before .step-of .ensures .1 .0))), omega (arith, c .before .before .before .before .before .before .before .before .before .before .before .pre .1))
+tried-requires c κs = (sizes-step _ (c .before .before .before .before .before .before .before .before .before .before .before .pre .0) (length-take-le _ _ (omega (arith, c .before .before .before .before .before .before .before .before .before .before .before .pre .0 .n-most, c .before .before .before .before .before .before .step-of .ensures .1 .0))), omega (arith, c .before .before .before .before .before .before .before .before .before .before .before .pre .1 .0))
 
 returns-2 : tie.Need-returns-2
 returns-2 c =
@@ -42,7 +48,7 @@ pub stepped-spec : {M : Type 1} → statement M
 stepped-spec =
     tie.close
     (tie.spec
-    (λ c κs. search needs)
+    step-of-requires
     (λ c κs. search needs)
     (λ c κs. search needs)
     (λ c κs. search needs)

@@ -1,14 +1,13 @@
 -- `scvx::turns::turns` meets its contract. Assumes nothing.
 use Prim.Native.Nat.{_+_, _*_, _-_, _≤_}
 use mathlib.Core.Path.{_≡_, ap, sym, _∙_}
-use lib.ListN.{length, take}
+use lib.ListN.{length}
 use Rattle.common.specs.Iter.{iter, iter-none, iter-next, iter-stays}
-use Rattle.normal_equations.specs.Rows.{rows}
 use Rattle.scvx.specs.declared.Status.the-variants.{Going}
 use Rattle.scvx.specs.declared.State.{State}
 use Rattle.scvx.specs.Search as Search
 use Rattle.scvx.specs.Counts.{going-le}
-use Rattle.scvx.specs.Stands.{Holds, sizes-kept}
+use Rattle.scvx.specs.Stands.{Holds, columnsIn, sizes-kept}
 use Rattle.scvx.specs.StepLaws.{turn-going, turn-ended, turn-refused}
 use native.Mathlib.Omega.{arith}
 use borrow.Author.Needs.{needs}
@@ -17,7 +16,7 @@ use Rattle.scvx.proofs.turns.turns.Tie as tie
 
 abbrev Inv-loop : tie.InvT-loop
 Inv-loop p ws₀ n m g₀ k₀ ws g k =
-    (k ≤ 40) × ((g .state .runs ≤ 1 + k * 195) × ((length ws ≡ length ws₀) × ((g .state .status ≡ Going) × ((g .state ≡ iter (Search.turn p) (g₀ .state) k) × Holds p (rows n m (take (n * m) ws)) g))))
+    (k ≤ 40) × ((g .state .runs ≤ 1 + k * 195) × ((length ws ≡ length ws₀) × ((g .state .status ≡ Going) × ((g .state ≡ iter (Search.turn p) (g₀ .state) k) × Holds p (columnsIn n m ws) g))))
 
 abbrev μ-loop : tie.MeasureT-loop
 μ-loop p ws₀ n m g₀ k₀ ws g k = 40 - k
