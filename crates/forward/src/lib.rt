@@ -12,6 +12,7 @@ use problem::check;
 use problem::refused;
 
 pub mod decisions;
+pub mod rows;
 pub mod runs;
 pub mod steps;
 
@@ -95,12 +96,11 @@ pub struct Run {
     pub nodes: [Node; 17],
 }
 
-// A run after some of its steps, all of which went on: the state, the pyramid's matrix there, the largest defect squared, the nodes so far.
+// A run after some of its steps, all of which went on: the state, the pyramid's matrix there, the largest defect squared. Its nodes are lent beside it.
 pub struct Partway {
     pub s: State,
     pub a: [f64; 12],
     pub square: f64,
-    pub nodes: [Node; 17],
 }
 
 // Some steps of a run: how they ended, and the run after them where they went on.

@@ -29,6 +29,9 @@ use super::Run;
 use super::Skew;
 use super::State;
 use super::Went;
+use super::rows::node_row;
+use super::rows::nodes_in;
+use super::rows::torque_in;
 use super::steps::attitude;
 use super::steps::join;
 use super::steps::lead;
@@ -62,26 +65,6 @@ pub fn start(wheels: &[f64; 24], n: usize, q0: Quat, hw: [f64; 8]) -> State
         h: h,
         hw: hw,
         delta: four,
-    }
-}
-
-// Node k: the state at its time, with the torque tau.
-pub fn node_of(dt: f64, k: usize, s: State, tau: [f64; 3]) -> Node
-    requires { ⌜ k < 17 ⌝ }
-    ensures { λ r. ⌜ r ≡ Runs.nodeOf dt k s tau ⌝ }
-{
-    let w = s.w;
-    let h = s.h;
-    let hw = s.hw;
-    let q = s.q;
-    let i = k as u32;
-    Node {
-        t: (i as f64) * dt,
-        q: q,
-        w: w,
-        tau: tau,
-        h: h,
-        hw: hw,
     }
 }
 
@@ -159,17 +142,14 @@ pub fn ahead(
 pub fn unbegun(from: State, a: [f64; 12]) -> Partway
     ensures { λ x. ⌜ x ≡ PartLaws.unbegun from a ⌝ }
 {
-    let blank = blank_node();
-    let nodes = [blank; 17];
     Partway {
         s: from,
         a: a,
         square: 0.0,
-        nodes: nodes,
     }
 }
 
-// Steps k up to `end` of a run after k steps, n controls a row. A turn of the loop has the lead of step i, the sine and cosine of the step before, the length
+// Steps k up to `end` of a run after k steps, n controls a row; their nodes go into the lent rows, of which no other is changed. A turn of the loop has the lead of step i, the sine and cosine of the step before, the length
 // of step i's turn, the attitude after the step before: in this order, since none waits for the one before it but the attitude for the sine and cosine.
 pub fn steps_on(
     r: Rig,
@@ -183,16 +163,16 @@ pub fn steps_on(
     k: usize,
     end: usize,
     c: Partway,
+    nodes: &mut [[f64; 22]; 17],
 ) -> Went
     requires { ⌜ (Sized r (gimbals (r .cmgs)) n) × ((n ≤ 12) × (SkewOf (r .cmgs) skew × (PartLaws.Sound r c × ((k ≤ end) × (end ≤ 16))))) ⌝ }
-    ensures { λ x. ⌜ PartLaws.Reached (Steps.bodyWith r (now (wheels .entry)) powers (now (thrusters .entry)) f) n (now (z .entry)) k end c x ⌝ }
+    ensures { λ x. ⌜ PartLaws.Reached (Steps.bodyWith r (now (wheels .entry)) powers (now (thrusters .entry)) f) n (now (z .entry)) k end c (now (nodes .entry)) x (now (nodes .exit)) ⌝ }
 {
     let dt = f.dt;
     let mut s = c.s;
     let a = c.a;
     let mut l = lead_from([0.0; 3], 0.0, [0.0; 3], s, a);
     let mut length = 0.0;
-    let mut nodes = c.nodes;
     let mut square = c.square;
     let mut i: usize = k;
     while i <= end {
@@ -212,8 +192,8 @@ pub fn steps_on(
             }
             let s2 = g.s;
             let tau = g.tau;
-            let node = node_of(dt, j, s, tau);
-            nodes[j] = node;
+            let row = node_row(dt, j, s, tau);
+            nodes[j] = row;
             square = larger_square(square, g.defect);
             s = s2;
         }
@@ -225,35 +205,10 @@ pub fn steps_on(
         s: s,
         a: a2,
         square: square,
-        nodes: nodes,
     };
     Went {
         fate: Fate::Going,
         at: at,
-    }
-}
-
-// A run that is through its 16 steps: node 16 repeats node 15's torque. One that was refused has no nodes.
-pub fn end_run(dt: f64, w: Went) -> Run
-    ensures { λ x. ⌜ x ≡ PartLaws.endRun dt w ⌝ }
-{
-    let fate = w.fate;
-    match fate {
-        Fate::Refused(number, place) => refused_run(number, place),
-        Fate::Going => {
-            let c = w.at;
-            let s = c.s;
-            let mut nodes = c.nodes;
-            let before = nodes[15];
-            let tau = before.tau;
-            let last = node_of(dt, 16, s, tau);
-            nodes[16] = last;
-            Run {
-                fate: Fate::Going,
-                defect: float::sqrt(c.square),
-                nodes: nodes,
-            }
-        }
     }
 }
 
@@ -330,9 +285,10 @@ pub fn steps_under(
     k: usize,
     end: usize,
     c: Partway,
+    nodes: &mut [[f64; 22]; 17],
 ) -> Went
     requires { ⌜ (isSized (p .map) ≡ true) × ((controlDim (p .map) ≤ 12) × (SkewOf (p .map .cmgs) skew × (PartLaws.Sound (rigUnder law (p .map)) c × ((k ≤ end) × (end ≤ 16))))) ⌝ }
-    ensures { λ x. ⌜ PartLaws.Reached (Runs.bodyUnder law p (stepTime (now (z .entry)))) (controlDim (p .map)) (now (z .entry)) k end c x ⌝ }
+    ensures { λ x. ⌜ PartLaws.Reached (Runs.bodyUnder law p (stepTime (now (z .entry)))) (controlDim (p .map)) (now (z .entry)) k end c (now (nodes .entry)) x (now (nodes .exit)) ⌝ }
 {
     let map = p.map;
     let n = control_dim(map);
@@ -341,7 +297,76 @@ pub fn steps_under(
     let powers = map.wheel_powers;
     let thrusters = map.thruster_axes;
     let f = frame_of(p, z[0] / 16.0);
-    steps_on(rig, &wheels, powers, &thrusters, f, skew, n, z, k, end, c)
+    steps_on(
+        rig,
+        &wheels,
+        powers,
+        &thrusters,
+        f,
+        skew,
+        n,
+        z,
+        k,
+        end,
+        c,
+        nodes,
+    )
+}
+
+// The rest of a run after its first k steps, and its last node, which repeats the torque of the one before.
+pub fn run_on(
+    law: WheelLaw,
+    p: CheckedProblem,
+    z: &[f64; 193],
+    skew: Skew,
+    k: usize,
+    c: Partway,
+    nodes: &mut [[f64; 22]; 17],
+) -> Went
+    requires { ⌜ (isSized (p .map) ≡ true) × ((controlDim (p .map) ≤ 12) × (SkewOf (p .map .cmgs) skew × (PartLaws.Sound (rigUnder law (p .map)) c × (k ≤ 16)))) ⌝ }
+    ensures { λ x. ⌜ PartLaws.Ran (Runs.bodyUnder law p (stepTime (now (z .entry)))) (controlDim (p .map)) (now (z .entry)) k c (now (nodes .entry)) x (now (nodes .exit)) ⌝ }
+{
+    let w = steps_under(law, p, z, skew, k, 16, c, nodes);
+    let fate = w.fate;
+    match fate {
+        Fate::Refused(_, _) => return w,
+        Fate::Going => {}
+    }
+    let at = w.at;
+    let s = at.s;
+    let tau = torque_in(nodes[15]);
+    let last = node_row(z[0] / 16.0, 16, s, tau);
+    nodes[16] = last;
+    w
+}
+
+// One forward run of a checked problem and a decision into lent rows, under a law of the wheels' torque.
+pub fn run_into(
+    law: WheelLaw,
+    p: CheckedProblem,
+    z: &[f64; 193],
+    nodes: &mut [[f64; 22]; 17],
+) -> Went
+    requires { ⌜ (isSized (p .map) ≡ true) × ((controlDim (p .map) ≤ 12) × (length (now nodes) ≡ 17)) ⌝ }
+    ensures { λ x. ⌜ (PartLaws.told x (now (nodes .exit)) ≡ Runs.runUnder law p (now (z .entry))) × (length (now (nodes .exit)) ≡ 17) ⌝ }
+{
+    let map = p.map;
+    let cmgs = map.cmgs;
+    let wheels = map.wheel_axes;
+    let momenta = p.momenta;
+    let from = start(&wheels, map.wheel_count, p.q0, momenta);
+    let l = launch(cmgs);
+    let a = l.a;
+    let skew = l.skew;
+    let c = unbegun(from, a);
+    let fate = l.fate;
+    match fate {
+        Fate::Refused(_, _) => Went {
+            fate: Fate::Refused(11, 0),
+            at: c,
+        },
+        Fate::Going => run_on(law, p, z, skew, 0, c, nodes),
+    }
 }
 
 // One forward run of a checked problem and a decision.
@@ -357,20 +382,20 @@ pub fn run_under(law: WheelLaw, p: CheckedProblem, z: [f64; 193]) -> Run
     requires { ⌜ (isSized (p .map) ≡ true) × (controlDim (p .map) ≤ 12) ⌝ }
     ensures { λ r. ⌜ r ≡ Runs.runUnder law p z ⌝ }
 {
-    let map = p.map;
-    let cmgs = map.cmgs;
-    let l = launch(cmgs);
-    let fate = l.fate;
+    let row = [0.0; 22];
+    let mut rows = [row; 17];
+    let w = run_into(law, p, &z, &mut rows);
+    let fate = w.fate;
     match fate {
-        Fate::Refused(_, _) => refused_run(11, 0),
+        Fate::Refused(number, place) => refused_run(number, place),
         Fate::Going => {
-            let wheels = map.wheel_axes;
-            let momenta = p.momenta;
-            let from = start(&wheels, map.wheel_count, p.q0, momenta);
-            let a = l.a;
-            let skew = l.skew;
-            let w = steps_under(law, p, &z, skew, 0, 16, unbegun(from, a));
-            end_run(z[0] / 16.0, w)
+            let at = w.at;
+            let nodes = nodes_in(&rows);
+            Run {
+                fate: Fate::Going,
+                defect: float::sqrt(at.square),
+                nodes: nodes,
+            }
         }
     }
 }

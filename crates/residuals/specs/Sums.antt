@@ -35,9 +35,13 @@ energyOf node dt e = add binary64 e (mul binary64 (abs (Vec.dot3 (node .tau) (no
 abbrev pub energyTurn : List Node → Float → ℕ → Float → Float
 energyTurn ns dt k e = energyOf (nodeAt ns k) dt e
 
+-- over the first k steps
+abbrev pub energyOver : List Node → Float → ℕ → Float
+energyOver ns dt k = iter (energyTurn ns dt) Vec.plusZero k
+
 -- over the 16 steps
 unfoldable pub energy : List Node → Float → Float
-energy ns dt = iter (energyTurn ns dt) Vec.plusZero 16
+energy ns dt = energyOver ns dt 16
 
 -- the length of the rate's change from w to w2 over a time dt
 abbrev pub change : List Float → List Float → Float → Float
@@ -50,6 +54,10 @@ smoothOf w w2 dt e = add binary64 e (mul binary64 (mul binary64 (change w w2 dt)
 abbrev pub smoothTurn : List Node → Float → ℕ → Float → Float
 smoothTurn ns dt k e = smoothOf (nodeAt ns k .w) (nodeAt ns (k + 1) .w) dt e
 
+-- over the first k steps
+abbrev pub smoothOver : List Node → Float → ℕ → Float
+smoothOver ns dt k = iter (smoothTurn ns dt) Vec.plusZero k
+
 -- over the 16 steps
 unfoldable pub smooth : List Node → Float → Float
-smooth ns dt = iter (smoothTurn ns dt) Vec.plusZero 16
+smooth ns dt = smoothOver ns dt 16

@@ -26,6 +26,12 @@ pub struct ResidualVector {
     pub r: [f64; 79],
 }
 
+// Sums of a run's first steps: energy over these steps, smoothness over the changes between their nodes.
+pub struct Begun {
+    pub energy: f64,
+    pub smooth: f64,
+}
+
 // What `residuals` answers: the forward runs begun, 0 or 1, and the residuals.
 pub struct Measured {
     pub runs: usize,

@@ -1,5 +1,6 @@
 // The Jacobian by columns, each a forward difference over one run. Carried over from `jacobian` of quatopsy-plan/src/scvx.rs (Apache-2.0), changed: the
-// kept rows of the columns stand one after the other in the front of the workspace.
+// kept rows of the columns stand one after the other in the front of the workspace, and a column's run begins where it parts from the base run's, on one lent set
+// of nodes.
 ghost use mathlib.Core.Path.{_≡_};
 ghost use mathlib.Core.Bool.{true};
 ghost use Prim.Native.Nat.{_+_, _*_, _≤_, _<_};
@@ -20,13 +21,10 @@ use kept_rows::kept;
 use normal_equations::FD_EPS;
 use normal_equations::put_column;
 use problem::CheckedProblem;
-use residuals::ResidualVector;
-use residuals::terms::of_run;
-use residuals::terms::target_of;
 use shared_runs::Base;
 use shared_runs::base_next;
 use shared_runs::base_start;
-use shared_runs::run_sharing;
+use shared_runs::residuals_sharing;
 
 // The numbers of a decision.
 pub fn numbers(p: CheckedProblem) -> usize
@@ -65,24 +63,8 @@ fn nudged(p: CheckedProblem, z: &[f64; 193], c: usize) -> [f64; 193]
     held(p, plus)
 }
 
-// The residuals of the decision y, n controls a row: its run begins where it parts from the base run of z.
-fn residuals_sharing(
-    p: CheckedProblem,
-    n: usize,
-    z: &[f64; 193],
-    b: Base,
-    y: &[f64; 193],
-) -> ResidualVector
-    requires { ⌜ (isSized (p .map) ≡ true) × ((controlDim (p .map) ≤ 12) × ((n ≡ controlDim (p .map)) × Shared.Keeps p (now z) b)) ⌝ }
-    ensures { λ x. ⌜ x ≡ residualsOf p (now (y .entry)) ⌝ }
-{
-    let run = run_sharing(p, n, z, b, y);
-    let t = target_of(p);
-    of_run(t, y, run)
-}
-
 // Column c of m numbers at the decision z, whose residuals' kept rows are r0 and whose base run is b: one run. Its kept rows are put; every other column and all
-// past them stays, and all of v where the run is refused.
+// past them stays, and all of v where the run is refused; so does what is kept of the base run.
 fn column(
     p: CheckedProblem,
     controls: usize,
@@ -92,12 +74,15 @@ fn column(
     z: &[f64; 193],
     r0: &[f64; 79],
     b: Base,
+    nodes: &mut [[f64; 22]; 17],
+    errors: &[[f64; 3]; 16],
 ) -> Fate
-    requires { ⌜ (isSized (p .map) ≡ true) × ((controlDim (p .map) ≤ 12) × ((controls ≡ controlDim (p .map)) × ((c < 193) × ((m ≡ Search.width p) × ((c * kept m + kept m ≤ length (now v)) × Shared.Keeps p (now z) b))))) ⌝ }
+    requires { ⌜ (isSized (p .map) ≡ true) × ((controlDim (p .map) ≤ 12) × ((controls ≡ controlDim (p .map)) × ((c < 193) × ((m ≡ Search.width p) × ((c * kept m + kept m ≤ length (now v)) × Shared.Holds p (now z) b (now nodes) (now errors)))))) ⌝ }
     ensures { λ r. ⌜ (r ≡ residualsOf p (Search.nudged p (now (z .entry)) c) .fate) × ColumnMade p m c (now (z .entry)) (now (r0 .entry)) r (now (v .entry)) (now (v .exit)) ⌝ }
+    ensures { λ r. ⌜ Shared.Holds p (now (z .entry)) b (now (nodes .exit)) (now (errors .entry)) ⌝ }
 {
     let y = nudged(p, z, c);
-    let e = residuals_sharing(p, controls, z, b, &y);
+    let e = residuals_sharing(p, controls, z, b, &y, nodes, errors);
     let fate = e.fate;
     match fate {
         Fate::Refused(number, place) => Fate::Refused(number, place),
@@ -137,13 +122,17 @@ pub fn jacobian(
     let controls = control_dim(map);
     let mut front = r0;
     gather(m, &mut front[..]);
+    let row = [0.0; 22];
+    let mut nodes = [row; 17];
+    let none = [0.0; 3];
+    let mut errors = [none; 16];
     let mut b = base_start(p);
     let mut c: usize = 0;
     while c < n {
         if past_row(b.steps, controls, c) {
-            b = base_next(p, &z, b);
+            b = base_next(p, &z, b, &mut nodes, &mut errors);
         }
-        let fate = column(p, controls, v, m, c, &z, &front, b);
+        let fate = column(p, controls, v, m, c, &z, &front, b, &mut nodes, &errors);
         match fate {
             Fate::Refused(number, place) => return Slopes::Broken(number, place, c + 1),
             Fate::Going => {}

@@ -1,7 +1,7 @@
 // The search: a seed's decision is bettered by Levenberg-Marquardt steps over forward runs, on one lent workspace.
 // Carried over from `solve` and `jacobian` of quatopsy-plan/src/scvx.rs (Apache-2.0), changed: no heap, runs are counted, a refusal is a number and a place.
 // What the Rust works out again is kept: a decision's residuals and their length are known from the run that let it in, and while a decision stays its
-// Jacobian's columns stay in the front of the workspace. The counts are the Rust's.
+// Jacobian's columns stay in the front of the workspace. A column's run begins where it parts from the base run's. The counts are the Rust's.
 ghost use mathlib.Core.Path.{_≡_};
 ghost use mathlib.Core.Bool.{true};
 ghost use Prim.Native.Nat.{_≤_};

@@ -1,6 +1,6 @@
--- Two decisions with the same first rows have the same first steps. Assumes nothing.
+-- Two decisions with the same first rows have the same first steps, and what is kept of them stays. Assumes nothing.
 use Prim.Native.Nat.{ℕ, _+_, _*_, _-_, _≤_, _<_, zero, suc}
-use mathlib.Core.Path.{_≡_, refl, ap, sym, _∙_}
+use mathlib.Core.Path.{_≡_, refl, ap, sym, subst, _∙_}
 use mathlib.Core.List.{List}
 use native.Mathlib.Omega.{arith}
 use lib.ListN.{length, take, drop, length-take, length-drop}
@@ -15,7 +15,15 @@ use Rattle.problem.specs.declared.CheckedProblem.{CheckedProblem}
 use Rattle.forward.specs.Decisions.{rowOf, sixteen, stepTime}
 use Rattle.forward.specs.Steps.{Body, step}
 use Rattle.forward.specs.Runs.{Course, advance, courseBy, courseTurn, startCourse, bodyOf, startOf}
-use Rattle.forward.specs.declared.Partway.{Partway}
+use Rattle.forward.specs.Rows.{nodeFrom, nodesFrom, SameBelow}
+use Rattle.forward.specs.RowLaws.{nodes-at}
+use Rattle.forward.specs.PartLaws.{Alike, courseOf, stands-same}
+use Rattle.forward.specs.declared.Node.{Node}
+use Rattle.residuals.specs.Sums.{nodeAt, energyOf, smoothOf}
+use Rattle.residuals.specs.Residuals.{errorOf, targetOf}
+use Rattle.residuals.specs.Begins.{Summed, Begins}
+use Rattle.residuals.specs.declared.Begun.{Begun}
+use Rattle.residuals.specs.declared.Target.{Target}
 use Rattle.shared_runs.specs.Shared.{Agree, Same, After, Kept}
 use Rattle.shared_runs.specs.declared.Base.{Base}
 
@@ -51,10 +59,46 @@ module _ (n k : ℕ) (y z : List Float) (long : length y ≡ length z) (same : A
   time-same : stepTime z ≡ stepTime y
   time-same = ap (λ (x : Float). div binary64 x sixteen) (sym (same 0 (omega arith)))
 
--- what is kept of the run of z is the beginning of the run of y
-pub after-shared : (p : CheckedProblem) (n : ℕ) (z y : List Float) (b : Base) → n ≡ controlDim (p .map) → Kept p z b → Same (1 + b .steps * n) y z → After p y (b .steps) (b .at)
-after-shared p n z y b e h s =
-    rw (← e)
-    ((rw (← e) at (h .after))
-    ∙ (ap (λ (t : Float). iter (courseTurn (bodyOf p t) n z) (startCourse (startOf p)) (b .steps)) (time-same n (b .steps) y z (s .long) (s .agree))
-    ∙ iter-agree (courseTurn (bodyOf p (stepTime y)) n z) (courseTurn (bodyOf p (stepTime y)) n y) (startCourse (startOf p)) (b .steps) (turn-same n (b .steps) y z (s .long) (s .agree) (bodyOf p (stepTime y)))))
+-- ---- rows of which the first k stay
+module _ (k : ℕ) (v u : List (List Float)) (few : k ≤ 16) (long : length v ≡ 17) (size : length u ≡ 17) (same : SameBelow k v u) where
+  node-same : (j : ℕ) → j < k → nodeAt (nodesFrom v) j ≡ nodeAt (nodesFrom u) j
+  node-same j l = nodes-at v j (omega arith) ∙ (ap nodeFrom (sym (same j l)) ∙ sym (nodes-at u j (omega arith)))
+
+  sums-same : (dt : Float) (s : Begun) → Summed dt v k s → Summed dt u k s
+  sums-same dt s h = record {
+    few = few;
+    long = size;
+    energy = h .energy ∙ iter-agree _ _ _ k (λ j l e. ap (λ (a : Node). energyOf a dt e) (node-same j l));
+    smooth = h .smooth
+        ∙ iter-agree _ _ _ (k - 1)
+        (λ j l e. ap (λ (a : Node). smoothOf (a .w) (nodeAt (nodesFrom v) (j + 1) .w) dt e) (node-same j (omega arith)) ∙ ap (λ (a : Node). smoothOf (nodeAt (nodesFrom u) j .w) (a .w) dt e) (node-same (j + 1) (omega arith)));
+  }
+
+  -- what is known of the first k steps stays
+  pub begins-same : (t : Target) (dt : Float) (s : Begun) (errors : List (List Float)) → Begins t dt v k s errors → Begins t dt u k s errors
+  begins-same t dt s errors h = record { sums = sums-same dt s (h .sums); kept = λ p j l. h .kept p j l ∙ ap (λ (a : Node). errorOf (a .q) (t .qf)) (node-same j l) }
+
+-- a base run that is kept stays so where its rows stay
+pub kept-same : (p : CheckedProblem) (z : List Float) (b : Base) (v u errors : List (List Float)) → length u ≡ length v → SameBelow (b .steps) v u → Kept p z b v errors → Kept p z b u errors
+kept-same p z b v u errors size same h =
+    let few = h .begins .sums .few in
+    let long = h .begins .sums .long in
+    record {
+      skew = h .skew;
+      sound = h .sound;
+      after = stands-same _ _ _ _ (b .at) v u (omega arith) (size ∙ long) long same (h .after);
+      begins = begins-same (b .steps) v u few long (size ∙ long) same (targetOf p) (stepTime z) (b .sums) errors (h .begins);
+    }
+
+-- ---- what is kept of the run of z is the beginning of the run of y
+module _ (p : CheckedProblem) (n : ℕ) (z y : List Float) (b : Base) (v errors : List (List Float)) (e : n ≡ controlDim (p .map)) (h : Kept p z b v errors) (s : Same (1 + b .steps * n) y z) where
+  pub after-shared : After p y (b .steps) (b .at) v
+  after-shared =
+      rw (← e)
+      (subst (λ (x : Course). Alike (b .steps) (courseOf (b .at) v) x)
+      (ap (λ (t : Float). iter (courseTurn (bodyOf p t) n z) (startCourse (startOf p)) (b .steps)) (time-same n (b .steps) y z (s .long) (s .agree))
+      ∙ iter-agree (courseTurn (bodyOf p (stepTime y)) n z) (courseTurn (bodyOf p (stepTime y)) n y) (startCourse (startOf p)) (b .steps) (turn-same n (b .steps) y z (s .long) (s .agree) (bodyOf p (stepTime y))))
+      (rw (← e) at (h .after)))
+
+  pub begins-shared : Begins (targetOf p) (stepTime y) v (b .steps) (b .sums) errors
+  begins-shared = subst (λ (t : Float). Begins (targetOf p) t v (b .steps) (b .sums) errors) (time-same n (b .steps) y z (s .long) (s .agree)) (h .begins)

@@ -8,36 +8,43 @@ ghost use lib.ListN.{length};
 ghost use lib.Ieee.{Float};
 ghost use Rattle.common.specs.declared.Fate.the-variants.{Going};
 ghost use Rattle.actuators.specs.Maps.{controlDim, isSized};
-ghost use Rattle.forward.specs.Runs.{runOf};
-ghost use Rattle.shared_runs.specs.Shared.{Agree, Same, Keeps};
+ghost use Rattle.residuals.specs.Residuals.{residualsOf};
+ghost use Rattle.shared_runs.specs.Shared.{Agree, Same, Keeps, Holds};
 use common::Fate;
 use controls::WheelLaw;
 use float_bits::same_bits;
 use forward::Partway;
-use forward::Run;
 use forward::Skew;
-use forward::runs::end_run;
 use forward::runs::launch;
-use forward::runs::run_of;
+use forward::runs::run_on;
 use forward::runs::start;
 use forward::runs::steps_under;
 use forward::runs::unbegun;
 use problem::CheckedProblem;
+use residuals::Begun;
+use residuals::ResidualVector;
+use residuals::sums::sums_next;
+use residuals::terms::keep_error;
+use residuals::terms::of_rows;
+use residuals::terms::refused_residuals;
+use residuals::terms::residuals_of;
+use residuals::terms::target_of;
 
-// The base run after its first steps, where it is on its way; where not, the rest is free.
+// The base run after its first steps, where it is on its way, and the sums of its residuals over them; where not, the rest is free.
 pub struct Base {
     pub on: bool,
     pub steps: usize,
     pub skew: Skew,
     pub at: Partway,
+    pub sums: Begun,
 }
 
-// Whether a stage goes on.
-fn goes(fate: Fate) -> bool
-    ensures { λ r. ⌜ (r ≡ true → fate ≡ Going) ⌝ }
+// Whether a stage goes on, and what is known goes with it.
+fn goes(fate: Fate, known: bool) -> bool
+    ensures { λ r. ⌜ (r ≡ true → (fate ≡ Going) × (known ≡ true)) ⌝ }
 {
     match fate {
-        Fate::Going => true,
+        Fate::Going => known,
         Fate::Refused(_, _) => false,
     }
 }
@@ -45,7 +52,7 @@ fn goes(fate: Fate) -> bool
 // The base run before its first step: that of every decision.
 pub fn base_start(p: CheckedProblem) -> Base
     requires { ⌜ isSized (p .map) ≡ true ⌝ }
-    ensures { λ b. ⌜ ((z : List Float) → Keeps p z b) ⌝ }
+    ensures { λ b. ⌜ ((z : List Float) (v errors : List (List Float)) → length v ≡ 17 → Keeps p z b v errors) ⌝ }
 {
     let map = p.map;
     let wheels = map.wheel_axes;
@@ -58,35 +65,49 @@ pub fn base_start(p: CheckedProblem) -> Base
     let fate = l.fate;
     let at = unbegun(from, a);
     Base {
-        on: goes(fate),
+        on: goes(fate, true),
         steps: 0,
         skew: skew,
         at: at,
+        sums: Begun {
+            energy: 0.0,
+            smooth: 0.0,
+        },
     }
 }
 
-// The base run of the decision z, one step further where there is one.
-pub fn base_next(p: CheckedProblem, z: &[f64; 193], b: Base) -> Base
-    requires { ⌜ (isSized (p .map) ≡ true) × ((controlDim (p .map) ≤ 12) × Keeps p (now z) b) ⌝ }
-    ensures { λ x. ⌜ Keeps p (now (z .entry)) x ⌝ }
+// The base run of the decision z, one step further where there is one: its node goes into the lent rows, its pointing error beside them.
+pub fn base_next(
+    p: CheckedProblem,
+    z: &[f64; 193],
+    b: Base,
+    nodes: &mut [[f64; 22]; 17],
+    errors: &mut [[f64; 3]; 16],
+) -> Base
+    requires { ⌜ (isSized (p .map) ≡ true) × ((controlDim (p .map) ≤ 12) × Holds p (now z) b (now nodes) (now errors)) ⌝ }
+    ensures { λ x. ⌜ Holds p (now (z .entry)) x (now (nodes .exit)) (now (errors .exit)) ⌝ }
 {
     let k = b.steps;
     let skew = b.skew;
     let c = b.at;
+    let s = b.sums;
     if !b.on {
         return b;
     }
     if 16 <= k {
         return b;
     }
-    let w = steps_under(WheelLaw::Once, p, z, skew, k, k + 1, c);
+    let w = steps_under(WheelLaw::Once, p, z, skew, k, k + 1, c, nodes);
+    let sums = sums_next(nodes, z[0] / 16.0, k, s);
+    let known = keep_error(target_of(p), nodes, k, errors);
     let fate = w.fate;
     let at = w.at;
     Base {
-        on: goes(fate),
+        on: goes(fate, known),
         steps: k + 1,
         skew: skew,
         at: at,
+        sums: sums,
     }
 }
 
@@ -116,17 +137,32 @@ fn shares(on: bool, steps: usize, n: usize, z: &[f64; 193], y: &[f64; 193]) -> b
     same_front(y, z, 1 + steps * n)
 }
 
-// The run of the decision y, n controls a row, from where it parts from that of z, or from its start.
-pub fn run_sharing(p: CheckedProblem, n: usize, z: &[f64; 193], b: Base, y: &[f64; 193]) -> Run
-    requires { ⌜ (isSized (p .map) ≡ true) × ((controlDim (p .map) ≤ 12) × ((n ≡ controlDim (p .map)) × Keeps p (now z) b)) ⌝ }
-    ensures { λ r. ⌜ r ≡ runOf p (now (y .entry)) ⌝ }
+// The residuals of the decision y, n controls a row: its run begins where it parts from the base run of z, or at its start. The base run stays as it is kept.
+pub fn residuals_sharing(
+    p: CheckedProblem,
+    n: usize,
+    z: &[f64; 193],
+    b: Base,
+    y: &[f64; 193],
+    nodes: &mut [[f64; 22]; 17],
+    errors: &[[f64; 3]; 16],
+) -> ResidualVector
+    requires { ⌜ (isSized (p .map) ≡ true) × ((controlDim (p .map) ≤ 12) × ((n ≡ controlDim (p .map)) × Holds p (now z) b (now nodes) (now errors))) ⌝ }
+    ensures { λ x. ⌜ (x ≡ residualsOf p (now (y .entry))) × Holds p (now (z .entry)) b (now (nodes .exit)) (now (errors .entry)) ⌝ }
 {
     let k = b.steps;
     if !shares(b.on, k, n, z, y) {
-        return run_of(p, *y);
+        return residuals_of(p, *y);
     }
     let skew = b.skew;
     let c = b.at;
-    let w = steps_under(WheelLaw::Once, p, y, skew, k, 16, c);
-    end_run(y[0] / 16.0, w)
+    let w = run_on(WheelLaw::Once, p, y, skew, k, c, nodes);
+    let fate = w.fate;
+    match fate {
+        Fate::Refused(number, place) => refused_residuals(number, place),
+        Fate::Going => {
+            let s = b.sums;
+            of_rows(target_of(p), y, nodes, k, s, errors)
+        }
+    }
 }

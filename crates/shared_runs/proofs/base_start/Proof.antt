@@ -1,12 +1,13 @@
 -- `shared_runs::base_start` meets its contract. Assumes nothing.
 use mathlib.Core.Path.{refl}
+use native.Mathlib.Omega.{arith}
 use lib.Ieee as Ieee
+use Rattle.common.specs.Iter.{iter-none}
 use Rattle.controls.specs.Sizes.{dim-sized}
 use Rattle.controls.specs.declared.WheelLaw.the-variants.{Once}
 use Rattle.forward.specs.Runs as Runs
 use Rattle.forward.specs.Launch.{launch-goes}
 use Rattle.forward.specs.PartLaws.{stands-first}
-use native.Mathlib.Omega.{arith}
 use borrow.Author.Needs.{needs}
 use Rattle.shared_runs.proofs.base_start.Statement.{statement}
 use Rattle.shared_runs.proofs.base_start.Tie as tie
@@ -16,16 +17,19 @@ start-requires c κs = dim-sized Once _ (c .before .before .before .before .pre)
 
 returns : tie.Need-returns
 unfolding Runs.start Ieee.ofBits
-returns c = λ z h.
+returns c = λ z v errors long h.
     let u = c .before in
     let l = u .before .before .before in
     let s = l .before in
-    let made = launch-goes _ (l .launch .ensures) (c .goes .ensures h) in
+    let made = launch-goes _ (l .launch .ensures) (c .goes .ensures h .0) in
     record {
-      few = omega arith;
       skew = made .0;
-      sound = rw (u .unbegun .ensures, s .start .ensures) (record { matrix = made .1; plus = tt; size = refl });
-      after = rw (u .unbegun .ensures, s .start .ensures) (stands-first _ _ _ _ (l .launch .result .a));
+      sound = rw (u .unbegun .ensures, s .start .ensures) (record { matrix = made .1; plus = tt });
+      after = rw (u .unbegun .ensures, s .start .ensures) (stands-first _ _ _ _ (l .launch .result .a) v long);
+      begins = record {
+        sums = record { few = omega arith; long = long; energy = iter-none _ _; smooth = iter-none _ _ };
+        kept = λ p j b. absurd (omega arith);
+      };
     }
 
 pub base-start-spec : {M : Type 1} → statement M

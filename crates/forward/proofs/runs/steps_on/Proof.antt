@@ -1,48 +1,52 @@
--- `forward::runs::steps_on` meets its contract. Assumes nothing.
+-- `forward::runs::steps_on` meets its contract: a turn that makes a step writes its node, and the course with the rows so far is that of the steps so far. Assumes nothing.
 use lib.Ieee as Ieee
 use lib.Dec.{T}
 use Rattle.float.specs.Sqrt as Sqrt
 use Rattle.forward.specs.Defects.{upright}
 use Prim.Native.Nat.{ℕ, _≤_, _<_, _+_, _-_}
-use mathlib.Core.Path.{_≡_, refl, sym, _∙_}
+use mathlib.Core.Path.{_≡_, refl, sym, ap, _∙_}
+use mathlib.Core.List.{List}
 use mathlib.Core.Logic.{⊎-elim}
-use lib.ListN.{length}
+use lib.ListN.{length, length-set}
 use Rattle.common.specs.Iter.{iter}
 use Rattle.geom.specs.Quats.{norm3}
 use Rattle.forward.specs.Steps as Steps
 use Rattle.forward.specs.Leads.{Chased, faced, chased-step, chased-first, chased-next}
 use Rattle.forward.specs.Runs as Runs
 use Rattle.forward.specs.RunLaws.{going, course-none, course-waits, course-next, one-turn, refused-turn}
+use Rattle.forward.specs.Rows.{nodesFrom, SameBelow}
+use Rattle.forward.specs.RowLaws.{nodes-set, below-set}
 use Rattle.forward.specs.PartLaws.{courseOf, reached-refused, reached-going}
+use Rattle.forward.specs.declared.Node.{Node}
 use native.Mathlib.Omega.{arith}
 use borrow.Author.Needs.{needs}
 use Rattle.forward.proofs.runs.steps_on.Statement.{statement}
 use Rattle.forward.proofs.runs.steps_on.Tie as tie
 
 abbrev Inv-loop : tie.InvT-loop
-Inv-loop r wheels powers thrusters f skew n z k end c dt s₀ l₀ length₀ nodes₀ square₀ i₀ s l long nodes square i =
-    ((k ≤ i) × (i ≤ end + 1)) × ((length nodes ≡ 17) × ((going s (Sqrt.sqrt Ieee.binary64 square) nodes ≡ iter (λ (d : ℕ). Runs.courseTurn (Steps.bodyWith r wheels powers thrusters f) n z (d + k)) (courseOf c) (i - k - 1)) × (T (upright square) × (Chased (Steps.bodyWith r wheels powers thrusters f) n z k end i s l × (k < i → long ≡ norm3 (l .turn))))))
+Inv-loop r wheels powers thrusters f skew n z k end c nodes₀ dt s₀ l₀ length₀ square₀ i₀ nodes s l long square i =
+    ((k ≤ i) × (i ≤ end + 1)) × ((SameBelow k nodes₀ nodes × (length nodes ≡ length nodes₀)) × ((going s (Sqrt.sqrt Ieee.binary64 square) (nodesFrom nodes) ≡ iter (λ (d : ℕ). Runs.courseTurn (Steps.bodyWith r wheels powers thrusters f) n z (d + k)) (courseOf c nodes₀) (i - k - 1)) × (T (upright square) × (Chased (Steps.bodyWith r wheels powers thrusters f) n z k end i s l × (k < i → long ≡ norm3 (l .turn))))))
 
 abbrev μ-loop : tie.MeasureT-loop
-μ-loop r wheels powers thrusters f skew n z k end c dt s₀ l₀ length₀ nodes₀ square₀ i₀ s l long nodes square i = end + 1 - i
+μ-loop r wheels powers thrusters f skew n z k end c nodes₀ dt s₀ l₀ length₀ square₀ i₀ nodes s l long square i = end + 1 - i
 
 lead-from-requires : tie.Need-lead-from-requires Inv-loop μ-loop
 lead-from-requires c κs = search needs
 
 loop-holds : tie.Need-loop-holds Inv-loop μ-loop
 loop-holds c =
-    let pre = c .before .before .before .before .pre in
+    let pre = c .before .before .before .pre in
     let sound = pre .1 .1 .1 .0 in (
       (omega arith, omega (arith, pre .1 .1 .1 .1 .0)),
       (
-        sound .size,
+        (λ i h. refl, refl),
         (
           course-none _ _ _,
           (
             sound .plus,
             (
               record {
-                first = λ e. rw (c .before .lead-from .ensures) (refl, sound .matrix);
+                first = λ e. rw (c .lead-from .ensures) (refl, sound .matrix);
                 later = λ h. absurd (omega arith);
                 past = λ h. absurd (omega (arith, pre .1 .1 .1 .1 .0));
               },
@@ -55,26 +59,8 @@ loop-holds c =
 
 ahead-requires : tie.Need-ahead-requires Inv-loop μ-loop
 ahead-requires c κs =
-    let pre = c .before .before .before .before .before .before .before .pre in
+    let pre = c .before .before .before .before .before .before .pre in
     (pre .0, ((pre .1 .0, search needs), (pre .1 .1 .1 .1 .1, pre .1 .1 .0)))
-
-exp-at-requires : tie.Need-exp-at-requires Inv-loop μ-loop
-exp-at-requires c κs = search needs
-
-norm3-requires : tie.Need-norm3-requires Inv-loop μ-loop
-norm3-requires c κs = search needs
-
-sub-j : tie.Need-sub-j Inv-loop μ-loop
-sub-j c = search needs
-
-attitude-requires : tie.Need-attitude-requires Inv-loop μ-loop
-attitude-requires c κs = search needs
-
-join-requires : tie.Need-join-requires Inv-loop μ-loop
-join-requires c κs = search needs
-
-enum-told : tie.Need-enum-told Inv-loop μ-loop
-enum-told c = search needs
 
 returns : tie.Need-returns Inv-loop μ-loop
 returns c =
@@ -82,45 +68,45 @@ returns c =
     let u = j .before .before .before in
     let x = u .before .before .before in
     let lp = x .before .before .before .before in
-    let v = lp .before .loop .inv .1 .1 in
+    let inv = lp .before .loop .inv in
+    let v = inv .1 .1 in
     let f = faced _ _ _ (j .before .attitude .ensures) (x .exp-at .ensures) (v .1 .1 .1 (u .if1 .taken)) in
-    reached-refused _ _ _ _ _ _ _ _ (u .if1 .taken) (lp .loop-test .taken) (v .0)
-    (refused-turn _ _ _ _ _ _ _ (chased-step _ _ _ _ _ _ (v .1 .1 .0) (u .if1 .taken) (lp .loop-test .taken) f (j .join .ensures)) (c .enum-told .given .1)) (c .enum-told .given .1)
+    reached-refused _ _ _ _ _ _ _ _ _ (u .if1 .taken) (lp .loop-test .taken) (v .0)
+    (refused-turn _ _ _ _ _ _ _ (chased-step _ _ _ _ _ _ (v .1 .1 .0) (u .if1 .taken) (lp .loop-test .taken) f (j .join .ensures)) (c .enum-told .given .1)) (c .enum-told .given .1) (inv .1 .0 .0) (inv .1 .0 .1)
 
-enum-told-2 : tie.Need-enum-told-2 Inv-loop μ-loop
-enum-told-2 c = search needs
+node-row-requires : tie.Need-node-row-requires Inv-loop μ-loop
+node-row-requires c κs = omega (arith, c .before .before .before .before .before .before .before .before .before .before .before .before .before .before .loop-test .taken, c .before .before .before .before .before .before .before .before .before .before .before .before .before .before .before .before .before .before .before .pre .1 .1 .1 .1 .1)
 
-node-of-requires : tie.Need-node-of-requires Inv-loop μ-loop
-node-of-requires c κs = omega (arith, c .before .before .before .before .before .before .before .before .before .before .before .before .before .before .loop-test .taken, c .before .before .before .before .before .before .before .before .before .before .before .before .before .before .before .before .before .before .before .before .pre .1 .1 .1 .1 .1)
+mul-row : tie.Need-mul-row Inv-loop μ-loop
+mul-row c = omega (arith, c .before .before .before .before .before .before .before .before .before .before .before .before .before .before .before .loop-test .taken, c .before .before .before .before .before .before .before .before .before .before .before .before .before .before .before .before .before .before .before .before .pre .1 .1 .1 .1 .1)
 
-mul-nodes : tie.Need-mul-nodes Inv-loop μ-loop
-mul-nodes c = omega (arith, c .before .before .before .before .before .before .before .before .before .before .before .before .before .before .before .loop-test .taken, c .before .before .before .before .before .before .before .before .before .before .before .before .before .before .before .before .before .before .before .before .before .pre .1 .1 .1 .1 .1)
-
-array-set-from-nodes : tie.Need-array-set-from-nodes Inv-loop μ-loop
-array-set-from-nodes c = omega (arith, c .before .before .before .before .before .before .before .before .before .before .before .before .before .before .before .loop-test .taken, c .before .before .before .before .before .before .before .before .before .before .before .before .before .before .before .before .before .before .before .before .before .pre .1 .1 .1 .1 .1)
+element-set-from-row : tie.Need-element-set-from-row Inv-loop μ-loop
+element-set-from-row c = omega (arith, c .before .before .before .before .before .before .before .before .before .before .before .before .before .before .before .loop-test .taken, c .before .before .before .before .before .before .before .before .before .before .before .before .before .before .before .before .before .before .before .before .pre .1 .1 .1 .1 .1)
 
 larger-square-requires : tie.Need-larger-square-requires Inv-loop μ-loop
 larger-square-requires c κs = c .before .before .before .before .before .before .before .before .before .before .before .before .before .before .before .before .loop .inv .1 .1 .1 .0
 
 add-i : tie.Need-add-i Inv-loop μ-loop
-add-i c = omega (arith, c .before .before .before .before .before .before .before .loop-test .taken, c .before .before .before .before .before .before .before .before .before .before .before .before .before .pre .1 .1 .1 .1 .1)
+add-i c = omega (arith, c .before .before .before .before .before .before .before .loop-test .taken, c .before .before .before .before .before .before .before .before .before .before .before .before .pre .1 .1 .1 .1 .1)
 
 loop-less : tie.Need-loop-less Inv-loop μ-loop
 loop-less c = omega (arith, c .before .before .before .before .before .before .before .loop-test .taken)
 
 loop-again : tie.Need-loop-again Inv-loop μ-loop
 loop-again c =
-    let o = c .before .before .before .before .before .before .before .before .loop .inv in
+    let lp = c .before .before .before .before .before .before .before .before .loop in
+    let start = c .before .before .before .before .before .before .before .before .before .before .before .before in
+    let o = lp .inv in
     let h = c .before .before .before .before .before .before .before .loop-test .taken in
     let v = o .1 .1 in
     let g = v .1 .1 .0 in
     let a = c .before .before .before .before .before .ahead .ensures in
     let e = c .before .before .before .exp-at .ensures in
     ⊎-elim
-    (λ w. rw (w .10, w .11, w .12) (
+    (λ w. rw (w .10, w .11, w .12, nodes-set) (
       (omega (arith, o .0), omega (arith, h)),
       (
-        search needs,
+        (below-set (start .args .k) (start .args .nodes .now) (lp .nodes) (lp .i - 1) (w .8 .result) (omega (arith, w .0 .taken)) (o .1 .0 .0), length-set (lp .nodes) (lp .i - 1) (w .8 .result) ∙ o .1 .0 .1),
         (
           course-next (Runs.courseTurn _ _ _) _ _ _ (w .0 .taken) (v .0)
               (one-turn _ _ _ _ _ _ _ (chased-step _ _ _ _ _ _ g (w .0 .taken) h (faced _ _ _ (w .2 .ensures) e (v .1 .1 .1 (w .0 .taken))) (w .3 .ensures)) (w .8 .ensures) (w .9 .ensures .1) (w .5 .given .1)),
@@ -128,16 +114,16 @@ loop-again c =
         ),
       ),
     ))
-    (λ w. rw (w .1, w .2, w .3) ((omega (arith, o .0), omega (arith, h)), (search needs, (course-waits _ _ _ _ (omega (arith, o .0)) (v .0), (v .1 .0, (chased-first _ _ _ _ _ _ g a (omega (arith, o .0)), λ y. c .before .norm3 .ensures))))))
+    (λ w. rw (w .1, w .2, w .3) ((omega (arith, o .0), omega (arith, h)), (o .1 .0, (course-waits _ _ _ _ (omega (arith, o .0)) (v .0), (v .1 .0, (chased-first _ _ _ _ _ _ g a (omega (arith, o .0)), λ y. c .before .norm3 .ensures))))))
     (c .if1 .came)
 
 returns-2 : tie.Need-returns-2 Inv-loop μ-loop
 returns-2 c =
     let l = c .before .before in
     let v = l .loop .inv in
-    let a = l .before .before .before .before .before .args in
+    let a = l .before .before .before .before .args in
     let e : l .loop .i - a .k - 1 ≡ a .end - a .k = omega (arith, v .0) in
-    reached-going _ _ _ _ _ _ refl (rw e at (v .1 .1 .0)) (record { matrix = v .1 .1 .1 .1 .0 .past (omega (arith, v .0)); plus = v .1 .1 .1 .0; size = v .1 .0 })
+    reached-going _ _ _ _ _ _ _ refl (rw e at (v .1 .1 .0)) (record { matrix = v .1 .1 .1 .1 .0 .past (omega (arith, v .0)); plus = v .1 .1 .1 .0 }) (v .1 .0 .0) (v .1 .0 .1)
 
 pub steps-on-spec : {M : Type 1} → statement M
 steps-on-spec =
@@ -148,17 +134,17 @@ steps-on-spec =
     lead-from-requires
     loop-holds
     ahead-requires
-    exp-at-requires
-    norm3-requires
-    sub-j
-    attitude-requires
-    join-requires
-    enum-told
+    (λ c κs. search needs)
+    (λ c κs. search needs)
+    (λ c. search needs)
+    (λ c κs. search needs)
+    (λ c κs. search needs)
+    (λ c. search needs)
     returns
-    enum-told-2
-    node-of-requires
-    mul-nodes
-    array-set-from-nodes
+    (λ c. search needs)
+    node-row-requires
+    mul-row
+    element-set-from-row
     larger-square-requires
     add-i
     loop-less

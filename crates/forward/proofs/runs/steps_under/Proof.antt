@@ -7,7 +7,7 @@ use Rattle.forward.proofs.runs.steps_under.Tie as tie
 
 steps-on-requires : tie.Need-steps-on-requires
 steps-on-requires c κs =
-    let g = c .before .before .before .before .before .before .before in
+    let g = c .before .before .before .before .before .before .before .before in
     let d = g .before in
     let pre = d .before .before .pre in (
       rw (g .rig-under .ensures, d .control-dim .ensures) (dim-sized _ _ (pre .0)),
@@ -17,7 +17,7 @@ steps-on-requires c κs =
 returns : tie.Need-returns
 unfolding Ieee.ofBits
 returns c =
-    let f = c .before .before .before in
+    let f = c .before .before .before .before in
     let g = f .before .before .before .before .before in
     rw (← g .rig-under .ensures, ← g .before .control-dim .ensures, ← f .frame-of .ensures) (c .steps-on .ensures)
 

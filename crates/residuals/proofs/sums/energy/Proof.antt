@@ -1,29 +1,34 @@
--- `residuals::sums::energy` meets its contract. Assumes nothing.
-use Rattle.residuals.specs.Sums as Sums
-use Rattle.geom.specs.Vec as Vec
-use Rattle.common.specs.Iter.{iter, iter-none, iter-next}
-use mathlib.Core.Path.{_≡_}
-use Prim.Native.Nat.{_≤_, _-_}
+-- `residuals::sums::energy` meets its contract: each turn adds a step to the sum. Assumes nothing.
+use Prim.Native.Nat.{_+_, _-_, _≤_}
+use mathlib.Core.Path.{_≡_, refl, sym, ap, _∙_}
 use native.Mathlib.Omega.{arith}
+use Rattle.common.specs.Iter.{iter-next}
+use Rattle.forward.specs.Rows.{nodesFrom}
+use Rattle.residuals.specs.Sums as Sums
+use Rattle.residuals.specs.BeginLaws.{energy-turns}
 use borrow.Author.Needs.{needs}
 use Rattle.residuals.proofs.sums.energy.Statement.{statement}
 use Rattle.residuals.proofs.sums.energy.Tie as tie
 
 abbrev Inv-loop : tie.InvT-loop
-Inv-loop dt nodes e₀ k₀ e k = (k ≤ 16) × (e ≡ iter (Sums.energyTurn nodes dt) Vec.plusZero k)
+Inv-loop nodes dt k e sum₀ i₀ sum i = (i ≤ 16) × (sum ≡ Sums.energyOver (nodesFrom nodes) dt i)
 
 abbrev μ-loop : tie.MeasureT-loop
-μ-loop dt nodes e₀ k₀ e k = 16 - k
+μ-loop nodes dt k e sum₀ i₀ sum i = 16 - i
 
 loop-holds : tie.Need-loop-holds Inv-loop μ-loop
-loop-holds c = (search needs, iter-none _ _)
+loop-holds c = (c .pre .0 .0, c .pre .1)
 
 loop-again : tie.Need-loop-again Inv-loop μ-loop
-loop-again c = (search needs, iter-next _ _ _ (c .before .before .before .loop .inv .1) (c .energy-turn .ensures))
+loop-again c =
+    let at = c .before .before .before in
+    let l = at .loop in
+    let start = at .before in
+    (omega arith, iter-next _ _ (l .i) (l .inv .1) (c .energy-turn .ensures ∙ energy-turns (start .args .nodes .now) (start .args .dt) (l .i) (l .sum) (omega (arith, start .pre .0 .1))))
 
 returns : tie.Need-returns Inv-loop μ-loop
 unfolding Sums.energy
-returns c = let e : c .before .loop .k ≡ 16 = omega arith in rw e at (c .before .loop .inv .1)
+returns c = let e : c .before .loop .i ≡ 16 = omega arith in rw e at (c .before .loop .inv .1)
 
 pub energy-spec : {M : Type 1} → statement M
 energy-spec =

@@ -1,13 +1,22 @@
 -- `residuals::sums::smooth_turn` meets its contract. Assumes nothing.
-use Rattle.residuals.specs.Sums as Sums
 use lib.Ieee as Ieee
+use Rattle.forward.specs.Rows.{nodeFrom}
+use Rattle.residuals.specs.Sums as Sums
 use borrow.Author.Needs.{needs}
 use Rattle.residuals.proofs.sums.smooth_turn.Statement.{statement}
 use Rattle.residuals.proofs.sums.smooth_turn.Tie as tie
 
 returns : tie.Need-returns
-unfolding Sums.smoothOf Ieee.ofBits
-returns c = rw (c .norm3 .ensures, c .before .scale3 .ensures, c .before .before .sub3 .ensures)
+unfolding Sums.smoothOf Ieee.ofBits nodeFrom
+returns c = rw (c .norm3 .ensures, c .before .scale3 .ensures, c .before .before .sub3 .ensures, c .before .before .before .rate-in2 .ensures, c .before .before .before .before .rate-in .ensures)
 
 pub smooth-turn-spec : {M : Type 1} → statement M
-smooth-turn-spec = tie.close (tie.spec (λ c κs. search needs) (λ c κs. search needs) (λ c κs. search needs) returns)
+smooth-turn-spec =
+    tie.close
+    (tie.spec
+    (λ c κs. search needs)
+    (λ c κs. search needs)
+    (λ c κs. search needs)
+    (λ c κs. search needs)
+    (λ c κs. search needs)
+    returns)

@@ -1,23 +1,38 @@
--- `residuals::terms::closing` meets its contract. Assumes nothing.
+-- `residuals::terms::closing` meets its contract: the five terms in order. Assumes nothing.
+use mathlib.Core.Path.{_≡_, refl, sym, ap, _∙_}
+use native.Mathlib.Omega.{arith}
 use lib.Ieee as Ieee
+use Rattle.forward.specs.Rows.{nodeFrom}
+use Rattle.forward.specs.RowLaws.{nodes-at}
 use Rattle.residuals.specs.Residuals as Residuals
 use borrow.Author.Needs.{needs}
 use Rattle.residuals.proofs.terms.closing.Statement.{statement}
 use Rattle.residuals.proofs.terms.closing.Tie as tie
 
+energy-requires : tie.Need-energy-requires
+unfolding Ieee.ofBits
+energy-requires c κs = let s = c .before .before .before .before .before .before .before .before .pre .1 .1 in ((s .few, s .long), s .energy)
+
+smooth-requires : tie.Need-smooth-requires
+unfolding Ieee.ofBits
+smooth-requires c κs = let s = c .before .before .before .before .before .before .before .before .before .before .before .pre .1 .1 in rw (c .changes .ensures) ((omega (arith, s .few), s .long), s .smooth)
+
 returns : tie.Need-returns
-unfolding Residuals.closing Ieee.ofBits
+unfolding Residuals.closing Ieee.ofBits nodeFrom
 returns c =
+    let start = c .before .before .before .before .before .before .before .before .before .before .before .before .before .before .before .before in
     rw (
-      c .before .before .before .before .before .before .before .before .sqrt .ensures,
-      c .before .before .before .before .before .before .weighted .ensures,
-      c .before .before .before .before .before .before .before .effort .ensures,
-      c .before .before .before .before .weighted2 .ensures,
-      c .before .before .before .before .before .energy .ensures,
-      c .before .before .weighted3 .ensures,
-      c .before .before .before .smooth .ensures,
+      c .before .before .sqrt .ensures,
+      c .before .before .before .before .before .before .before .before .weighted .ensures,
+      c .before .before .before .before .before .before .before .before .before .effort .ensures,
+      c .before .before .before .before .before .before .weighted2 .ensures,
+      c .before .before .before .before .before .before .before .energy .ensures,
+      c .before .before .before .weighted3 .ensures,
+      c .before .before .before .before .smooth .ensures,
       c .before .sqrt2 .ensures,
       c .stored .ensures,
+      c .before .before .before .before .before .before .before .before .before .before .momenta-in .ensures,
+      nodes-at (start .args .nodes .now) 16 (omega (arith, start .pre .1 .1 .long)),
     )
 
 pub closing-spec : {M : Type 1} → statement M
@@ -28,20 +43,22 @@ closing-spec =
     (λ c. search needs)
     (λ c. search needs)
     (λ c κs. search needs)
-    (λ c. search needs)
-    (λ c. search needs)
+    (λ c κs. search needs)
+    (λ c κs. search needs)
+    energy-requires
+    (λ c κs. search needs)
+    (λ c κs. search needs)
+    smooth-requires
     (λ c κs. search needs)
     (λ c κs. search needs)
     (λ c. search needs)
     (λ c. search needs)
     (λ c. search needs)
-    (λ c κs. search needs)
-    (λ c κs. search needs)
     (λ c. search needs)
     (λ c. search needs)
     (λ c. search needs)
-    (λ c κs. search needs)
-    (λ c κs. search needs)
+    (λ c. search needs)
+    (λ c. search needs)
     (λ c. search needs)
     (λ c. search needs)
     (λ c. search needs)

@@ -1,33 +1,48 @@
--- `residuals::terms::pointed` meets its contract. Assumes nothing.
-use Rattle.residuals.specs.PointLaws.{rows-next, rows-refused}
-use Rattle.residuals.specs.Residuals as Residuals
-use Rattle.common.specs.Iter.{iter, iter-none}
-use lib.ListN.{length}
-use mathlib.Core.Path.{_≡_}
-use Prim.Native.Nat.{_≤_, _-_}
+-- `residuals::terms::pointed` meets its contract: a turn is a node's rows, and a refused one ends them. Assumes nothing.
+use Prim.Native.Nat.{_+_, _-_, _≤_}
+use mathlib.Core.Path.{_≡_, refl, sym, ap, _∙_}
 use native.Mathlib.Omega.{arith}
+use Rattle.common.specs.Iter.{iter-none}
+use Rattle.geom.specs.declared.Rotation.{Rotation}
+use Rattle.forward.specs.Rows.{nodesFrom}
+use Rattle.residuals.specs.Residuals as Residuals
+use Rattle.residuals.specs.PointLaws.{Rows, rows-next, rows-refused}
 use borrow.Author.Needs.{needs}
 use Rattle.residuals.proofs.terms.pointed.Statement.{statement}
 use Rattle.residuals.proofs.terms.pointed.Tie as tie
 
 abbrev Inv-loop : tie.InvT-loop
-Inv-loop scale qf nodes out₀ k₀ out k = (k ≤ 17) × ((length out ≡ 79) × (Residuals.pointing out ≡ iter (Residuals.pointTurn scale nodes qf) (Residuals.pointing out₀) k))
+Inv-loop scale nodes qf k errors r₀ j₀ r j = (j ≤ 16) × Rows scale (nodesFrom nodes) qf r₀ (Residuals.pointing r) j
 
 abbrev μ-loop : tie.MeasureT-loop
-μ-loop scale qf nodes out₀ k₀ out k = 17 - k
+μ-loop scale nodes qf k errors r₀ j₀ r j = 16 - j
 
 loop-holds : tie.Need-loop-holds Inv-loop μ-loop
-loop-holds c = (search needs, (search needs, iter-none _ _))
+loop-holds c = (omega arith, iter-none _ _)
+
+error-at-requires : tie.Need-error-at-requires Inv-loop μ-loop
+error-at-requires c κs = (c .loop-test .taken, c .before .before .pre)
 
 returns : tie.Need-returns Inv-loop μ-loop
-returns c = rows-refused _ _ _ _ (c .before .before .before .before .before .before .loop .k) (c .before .before .before .before .before .before .loop .out) (omega arith) (c .before .before .before .before .before .before .loop .inv .1 .1) (c .before .before .point .ensures) (c .enum-told .given .1)
+returns c =
+    let t = c .before .before in
+    let f = t .before .before in
+    let l = f .before .before .loop in
+    let a = f .before .before .before .args in
+    let next = rows-next (a .scale) (nodesFrom (a .nodes .now)) (a .qf) (a .r .now) (l .j) (l .r) (l .inv .1) (t .point .ensures ∙ ap (λ (e : Rotation). Residuals.pointBy e (a .scale) (l .j) (l .r)) (f .error-at .ensures)) in
+    rw (c .enum-told .given .1) (rows-refused (a .scale) (nodesFrom (a .nodes .now)) (a .qf) (a .r .now) (l .j + 1) 16 _ _ (omega arith) (rw (c .enum-told .given .1) at next))
 
 loop-again : tie.Need-loop-again Inv-loop μ-loop
-loop-again c = (search needs, (search needs, rows-next _ _ _ _ (c .before .before .before .before .before .before .before .loop .k) (c .before .before .before .before .before .before .before .loop .out) (c .before .before .before .before .before .before .before .loop .inv .1 .1) (c .before .before .before .point .ensures) (c .before .enum-told2 .given .1)))
+loop-again c =
+    let t = c .before .before in
+    let f = t .before .before in
+    let l = f .before .before .loop in
+    let a = f .before .before .before .args in
+    let next = rows-next (a .scale) (nodesFrom (a .nodes .now)) (a .qf) (a .r .now) (l .j) (l .r) (l .inv .1) (t .point .ensures ∙ ap (λ (e : Rotation). Residuals.pointBy e (a .scale) (l .j) (l .r)) (f .error-at .ensures)) in
+    (omega arith, rw (c .enum-told2 .given .1) at next)
 
 returns-2 : tie.Need-returns-2 Inv-loop μ-loop
-unfolding Residuals.pointed
-returns-2 c = let e : c .before .loop .k ≡ 17 = omega arith in rw e at (c .before .loop .inv .1 .1)
+returns-2 c = let e : c .before .loop .j ≡ 16 = omega arith in rw e at (c .before .loop .inv .1)
 
 pub pointed-spec : {M : Type 1} → statement M
 pointed-spec =
@@ -36,8 +51,7 @@ pointed-spec =
     Inv-loop
     μ-loop
     loop-holds
-    (λ c. search needs)
-    (λ c. search needs)
+    error-at-requires
     (λ c κs. search needs)
     (λ c. search needs)
     returns

@@ -1,31 +1,43 @@
--- `residuals::terms::with_pointing` meets its contract. Assumes nothing.
-use Rattle.residuals.specs.Residuals as Residuals
-use mathlib.Core.Path.{_≡_, _∙_, ap}
+-- `residuals::terms::with_pointing` meets its contract: the first 16 nodes' rows, the last one's by the error at the end, and the closing terms. Assumes nothing.
+use mathlib.Core.Path.{_≡_, refl, sym, ap, _∙_}
+use native.Mathlib.Omega.{arith}
 use lib.Ieee as Ieee
+use Rattle.residuals.specs.PointLaws.{with-refused, with-going}
 use borrow.Author.Needs.{needs}
 use Rattle.residuals.proofs.terms.with_pointing.Statement.{statement}
 use Rattle.residuals.proofs.terms.with_pointing.Tie as tie
 
+pointed-requires : tie.Need-pointed-requires
+pointed-requires c κs = let pre = c .before .before .before .before .before .before .pre in (pre .1 .0 .long, pre .1 .1 .kept)
+
 returns : tie.Need-returns
-unfolding Residuals.withPointing Ieee.ofBits
+unfolding Ieee.ofBits
 returns c =
-    let e : c .before .before .pointed .result ≡ Residuals.pointed (Residuals.pointScale (c .before .before .before .before .before .before .before .before .args .t .weights)) (c .before .before .before .before .before .before .before .before .args .nodes) (c .before .before .before .before .before .before .before .before .args .t .qf) (c .before .before .before .before .before .before .before .before .args .r) = c .before .before .pointed .ensures ∙ ap (λ (x : Ieee.Float). Residuals.pointed x (c .before .before .before .before .before .before .before .before .args .nodes) (c .before .before .before .before .before .before .before .before .args .t .qf) (c .before .before .before .before .before .before .before .before .args .r)) (c .before .before .before .sqrt .ensures) in
-    rw (← e, c .enum-told .given .1)
+    let t = c .before .before .before .before in
+    c .refused-residuals .ensures ∙ with-refused _ _ _ _ _ _ (rw (t .before .before .sqrt .ensures) at (rw (c .before .before .fate .given .1) at (t .pointed .ensures)))
+
+closing-requires : tie.Need-closing-requires
+closing-requires c κs = let pre = c .before .before .before .before .before .before .before .before .before .before .before .before .before .pre in (omega arith, (pre .0, pre .1 .0))
 
 returns-2 : tie.Need-returns-2
-unfolding Residuals.withPointing Ieee.ofBits
+unfolding Ieee.ofBits
 returns-2 c =
-    let e : c .before .before .before .before .pointed .result ≡ Residuals.pointed (Residuals.pointScale (c .before .before .before .before .before .before .before .before .before .before .args .t .weights)) (c .before .before .before .before .before .before .before .before .before .before .args .nodes) (c .before .before .before .before .before .before .before .before .before .before .args .t .qf) (c .before .before .before .before .before .before .before .before .before .before .args .r) = c .before .before .before .before .pointed .ensures ∙ ap (λ (x : Ieee.Float). Residuals.pointed x (c .before .before .before .before .before .before .before .before .before .before .args .nodes) (c .before .before .before .before .before .before .before .before .before .before .args .t .qf) (c .before .before .before .before .before .before .before .before .before .before .args .r)) (c .before .before .before .before .before .sqrt .ensures) in
-    rw (← e, c .before .before .enum-told2 .given .1, c .closing .ensures)
+    let t = c .before .before .before .before .before .before .before in
+    let root = t .before .before .sqrt .ensures in
+    rw (c .closing .ensures, c .before .before .put3 .ensures, c .before .before .before .scale3 .ensures, root)
+    (with-going _ _ _ _ _ (t .before .before .before .before .before .before .before .args .error) (rw root at (rw (c .before .before .before .before .before .enum-told .given .1) at (t .pointed .ensures))) (t .before .before .before .before .before .before .before .pre .1 .1 .end))
 
 pub with-pointing-spec : {M : Type 1} → statement M
 with-pointing-spec =
     tie.close
     (tie.spec
     (λ c κs. search needs)
-    (λ c κs. search needs)
-    (λ c. search needs)
+    pointed-requires
     (λ c. search needs)
     (λ c κs. search needs)
     returns
+    (λ c. search needs)
+    (λ c κs. search needs)
+    (λ c κs. search needs)
+    closing-requires
     returns-2)

@@ -1,4 +1,5 @@
 -- `residuals::terms::without_pointing` meets its contract. Assumes nothing.
+use native.Mathlib.Omega.{arith}
 use Rattle.residuals.specs.Residuals as Residuals
 use borrow.Author.Needs.{needs}
 use Rattle.residuals.proofs.terms.without_pointing.Statement.{statement}
@@ -9,4 +10,8 @@ unfolding Residuals.withoutPointing
 returns c = rw (c .closing .ensures)
 
 pub without-pointing-spec : {M : Type 1} → statement M
-without-pointing-spec = tie.close (tie.spec (λ c κs. search needs) returns)
+without-pointing-spec =
+    tie.close
+    (tie.spec
+    (λ c κs. (omega arith, c .before .before .pre))
+    returns)

@@ -1,4 +1,4 @@
--- `scvx::columns::column` meets its contract: the slopes of the kept rows are the kept rows of the slopes. Assumes nothing.
+-- `scvx::columns::column` meets its contract: the sharing run answers the residuals, and the slopes of their kept rows are the kept rows of the slopes.
 use mathlib.Core.Path.{_≡_, refl, ap, sym, _∙_}
 use mathlib.Core.List.{List}
 use lib.ListN.{length}
@@ -14,14 +14,17 @@ use Rattle.scvx.proofs.columns.column.Statement.{statement}
 use Rattle.scvx.proofs.columns.column.Tie as tie
 
 abbrev start : tie.After-residuals-sharing → tie.Start
-start c = c .before .before .before .before
+start c = c .before .before .before .before .before
 
 -- the run is that of the nudged decision
 run : (c : tie.After-residuals-sharing) → c .residuals-sharing .result ≡ residualsOf (start c .args .p) (nudged (start c .args .p) (start c .args .z .now) (start c .args .c))
-run c = c .residuals-sharing .ensures ∙ ap (λ (z : List Float). residualsOf (start c .args .p) z) (c .before .before .nudged .ensures)
+run c = c .residuals-sharing .ensures .0 ∙ ap (λ (z : List Float). residualsOf (start c .args .p) z) (c .before .before .before .nudged .ensures)
 
 long : (c : tie.After-residuals-sharing) → length (c .residuals-sharing .result .r) ≡ 79
 long c = search needs
+
+residuals-sharing-requires : tie.Need-residuals-sharing-requires
+residuals-sharing-requires c κs = let pre = c .before .before .before .before .pre in (pre .0, (pre .1 .0, (pre .1 .1 .0, pre .1 .1 .1 .1 .1 .1)))
 
 gather-requires : tie.Need-gather-requires
 gather-requires c κs =
@@ -35,7 +38,9 @@ put-column-requires c κs =
     rw (c .before .kept .ensures) (omega (arith, kept-most (st .args .m) (width-laid (st .args .p) em), width-most (st .args .p), em), st .pre .1 .1 .1 .1 .1 .0)
 
 returns : tie.Need-returns
-returns c = (sym (c .before .fate .given .1) ∙ ap (λ (x : ResidualVector). x .fate) (run (c .before .before .before)), λ r0 g z. refl)
+returns c =
+    let s = c .before .before .before in
+    ((sym (c .before .fate .given .1) ∙ ap (λ (x : ResidualVector). x .fate) (run s), λ r0 g z. refl), s .residuals-sharing .ensures .1)
 
 returns-2 : tie.Need-returns-2
 returns-2 c =
@@ -44,8 +49,11 @@ returns-2 c =
     let em = start r .pre .1 .1 .1 .1 .0 in
     let gathered = rw (run r) at (c .before .before .before .before .before .before .before .gather .ensures) in
     let put = rw (c .before .before .before .before .kept .ensures) at (c .before .before .put-column .ensures) in (
-      sym (c .before .before .before .before .before .before .before .before .before .before .enum-told .given .1) ∙ ap (λ (x : ResidualVector). x .fate) (run r),
-      λ r0 g z. column-stands put (slopes-kept (a .m) _ r0 _ _ (width-laid (a .p) em) gathered g (width-zeros (a .p) (nudged (a .p) (a .z .now) (a .c)) em) z),
+      (
+        sym (c .before .before .before .before .before .before .before .before .before .before .enum-told .given .1) ∙ ap (λ (x : ResidualVector). x .fate) (run r),
+        λ r0 g z. column-stands put (slopes-kept (a .m) _ r0 _ _ (width-laid (a .p) em) gathered g (width-zeros (a .p) (nudged (a .p) (a .z .now) (a .c)) em) z),
+      ),
+      r .residuals-sharing .ensures .1,
     )
 
 pub column-spec : {M : Type 1} → statement M
@@ -53,7 +61,7 @@ column-spec =
     tie.close
     (tie.spec
     (λ c κs. search needs)
-    (λ c κs. search needs)
+    residuals-sharing-requires
     (λ c. search needs)
     (λ c. search needs)
     (λ c. search needs)

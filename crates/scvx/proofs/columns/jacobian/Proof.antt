@@ -1,4 +1,4 @@
--- `scvx::columns::jacobian` meets its contract: each turn of its loop puts one column more of the definition. Assumes nothing.
+-- `scvx::columns::jacobian` meets its contract: after c turns the first c columns stand, and the base run is kept in the lent rows.
 use Prim.Native.Nat.{_*_, _-_, _≤_}
 use mathlib.Core.Path.{_≡_, refl, sym, _∙_}
 use mathlib.Core.Logic.{⊎-elim}
@@ -16,11 +16,11 @@ use Rattle.scvx.proofs.columns.jacobian.Statement.{statement}
 use Rattle.scvx.proofs.columns.jacobian.Tie as tie
 
 abbrev Inv-loop : tie.InvT-loop
-Inv-loop p v₀ n m z controls front b₀ c₀ v b c =
-    (c ≤ n) × ((length v ≡ length v₀) × (((r0 : List Float) → Gathered m r0 front → Zeros m r0 → Front p m z r0 c v) × (SameFrom (n * kept m) v₀ v × Shared.Keeps p z b)))
+Inv-loop p v₀ n m z controls front nodes₀ errors₀ b₀ c₀ v nodes errors b c =
+    (c ≤ n) × ((length v ≡ length v₀) × (((r0 : List Float) → Gathered m r0 front → Zeros m r0 → Front p m z r0 c v) × (SameFrom (n * kept m) v₀ v × Shared.Holds p z b nodes errors)))
 
 abbrev μ-loop : tie.MeasureT-loop
-μ-loop p v₀ n m z controls front b₀ c₀ v b c = n - c
+μ-loop p v₀ n m z controls front nodes₀ errors₀ b₀ c₀ v nodes errors b c = n - c
 
 -- the residuals are gathered before the loop
 abbrev gathered : tie.After-base-start Inv-loop μ-loop → tie.After-gather Inv-loop μ-loop
@@ -36,55 +36,58 @@ gather-requires c κs =
     (width-laid (st .args .p) (st .pre .0 .m-is), omega (arith, st .pre .0 .m-most))
 
 loop-holds : tie.Need-loop-holds Inv-loop μ-loop
-loop-holds c = (search needs, (search needs, (λ r0 g z. front-none _ _ _ r0 _, (λ i h. refl, c .base-start .ensures _))))
+loop-holds c = (search needs, (search needs, (λ r0 g z. front-none _ _ _ r0 _, (λ i h. refl, (record { nodes = refl; errors = refl }, c .base-start .ensures _ _ _ refl)))))
 
 past-row-requires : tie.Need-past-row-requires Inv-loop μ-loop
 past-row-requires c κs = rw (gathered (c .before .before) .before .before .control-dim .ensures) (start (c .before .before) .pre .0 .narrow)
 
 base-next-requires : tie.Need-base-next-requires Inv-loop μ-loop
 base-next-requires c κs =
-    let s = start (c .before .before .before .before .before) .pre .0 in
-    (s .sized, (s .narrow, c .before .before .before .before .loop .inv .1 .1 .1 .1))
+    let l = c .before .before .before .before .before .before in
+    let s = start (l .before) .pre .0 in
+    (s .sized, (s .narrow, l .loop .inv .1 .1 .1 .1))
 
 column-requires : tie.Need-column-requires Inv-loop μ-loop
 column-requires c κs =
-    let j = c .before .before .before in
+    let j = c .before .before .before .before .before in
     let l = j .before .before .before .loop in
     let d = gathered (j .before .before .before .before) .before .before in
     let a = start (j .before .before .before .before) .args in
     let s = start (j .before .before .before .before) .pre .0 in
-    (s .sized, (s .narrow, (d .control-dim .ensures, (omega (arith, s .n-most), (s .m-is, (omega (arith, row-end (l .c) (a .n) (kept (a .m)) (omega arith), s .fits, l .inv .1 .0), ⊎-elim (λ w. rw (w .3) (w .2 .ensures)) (λ w. rw (w .1) (l .inv .1 .1 .1 .1)) (j .if1 .came)))))))
+    (s .sized, (s .narrow, (d .control-dim .ensures, (omega (arith, s .n-most), (s .m-is, (omega (arith, row-end (l .c) (a .n) (kept (a .m)) (omega arith), s .fits, l .inv .1 .0), ⊎-elim (λ w. rw (w .5, w .6, w .7) (w .4 .ensures)) (λ w. rw (w .1, w .2, w .3) (l .inv .1 .1 .1 .1)) (j .if1 .came)))))))
 
 returns : tie.Need-returns Inv-loop μ-loop
 returns c =
-    let first = c .before .before .before .before .before .before .before .before .before .before .before .before .before in
+    let first = c .before .before .before .before .before .before .before .before .before .before .before .before .before .before .before in
     let a = start first .args in
     let s = start first .pre .0 in
     let g = gathered first .gather .ensures in
     let z = start first .pre .1 in
-    let l = c .before .before .before .before .before .before .before .before .before .before .before .before .loop in
+    let l = c .before .before .before .before .before .before .before .before .before .before .before .before .before .before .loop in
     let t = c .before .before .before .before .before .column in
-    let past = left-past (a .p) (a .m) (a .t5) (a .r0) (l .c) (l .v) (l .inv .1 .1 .0 (a .r0) g z) (t .last .1 .1 .0) (t .result) (t .ensures .1 (a .r0) g z) (a .n * kept (a .m)) (row-end (l .c) (a .n) (kept (a .m)) (c .before .before .before .before .before .before .before .before .before .before .before .loop-test .taken)) in
-    (front-broken (a .p) (a .m) (a .t5) (a .r0) (l .c) (l .v) (l .inv .1 .1 .0 (a .r0) g z) (s .m-is) (omega (arith, s .n-is, c .before .before .before .before .before .before .before .before .before .before .before .loop-test .taken)) (sym (t .ensures .0) ∙ c .before .fate .given .1), λ i h. past i h ∙ l .inv .1 .1 .1 .0 i h)
+    let below = c .before .before .before .before .before .before .before .before .before .before .before .before .before .loop-test .taken in
+    let past = left-past (a .p) (a .m) (a .t5) (a .r0) (l .c) (l .v) (l .inv .1 .1 .0 (a .r0) g z) (t .last .1 .1 .0) (t .result) (t .ensures .0 .1 (a .r0) g z) (a .n * kept (a .m)) (row-end (l .c) (a .n) (kept (a .m)) (below)) in
+    (front-broken (a .p) (a .m) (a .t5) (a .r0) (l .c) (l .v) (l .inv .1 .1 .0 (a .r0) g z) (s .m-is) (omega (arith, s .n-is, below)) (sym (t .ensures .0 .0) ∙ c .before .fate .given .1), λ i h. past i h ∙ l .inv .1 .1 .1 .0 i h)
 
 loop-again : tie.Need-loop-again Inv-loop μ-loop
 loop-again c =
-    let first = c .before .before .before .before .before .before .before .before .before .before .before .before in
+    let first = c .before .before .before .before .before .before .before .before .before .before .before .before .before .before in
     let a = start first .args in
     let g = gathered first .gather .ensures in
     let z = start first .pre .1 in
-    let l = c .before .before .before .before .before .before .before .before .before .before .before .loop in
+    let l = c .before .before .before .before .before .before .before .before .before .before .before .before .before .loop in
     let t = c .before .before .before .before .column in
+    let below = c .before .before .before .before .before .before .before .before .before .before .before .before .loop-test .taken in
     let u = t .last .1 .1 .0 in
     let here = l .inv .1 .1 .0 (a .r0) g z in
-    let size = left-length (a .p) (a .m) (a .t5) (a .r0) (l .c) (l .v) here u (t .result) (t .ensures .1 (a .r0) g z) in
-    let past = left-past (a .p) (a .m) (a .t5) (a .r0) (l .c) (l .v) here u (t .result) (t .ensures .1 (a .r0) g z) (a .n * kept (a .m)) (row-end (l .c) (a .n) (kept (a .m)) (c .before .before .before .before .before .before .before .before .before .before .loop-test .taken)) in (
-      omega (arith, c .before .before .before .before .before .before .before .before .before .before .loop-test .taken),
+    let size = left-length (a .p) (a .m) (a .t5) (a .r0) (l .c) (l .v) here u (t .result) (t .ensures .0 .1 (a .r0) g z) in
+    let past = left-past (a .p) (a .m) (a .t5) (a .r0) (l .c) (l .v) here u (t .result) (t .ensures .0 .1 (a .r0) g z) (a .n * kept (a .m)) (row-end (l .c) (a .n) (kept (a .m)) (below)) in (
+      omega (arith, below),
       (
         size ∙ l .inv .1 .0,
         (
-          λ r0 h o. front-next (a .p) (a .m) (a .t5) r0 (l .c) (l .v) (l .inv .1 .1 .0 r0 h o) u (t .ensures .0) (c .enum-told .given .1) (t .ensures .1 r0 h o),
-          (λ i h. past i h ∙ l .inv .1 .1 .1 .0 i h, ⊎-elim (λ w. rw (w .3) (w .2 .ensures)) (λ w. rw (w .1) (l .inv .1 .1 .1 .1)) (c .before .before .before .before .before .before .before .before .if1 .came)),
+          λ r0 h o. front-next (a .p) (a .m) (a .t5) r0 (l .c) (l .v) (l .inv .1 .1 .0 r0 h o) u (t .ensures .0 .0) (c .enum-told .given .1) (t .ensures .0 .1 r0 h o),
+          (λ i h. past i h ∙ l .inv .1 .1 .1 .0 i h, t .ensures .1),
         ),
       ),
     )
@@ -114,7 +117,7 @@ jacobian-spec =
     base-next-requires
     column-requires
     (λ c. search needs)
-    (λ c. omega (arith, c .before .before .before .before .before .before .before .before .before .before .before .loop-test .taken, start (c .before .before .before .before .before .before .before .before .before .before .before .before .before) .pre .0 .n-most))
+    (λ c. omega (arith, c .before .before .before .before .before .before .before .before .before .before .before .before .before .loop-test .taken, start (c .before .before .before .before .before .before .before .before .before .before .before .before .before .before .before) .pre .0 .n-most))
     (λ c. search needs)
     returns
     (λ c. search needs)

@@ -1,0 +1,54 @@
+-- `forward::runs::run_into` meets its contract: the run from its start. Assumes nothing.
+use mathlib.Core.Path.{_≡_, refl, _∙_}
+use native.Mathlib.Omega.{arith}
+use lib.ListN.{length}
+use lib.Ieee as Ieee
+use Rattle.controls.specs.Sizes.{dim-sized}
+use Rattle.controls.specs.declared.WheelLaw.the-variants.{Once}
+use Rattle.forward.specs.Runs as Runs
+use Rattle.forward.specs.Launch.{launch-goes, launch-refused}
+use Rattle.forward.specs.PartLaws.{told, stands-first}
+use borrow.Author.Needs.{needs}
+use Rattle.forward.proofs.runs.run_into.Statement.{statement}
+use Rattle.forward.proofs.runs.run_into.Tie as tie
+
+start-requires : tie.Need-start-requires
+start-requires c κs = dim-sized Once _ (c .before .before .before .before .pre .0) .wheels
+
+run-on-requires : tie.Need-run-on-requires
+unfolding Runs.start Ieee.ofBits
+run-on-requires c κs =
+    let u = c .before .before .before in
+    let l = u .before .before .before in
+    let s = l .before in
+    let pre = s .before .before .before .before .before .pre in
+    let made = launch-goes _ (l .launch .ensures) (c .before .enum-told2 .given .1) in
+    (pre .0, (pre .1 .0, (made .0, (rw (u .unbegun .ensures, s .start .ensures) (record { matrix = made .1; plus = tt }), omega arith))))
+
+returns : tie.Need-returns
+unfolding told Runs.runUnder Runs.start
+returns c = (launch-refused _ _ _ _ refl (c .before .before .before .before .before .launch .ensures) (c .enum-told .given .1), c .before .before .before .before .before .before .before .before .before .before .before .pre .1 .1)
+
+returns-2 : tie.Need-returns-2
+unfolding Runs.runUnder Ieee.ofBits
+returns-2 c =
+    let u = c .before .before .before .before in
+    let l = u .before .before .before in
+    let s = l .before in
+    let nodes = s .before .before .before .before .before .args .nodes .now in
+    let long = s .before .before .before .before .before .pre .1 .1 in
+    let whole = c .run-on .ensures .whole (s .start .result) (rw (u .unbegun .ensures) (stands-first _ _ _ (s .start .result) (l .launch .result .a) nodes long)) in
+    (rw (whole, s .start .ensures), c .run-on .ensures .size ∙ long)
+
+pub run-into-spec : {M : Type 1} → statement M
+run-into-spec =
+    tie.close
+    (tie.spec
+    start-requires
+    (λ c κs. search needs)
+    (λ c κs. search needs)
+    (λ c. search needs)
+    (λ c. search needs)
+    run-on-requires
+    returns
+    returns-2)
