@@ -8,14 +8,14 @@ use lib.ListN.{replicate}
 use Rattle.common.specs.Lists.{at}
 use Rattle.common.specs.declared.Fate.{Fate}
 use Rattle.common.specs.declared.Fate.the-variants.{Going, Refused}
-use Rattle.geom.specs.Vec.{row, minusOne, scale3, tensor, applyTensor}
+use Rattle.geom.specs.Vec.{row, plusZero, minusOne, scale3, tensor, applyTensor}
 use Rattle.geom.specs.Tensors.{invert3}
 use Rattle.actuators.specs.declared.CmgPyramid.{CmgPyramid}
 use Rattle.actuators.specs.declared.Cmgs.{Cmgs}
 use Rattle.actuators.specs.declared.Cmgs.the-variants.{Without, With}
 use Rattle.actuators.specs.declared.ActuatorMap.{ActuatorMap}
 use Rattle.actuators.specs.declared.Allocated.{Allocated}
-use Rattle.actuators.specs.Maps.{plusZero, isEmpty}
+use Rattle.actuators.specs.Maps.{isEmpty}
 use Rattle.actuators.specs.Pyramid.{rows, gram, pyramidA}
 
 -- ---- rows

@@ -6,5 +6,6 @@ pub mod Pyramid  -- the Jacobian of the gyro pyramid and its measure of singular
 pub mod Allocate  -- which controls give a body torque, and which actuators are served
 pub mod Answers  -- each answer as a value, or as a refusal with its number and place
 -- ---- laws
+pub mod MapLaws  -- the bounds of a sized map's counts
 pub mod ReadyLaws  -- what holds of a prepared map: the declared counts and gyros, limits that are finite and above 0
-pub mod Sizes  -- the bounds of a sized map's counts
+pub mod PyramidLaws  -- the skew's sine and cosine made once

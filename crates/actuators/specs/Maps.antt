@@ -3,11 +3,12 @@ use Prim.Native.Nat.{ℕ, _+_, _*_}
 use mathlib.Core.Bool.{Bool, true, false, cond, _&&_}
 use mathlib.Core.List.{List, [], _∷_}
 use lib.Dec.{eqb, leb}
-use lib.Ieee.{Float, nan, binary64, ofBits}
+use lib.Ieee.{Float, nan}
 use lib.ListN.{getD, replicate}
 use Rattle.common.specs.Lists.{at}
 use Rattle.common.specs.declared.Limit.{Limit}
 use Rattle.common.specs.declared.Limit.the-variants.{Nothing, At}
+use Rattle.geom.specs.Vec.{plusZero}
 use Rattle.actuators.specs.declared.Wheel.{Wheel}
 use Rattle.actuators.specs.declared.Thruster.{Thruster}
 use Rattle.actuators.specs.declared.CmgPyramid.{CmgPyramid}
@@ -16,10 +17,6 @@ use Rattle.actuators.specs.declared.Cmgs.the-variants.{Without, With}
 use Rattle.actuators.specs.declared.Actuators.{Actuators}
 use Rattle.actuators.specs.declared.Power.{Power}
 use Rattle.actuators.specs.declared.ActuatorMap.{ActuatorMap}
-
--- 0.0
-abbrev pub plusZero : Float
-plusZero = ofBits binary64 0
 
 -- ---- blank values
 

@@ -4,7 +4,6 @@ use mathlib.Core.Bool.{Bool, true, false, cond, not, _||_}
 use mathlib.Core.List.{List}
 use lib.Dec.{ltb}
 use lib.Ieee.{Float, binary64, le, ofBits}
-use lib.Ieee.Scale.{finite}
 use lib.ListN.{set}
 use Rattle.common.specs.Iter.{iter}
 use Rattle.common.specs.declared.Limit.{Limit}
@@ -13,6 +12,7 @@ use Rattle.common.specs.declared.Fate.{Fate}
 use Rattle.common.specs.declared.Fate.the-variants.{Going, Refused}
 use Rattle.geom.specs.declared.Axis.{Axis}
 use Rattle.geom.specs.declared.Axis.the-variants.{Is, Not}
+use Rattle.geom.specs.Vec.{isPositive}
 use Rattle.geom.specs.Quats.{unit3}
 use Rattle.actuators.specs.declared.Wheel.{Wheel}
 use Rattle.actuators.specs.declared.Thruster.{Thruster}
@@ -22,13 +22,13 @@ use Rattle.actuators.specs.declared.Cmgs.the-variants.{Without, With}
 use Rattle.actuators.specs.declared.Actuators.{Actuators}
 use Rattle.actuators.specs.declared.ActuatorMap.{ActuatorMap}
 use Rattle.actuators.specs.declared.Prepared.{Prepared}
-use Rattle.actuators.specs.Maps.{plusZero, wheelAt, thrusterAt, blankMap, unfilled}
+use Rattle.actuators.specs.Maps.{wheelAt, thrusterAt, blankMap, unfilled}
 
 -- ---- numbers outside their range
 
 -- not finite, or not above 0
 unfoldable pub outside : Float → Bool
-outside x = not (finite x) || le x plusZero
+outside x = not (isPositive x)
 
 -- a declared power that is
 abbrev pub powerOutside : Limit → Bool

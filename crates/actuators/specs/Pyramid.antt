@@ -1,6 +1,5 @@
--- The Jacobian of a four-CMG pyramid and its measure of singularity, in the order of operations of actuators.rs; with the law of the skew made once.
+-- The Jacobian of a four-CMG pyramid and its measure of singularity, in the order of operations of actuators.rs. Definitions only.
 use Prim.Native.Nat.{ℕ}
-use mathlib.Core.Path.{_≡_, ap}
 use mathlib.Core.Bool.{false}
 use mathlib.Core.List.{List, [], _∷_}
 use lib.Ieee.{Float, binary64, add, mul, neg, inf}
@@ -11,14 +10,13 @@ use Rattle.common.specs.declared.Fate.the-variants.{Going, Refused}
 use Rattle.angles.specs.declared.Both.{Both}
 use Rattle.angles.specs.declared.Both.the-variants as Both
 use Rattle.angles.specs.Both.{bothOf}
-use Rattle.geom.specs.Vec.{row, det3}
+use Rattle.geom.specs.Vec.{row, plusZero, det3}
 use Rattle.actuators.specs.declared.Cmgs.{Cmgs}
 use Rattle.actuators.specs.declared.Cmgs.the-variants.{Without, With}
 use Rattle.actuators.specs.declared.ActuatorMap.{ActuatorMap}
 use Rattle.actuators.specs.declared.Jacobian.{Jacobian}
 use Rattle.actuators.specs.declared.Measure.{Measure}
 use Rattle.actuators.specs.declared.Measure.the-variants as Measure
-use Rattle.actuators.specs.Maps.{plusZero}
 
 -- ---- the Jacobian
 
@@ -63,11 +61,6 @@ skewed (Both.Are sg cg) d = pyramidFrom sg cg d
 -- the Jacobian A(δ) of a pyramid with this skew, such that the torque is -h A(δ) δ̇; or 11
 unfoldable pub pyramidA : Float → List Float → Jacobian
 pyramidA skew d = skewed (bothOf skew) d
-
--- the skew's sine and cosine may be made once: the Jacobian from them is the plain one
-pub pyramid-once : (skew sg cg : Float) (d : List Float) → bothOf skew ≡ Both.Are sg cg → pyramidA skew d ≡ pyramidFrom sg cg d
-unfolding pyramidA
-pyramid-once skew sg cg d e = ap (λ (b : Both). skewed b d) e
 
 -- ---- its measure
 

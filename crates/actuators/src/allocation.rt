@@ -1,7 +1,8 @@
 // Which controls give a body torque. Carried over from quatopsy-plan/src/actuators.rs (Apache-2.0), changed: the row is twenty numbers of which the first
 // `control_dim` count, a refusal is a number and a place.
 ghost use mathlib.Core.Path.{_≡_};
-ghost use Prim.Native.Nat.{_<_};
+ghost use Prim.Native.Nat.{_≤_, _<_};
+ghost use lib.ListN.{length};
 ghost use Rattle.actuators.specs.Allocate as Allocate;
 use crate::ActuatorMap;
 use crate::Allocated;
@@ -65,16 +66,10 @@ fn four(a: [[f64; 4]; 3], y: [f64; 3]) -> Allocated
     }
 }
 
-// The first three wheel axes as the columns of a matrix.
-fn wheel_columns(t: [f64; 24]) -> [[f64; 3]; 3]
-    ensures { λ r. ⌜ r ≡ Allocate.columns t ⌝ }
-{
-    [[t[0], t[3], t[6]], [t[1], t[4], t[7]], [t[2], t[5], t[8]]]
-}
-
-// The first three thruster axes as the columns of a matrix.
-fn thruster_columns(t: [f64; 36]) -> [[f64; 3]; 3]
-    ensures { λ r. ⌜ r ≡ Allocate.columns t ⌝ }
+// The first three axes of a table as the columns of a matrix.
+fn columns(t: &[f64]) -> [[f64; 3]; 3]
+    requires { ⌜ 9 ≤ length (now t) ⌝ }
+    ensures { λ r. ⌜ r ≡ Allocate.columns (now (t .entry)) ⌝ }
 {
     [[t[0], t[3], t[6]], [t[1], t[4], t[7]], [t[2], t[5], t[8]]]
 }
@@ -126,10 +121,7 @@ fn pyramid_alone(pyramid: CmgPyramid, tau: [f64; 3]) -> Allocated
 fn alone(count: usize, others: usize) -> bool
     ensures { λ r. ⌜ r ≡ Allocate.alone count others ⌝ }
 {
-    if count < 3 {
-        return false;
-    }
-    others == 0
+    (count >= 3) & (others == 0)
 }
 
 // Wheels or thrusters, with no pyramid.
@@ -140,11 +132,11 @@ fn axes_alone(map: ActuatorMap, tau: [f64; 3]) -> Allocated
     let thruster_count = map.thruster_count;
     if alone(wheel_count, thruster_count) {
         let wheel_axes = map.wheel_axes;
-        return along_axes(wheel_columns(wheel_axes), scale3(tau, -1.0));
+        return along_axes(columns(&wheel_axes), scale3(tau, -1.0));
     }
     if alone(thruster_count, wheel_count) {
         let thruster_axes = map.thruster_axes;
-        return along_axes(thruster_columns(thruster_axes), tau);
+        return along_axes(columns(&thruster_axes), tau);
     }
     unserved(8, 0)
 }
@@ -160,13 +152,11 @@ pub fn allocate_body_torque(map: ActuatorMap, tau: [f64; 3]) -> Allocated
     match cmgs {
         Cmgs::Without => axes_alone(map, tau),
         Cmgs::With(pyramid) => {
-            if map.wheel_count != 0 {
-                return unserved(8, 0);
+            if (map.wheel_count == 0) & (map.thruster_count == 0) {
+                pyramid_alone(pyramid, tau)
+            } else {
+                unserved(8, 0)
             }
-            if map.thruster_count != 0 {
-                return unserved(8, 0);
-            }
-            pyramid_alone(pyramid, tau)
         }
     }
 }

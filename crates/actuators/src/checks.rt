@@ -1,7 +1,8 @@
 // Preparing what a user declares: counts, then each actuator's numbers and its axis, in the order in which they are declared.
 // Carried over from quatopsy-plan/src/actuators.rs (Apache-2.0), changed: the prepared actuators go into flat tables, a refusal is a number and a place.
 ghost use mathlib.Core.Path.{_≡_};
-ghost use Prim.Native.Nat.{_≤_, _<_};
+ghost use Prim.Native.Nat.{_+_, _*_, _≤_, _<_};
+ghost use lib.ListN.{length};
 ghost use Rattle.actuators.specs.Prepare as Prepare;
 use crate::ActuatorMap;
 use crate::Actuators;
@@ -15,15 +16,15 @@ use crate::blank_map;
 use crate::unfilled;
 use common::Fate;
 use common::Limit;
-use float::is_finite;
 use geom::Axis;
+use geom::is_positive;
 use geom::unit3;
 
 // Not finite, or not above 0.
 fn outside(x: f64) -> bool
     ensures { λ r. ⌜ r ≡ Prepare.outside x ⌝ }
 {
-    if is_finite(x) { x <= 0.0 } else { true }
+    !is_positive(x)
 }
 
 // A declared power that is not finite and above 0.
@@ -40,33 +41,19 @@ fn power_outside(power: Limit) -> bool
 fn wheel_outside(wheel: Wheel) -> bool
     ensures { λ r. ⌜ r ≡ Prepare.wheelOutside wheel ⌝ }
 {
-    if outside(wheel.max_torque_nm) {
-        return true;
-    }
-    if outside(wheel.max_momentum_nms) {
-        return true;
-    }
     let power = wheel.max_power_w;
-    power_outside(power)
+    outside(wheel.max_torque_nm) | outside(wheel.max_momentum_nms) | power_outside(power)
 }
 
 // One of a pyramid's numbers is outside its range.
 fn pyramid_outside(pyramid: CmgPyramid) -> bool
     ensures { λ r. ⌜ r ≡ Prepare.pyramidOutside pyramid ⌝ }
 {
-    if outside(pyramid.skew_rad) {
-        return true;
-    }
-    if pyramid.skew_rad >= 1.6 {
-        return true;
-    }
-    if outside(pyramid.wheel_momentum_nms) {
-        return true;
-    }
-    if outside(pyramid.max_gimbal_rate_rad_s) {
-        return true;
-    }
-    outside(pyramid.singularity_eps)
+    outside(pyramid.skew_rad)
+        | (pyramid.skew_rad >= 1.6)
+        | outside(pyramid.wheel_momentum_nms)
+        | outside(pyramid.max_gimbal_rate_rad_s)
+        | outside(pyramid.singularity_eps)
 }
 
 // A refusal, with the blank map.
@@ -90,6 +77,16 @@ fn going(map: ActuatorMap) -> Prepared
     }
 }
 
+// Axis k of a flat table becomes x, y, z.
+fn put_axis(axes: &mut [f64], k: usize, x: f64, y: f64, z: f64)
+    requires { ⌜ 3 * k + 3 ≤ length (now axes) ⌝ }
+    ensures { λ _. ⌜ now (axes .exit) ≡ Prepare.axisSet (now (axes .entry)) k x y z ⌝ }
+{
+    axes[3 * k] = x;
+    axes[3 * k + 1] = y;
+    axes[3 * k + 2] = z;
+}
+
 // Wheel k goes into the tables, with its unit axis.
 fn with_wheel(map: ActuatorMap, k: usize, wheel: Wheel, x: f64, y: f64, z: f64) -> ActuatorMap
     requires { ⌜ k < 8 ⌝ }
@@ -97,9 +94,7 @@ fn with_wheel(map: ActuatorMap, k: usize, wheel: Wheel, x: f64, y: f64, z: f64) 
 {
     let cmgs = map.cmgs;
     let mut wheel_axes = map.wheel_axes;
-    wheel_axes[3 * k] = x;
-    wheel_axes[3 * k + 1] = y;
-    wheel_axes[3 * k + 2] = z;
+    put_axis(&mut wheel_axes, k, x, y, z);
     let mut wheel_torques = map.wheel_torques;
     wheel_torques[k] = wheel.max_torque_nm;
     let mut wheel_momenta = map.wheel_momenta;
@@ -122,32 +117,24 @@ fn with_wheel(map: ActuatorMap, k: usize, wheel: Wheel, x: f64, y: f64, z: f64) 
     }
 }
 
-// Wheel k is checked, its numbers before its axis, and goes into the tables.
-fn wheel_checked(map: ActuatorMap, k: usize, wheel: Wheel) -> Prepared
-    requires { ⌜ k < 8 ⌝ }
-    ensures { λ r. ⌜ r ≡ Prepare.wheelChecked map k wheel ⌝ }
-{
-    if wheel_outside(wheel) {
-        return refused(2, k);
-    }
-    let axis = wheel.axis;
-    let unit = unit3(axis);
-    match unit {
-        Axis::Not => refused(3, k),
-        Axis::Is(x, y, z) => going(with_wheel(map, k, wheel, x, y, z)),
-    }
-}
-
-// Wheel k, unless an actuator before it was refused.
+// Wheel k, unless an actuator before it was refused: its numbers are checked before its axis, then it goes into the tables.
 fn wheel_turn(prepared: Prepared, k: usize, wheel: Wheel) -> Prepared
     requires { ⌜ k < 8 ⌝ }
     ensures { λ r. ⌜ r ≡ Prepare.wheelNext k wheel prepared ⌝ }
 {
     let fate = prepared.fate;
+    let Fate::Going = fate else {
+        return prepared;
+    };
+    if wheel_outside(wheel) {
+        return refused(2, k);
+    }
+    let axis = wheel.axis;
     let map = prepared.map;
-    match fate {
-        Fate::Going => wheel_checked(map, k, wheel),
-        Fate::Refused(_, _) => prepared,
+    let unit = unit3(axis);
+    match unit {
+        Axis::Not => refused(3, k),
+        Axis::Is(x, y, z) => going(with_wheel(map, k, wheel, x, y, z)),
     }
 }
 
@@ -184,9 +171,7 @@ fn with_thruster(
     let wheel_momenta = map.wheel_momenta;
     let wheel_powers = map.wheel_powers;
     let mut thruster_axes = map.thruster_axes;
-    thruster_axes[3 * k] = x;
-    thruster_axes[3 * k + 1] = y;
-    thruster_axes[3 * k + 2] = z;
+    put_axis(&mut thruster_axes, k, x, y, z);
     let mut thruster_torques = map.thruster_torques;
     thruster_torques[k] = thruster.max_torque_nm;
     ActuatorMap {
@@ -202,32 +187,24 @@ fn with_thruster(
     }
 }
 
-// Thruster k is checked, its torque before its axis, and goes into the tables. Its place is 8 + k.
-fn thruster_checked(map: ActuatorMap, k: usize, thruster: Thruster) -> Prepared
-    requires { ⌜ k < 12 ⌝ }
-    ensures { λ r. ⌜ r ≡ Prepare.thrusterChecked map k thruster ⌝ }
-{
-    if outside(thruster.max_torque_nm) {
-        return refused(2, 8 + k);
-    }
-    let axis = thruster.torque_axis;
-    let unit = unit3(axis);
-    match unit {
-        Axis::Not => refused(3, 8 + k),
-        Axis::Is(x, y, z) => going(with_thruster(map, k, thruster, x, y, z)),
-    }
-}
-
-// Thruster k, unless an actuator before it was refused.
+// Thruster k, likewise: its torque, then its axis. Its place is 8 + k.
 fn thruster_turn(prepared: Prepared, k: usize, thruster: Thruster) -> Prepared
     requires { ⌜ k < 12 ⌝ }
     ensures { λ r. ⌜ r ≡ Prepare.thrusterNext k thruster prepared ⌝ }
 {
     let fate = prepared.fate;
+    let Fate::Going = fate else {
+        return prepared;
+    };
+    if outside(thruster.max_torque_nm) {
+        return refused(2, 8 + k);
+    }
+    let axis = thruster.torque_axis;
     let map = prepared.map;
-    match fate {
-        Fate::Going => thruster_checked(map, k, thruster),
-        Fate::Refused(_, _) => prepared,
+    let unit = unit3(axis);
+    match unit {
+        Axis::Not => refused(3, 8 + k),
+        Axis::Is(x, y, z) => going(with_thruster(map, k, thruster, x, y, z)),
     }
 }
 
@@ -246,10 +223,15 @@ fn thrusters_checked(thrusters: [Thruster; 12], count: usize, start: Prepared) -
     prepared
 }
 
-// The pyramid's numbers, at place 20.
-fn cmgs_checked(cmgs: Cmgs, map: ActuatorMap) -> Prepared
-    ensures { λ r. ⌜ r ≡ Prepare.cmgsChecked cmgs map ⌝ }
+// The pyramid's numbers, at place 20, unless an actuator before it was refused.
+fn cmgs_turn(prepared: Prepared, cmgs: Cmgs) -> Prepared
+    ensures { λ r. ⌜ r ≡ Prepare.cmgsNext cmgs prepared ⌝ }
 {
+    let fate = prepared.fate;
+    let Fate::Going = fate else {
+        return prepared;
+    };
+    let map = prepared.map;
     match cmgs {
         Cmgs::Without => going(map),
         Cmgs::With(pyramid) => {
@@ -259,18 +241,6 @@ fn cmgs_checked(cmgs: Cmgs, map: ActuatorMap) -> Prepared
                 going(map)
             }
         }
-    }
-}
-
-// The pyramid, unless an actuator before it was refused.
-fn cmgs_turn(prepared: Prepared, cmgs: Cmgs) -> Prepared
-    ensures { λ r. ⌜ r ≡ Prepare.cmgsNext cmgs prepared ⌝ }
-{
-    let fate = prepared.fate;
-    let map = prepared.map;
-    match fate {
-        Fate::Going => cmgs_checked(cmgs, map),
-        Fate::Refused(_, _) => prepared,
     }
 }
 

@@ -1,5 +1,6 @@
 // What a user declares of wheels, thrusters and a CMG pyramid, and the map that the solver reads. Axes are body-fixed.
-// Carried over from quatopsy-plan/src/actuators.rs (Apache-2.0), changed: lists are arrays with a count, prepared actuators are flat tables, a refusal is a number and a place.
+// Carried over from quatopsy-plan/src/actuators.rs (Apache-2.0), changed: lists are arrays with a count, prepared actuators are flat tables, a refusal is a
+// number and a place.
 ghost use mathlib.Core.Path.{_≡_};
 ghost use Rattle.actuators.specs.Maps as Maps;
 use common::Fate;
@@ -177,31 +178,29 @@ pub fn gimbals(cmgs: Cmgs) -> usize
     }
 }
 
-// No wheels, no thrusters, no pyramid.
-pub fn is_empty(map: ActuatorMap) -> bool
-    ensures { λ r. ⌜ r ≡ Maps.isEmpty map ⌝ }
+// There is no pyramid.
+pub fn no_cmgs(cmgs: Cmgs) -> bool
+    ensures { λ r. ⌜ r ≡ Maps.noCmgs cmgs ⌝ }
 {
-    if map.wheel_count != 0 {
-        return false;
-    }
-    if map.thruster_count != 0 {
-        return false;
-    }
-    let cmgs = map.cmgs;
     match cmgs {
         Cmgs::Without => true,
         Cmgs::With(_) => false,
     }
 }
 
+// No wheels, no thrusters, no pyramid.
+pub fn is_empty(map: ActuatorMap) -> bool
+    ensures { λ r. ⌜ r ≡ Maps.isEmpty map ⌝ }
+{
+    let cmgs = map.cmgs;
+    (map.wheel_count == 0) & (map.thruster_count == 0) & no_cmgs(cmgs)
+}
+
 // Both counts are within the tables.
 pub fn is_sized(map: ActuatorMap) -> bool
     ensures { λ r. ⌜ r ≡ Maps.isSized map ⌝ }
 {
-    if map.wheel_count > 8 {
-        return false;
-    }
-    map.thruster_count <= 12
+    (map.wheel_count <= 8) & (map.thruster_count <= 12)
 }
 
 // Controls per row: 3 body torques with no actuators, else one a wheel, one a thruster and four of a pyramid.

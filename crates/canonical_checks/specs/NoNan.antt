@@ -5,9 +5,10 @@ use native.Mathlib.Nat.{add-zero}
 use mathlib.Core.Path.{_≡_, refl, sym, _∙_}
 use mathlib.Core.Bool.{Bool, true, false, cond, not, _&&_, _||_}
 use mathlib.Core.List.{List, [], _∷_, _++_, map}
+use borrow.Author.Tests.{not-false}
 use lib.Dec.{T, ltb}
 use lib.ListN.{getD}
-use lib.Ieee.{Float, nan, inf, fin, lt, le, ofBits, ofFields}
+use lib.Ieee.{Float, nan, inf, fin, lt, ofBits, ofFields}
 use lib.Ieee.Scale.{finite}
 use Rattle.common.specs.Iter.{iter}
 use Rattle.common.specs.Lists.{at}
@@ -21,9 +22,9 @@ use Rattle.laws.specs.Below.{below-next}
 use Rattle.geom.specs.declared.Normal.{Normal}
 use Rattle.geom.specs.declared.Normal.the-variants as Normal
 use Rattle.geom.specs.declared.Quat.{Quat}
-use Rattle.geom.specs.Vec.{tensor, det3, minor, plusZero}
+use Rattle.geom.specs.Vec.{tensor, det3, minor, plusZero, one, isPositive}
 use Rattle.geom.specs.Quats.{norm3, normalized, finiteQ, unit3, unitBy, least}
-use Rattle.geom.specs.Tensors.{invertSpd, isSpd, symmetric, definite, isPositive}
+use Rattle.geom.specs.Tensors.{invertSpd, isSpd, symmetric, definite}
 use Rattle.actuators.specs.declared.Wheel.{Wheel}
 use Rattle.actuators.specs.declared.Thruster.{Thruster}
 use Rattle.actuators.specs.declared.Cmgs.{Cmgs}
@@ -32,7 +33,6 @@ use Rattle.actuators.specs.declared.Actuators.{Actuators}
 use Rattle.actuators.specs.declared.ActuatorMap.{ActuatorMap}
 use Rattle.actuators.specs.declared.Prepared.{Prepared}
 use Rattle.actuators.specs.Maps.{wheelAt, thrusterAt, unfilled}
-use Rattle.actuators.specs.Maps as Maps
 use Rattle.actuators.specs.Prepare as Prepare
 use Rattle.problem.specs.declared.Problem.{Problem}
 use Rattle.problem.specs.Starts.{checkStarts}
@@ -70,9 +70,12 @@ denied false e = let z : _≡_ {A = ℕ} 0 1 = cc in absurd (omega arith)
 never : {n place : ℕ} {A : Type 0} → Refused n place ≡ Going → A
 never e = let z : _≡_ {A = ℕ} 0 1 = cc in absurd (omega arith)
 
+positive-finite : (x : Float) → isPositive x ≡ true → T (finite x)
+positive-finite x h = yes-is (finite x) (both (finite x) (lt plusZero x) h .0)
+
 inside : (x : Float) → Prepare.outside x ≡ false → T (finite x)
 unfolding Prepare.outside
-inside x e = denied (finite x) (neither (not (finite x)) (le x Maps.plusZero) e .0)
+inside x e = positive-finite x (not-false (isPositive x) e)
 
 -- ---- actuators
 
@@ -194,7 +197,7 @@ inertia-finite j h = go (symmetric j && definite j) refl
         let n = minor (at (getD j 0 []) 0) (at (getD j 1 []) 1) (at (getD j 0 []) 1) (at (getD j 1 []) 0) in
         let m = both (isPositive a) (isPositive n && isPositive (det3 j)) d .1 in
         let p = both (isPositive n) (isPositive (det3 j)) m .1 in
-        yes-is (finite (det3 j)) (both (lt plusZero (det3 j)) (finite (det3 j)) p .1)
+        positive-finite (det3 j) (p .1)
     go false e = never (rw e at h)
 
 abbrev FiniteQ : Quat → Type 0
@@ -212,9 +215,6 @@ attitude tol q r h = go (finiteQ q) refl
         (yes-is (finite (q .w)) (a .0), yes-is (finite (q .x)) (b .0), yes-is (finite (q .y)) (c .0), yes-is (finite (q .z)) (c .1))
     go false e = let w : Normal.Not ≡ Normal.Is r = rw e at h in let z : _≡_ {A = ℕ} 0 1 = cc in absurd (omega arith)
 
-positive-finite : (x : Float) → Problems.isPositive x ≡ true → T (finite x)
-positive-finite x h = yes-is (finite x) (both (finite x) (lt Problems.plusZero x) h .0)
-
 slew-sane : (l : Limit) (rest : List Piece) → Problems.limitFits l ≡ true → Sane rest → Sane (limit l ∷ rest)
 slew-sane Nothing rest h k = k
 slew-sane (At x) rest h k = (positive-finite x h, k)
@@ -222,9 +222,9 @@ slew-sane (At x) rest h k = (positive-finite x h, k)
 -- between 0 and 1 is finite
 tolerance-finite : (x : Float) → Problems.toleranceFits x ≡ true → T (finite x)
 unfolding lt ofBits ofFields
-tolerance-finite x h = by x (both (lt Problems.plusZero x) (lt x Problems.one) h .0) (both (lt Problems.plusZero x) (lt x Problems.one) h .1)
+tolerance-finite x h = by x (both (lt plusZero x) (lt x one) h .0) (both (lt plusZero x) (lt x one) h .1)
   where
-    by : (x : Float) → lt Problems.plusZero x ≡ true → lt x Problems.one ≡ true → T (finite x)
+    by : (x : Float) → lt plusZero x ≡ true → lt x one ≡ true → T (finite x)
     by nan a b = let z : _≡_ {A = ℕ} 0 1 = cc in absurd (omega arith)
     by (inf true) a b = let z : _≡_ {A = ℕ} 0 1 = cc in absurd (omega arith)
     by (inf false) a b = let z : _≡_ {A = ℕ} 0 1 = cc in absurd (omega arith)
@@ -232,7 +232,7 @@ tolerance-finite x h = by x (both (lt Problems.plusZero x) (lt x Problems.one) h
     by (fin false m e) a b = tt
 
 weights-finite : (x : Float) → Problems.weightFits x ≡ true → T (finite x)
-weights-finite x h = yes-is (finite x) (both (finite x) (not (lt x Problems.plusZero)) h .0)
+weights-finite x h = yes-is (finite x) (both (finite x) (not (lt x plusZero)) h .0)
 
 nums-sane : (n k : ℕ) (v : List Float) (rest : List Piece) → ((i : ℕ) → i < n → T (finite (getD v (k + i) nan))) → Sane rest → Sane (nums (firsts nan k n v) rest)
 nums-sane zero k v rest h s = s
@@ -265,7 +265,7 @@ module _ (p : Problem) where
       let T₁ = Problems.toleranceFits (p .«norm_tolerance») in
       let T₂ = Problems.toleranceFits (p .«tie_tolerance») in
       let S = Problems.limitFits (p .slew) in
-      let A : ℕ → Bool = λ k. Problems.isPositive (at (p .«torque_limit») k) in
+      let A : ℕ → Bool = λ k. isPositive (at (p .«torque_limit») k) in
       let w = p .weights in
       let f₁ = Problems.weightFits (w .time) in
       let f₂ = Problems.weightFits (w .control) in

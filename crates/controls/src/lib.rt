@@ -1,36 +1,15 @@
-// What reads and writes a control row: the operations over whole maps here, what a forward run calls in every step in `inner`.
-// Carried over from quatopsy-plan/src/actuators.rs (Apache-2.0), changed: rows are lent slices, prepared actuators are flat tables, a refusal is a number and a place.
+// The operations on control rows that the specification names, over whole maps and every row.
+// Carried over from quatopsy-plan/src/actuators.rs (Apache-2.0), changed: rows are lent slices, prepared actuators are flat tables, a refusal is a number
+// and a place.
 ghost use mathlib.Core.Path.{_≡_};
 ghost use Prim.Native.Nat.{_≤_};
-ghost use Rattle.controls.specs.Operations as Operations;
-
-pub mod inner;
-
+ghost use Rattle.controls.specs.Controls as Controls;
 use actuators::ActuatorMap;
 use actuators::Cmgs;
 use actuators::Jacobian;
 use common::Fate;
-
-// How the wheels' stored momentum enters a step: its cross product with the rate stands once, in Euler's equations; or, as in the published Rust, in the
-// wheels' torque too.
-pub enum WheelLaw {
-    Once,
-    Published,
-}
-
-// Which actuators there are, counts of wheels and thrusters and the pyramid, and the law of the wheels' torque.
-pub struct Rig {
-    pub wheel_count: usize,
-    pub thruster_count: usize,
-    pub cmgs: Cmgs,
-    pub law: WheelLaw,
-}
-
-// A control held to its limit: the number, and whether holding changed it.
-pub struct Held {
-    pub x: f64,
-    pub changed: bool,
-}
+use control_rows::Rig;
+use control_rows::WheelLaw;
 
 // The torque of a row, or the refusal of the pyramid's matrix and zeros.
 pub struct Torque {
@@ -40,17 +19,17 @@ pub struct Torque {
 
 // The wheels that a list of n numbers reaches.
 fn paired(wheel_count: usize, n: usize) -> usize
-    ensures { λ r. ⌜ (r ≡ Operations.paired «wheel_count» n) × ((r ≤ 8) × (r ≤ n)) ⌝ }
+    ensures { λ r. ⌜ (r ≡ Controls.paired «wheel_count» n) × ((r ≤ 8) × (r ≤ n)) ⌝ }
 {
     if wheel_count > 8 {
         return 0;
     }
-    inner::fewer(wheel_count, n)
+    control_limits::fewer(wheel_count, n)
 }
 
 // Each wheel's rate of momentum: its control, 0 where the row has none.
 pub fn wheel_momentum_rates(map: ActuatorMap, u: &[f64]) -> [f64; 8]
-    ensures { λ r. ⌜ r ≡ Operations.wheelMomentumRates map (now (u .entry)) ⌝ }
+    ensures { λ r. ⌜ r ≡ Controls.wheelMomentumRates map (now (u .entry)) ⌝ }
 {
     let n = paired(map.wheel_count, u.len());
     let mut out = [0.0; 8];
@@ -64,35 +43,35 @@ pub fn wheel_momentum_rates(map: ActuatorMap, u: &[f64]) -> [f64; 8]
 
 // The momentum stored in the wheels, in the body's axes.
 pub fn body_momentum(map: ActuatorMap, wheel_momenta: &[f64]) -> [f64; 3]
-    ensures { λ r. ⌜ r ≡ Operations.bodyMomentum map (now («wheel_momenta» .entry)) ⌝ }
+    ensures { λ r. ⌜ r ≡ Controls.bodyMomentum map (now («wheel_momenta» .entry)) ⌝ }
 {
     let n = paired(map.wheel_count, wheel_momenta.len());
     let axes = map.wheel_axes;
-    inner::body_momentum(&axes, n, wheel_momenta)
+    control_rows::body_momentum(&axes, n, wheel_momenta)
 }
 
 // By how much a wheel's momentum passes its limit at most.
 pub fn momentum_excess(map: ActuatorMap, wheel_momenta: &[f64]) -> f64
-    ensures { λ r. ⌜ r ≡ Operations.momentumExcess map (now («wheel_momenta» .entry)) ⌝ }
+    ensures { λ r. ⌜ r ≡ Controls.momentumExcess map (now («wheel_momenta» .entry)) ⌝ }
 {
     let n = paired(map.wheel_count, wheel_momenta.len());
     let limits = map.wheel_momenta;
-    inner::momentum_excess(&limits, n, wheel_momenta)
+    control_limits::momentum_excess(&limits, n, wheel_momenta)
 }
 
 // By how much a wheel's power passes its declared limit at most.
 pub fn power_excess(map: ActuatorMap, u: &[f64], omega: [f64; 3]) -> f64
-    ensures { λ r. ⌜ r ≡ Operations.powerExcess map (now (u .entry)) omega ⌝ }
+    ensures { λ r. ⌜ r ≡ Controls.powerExcess map (now (u .entry)) omega ⌝ }
 {
     let n = paired(map.wheel_count, u.len());
     let axes = map.wheel_axes;
     let powers = map.wheel_powers;
-    inner::power_excess(&axes, powers, n, u, omega)
+    control_limits::power_excess(&axes, powers, n, u, omega)
 }
 
 // Which actuators a map has, under a law of their torque.
 pub fn rig_under(law: WheelLaw, map: ActuatorMap) -> Rig
-    ensures { λ r. ⌜ r ≡ Operations.rigUnder law map ⌝ }
+    ensures { λ r. ⌜ r ≡ Controls.rigUnder law map ⌝ }
 {
     let cmgs = map.cmgs;
     Rig {
@@ -105,7 +84,7 @@ pub fn rig_under(law: WheelLaw, map: ActuatorMap) -> Rig
 
 // Which actuators a map has.
 pub fn rig_of(map: ActuatorMap) -> Rig
-    ensures { λ r. ⌜ r ≡ Operations.rigOf map ⌝ }
+    ensures { λ r. ⌜ r ≡ Controls.rigOf map ⌝ }
 {
     rig_under(WheelLaw::Once, map)
 }
@@ -113,7 +92,7 @@ pub fn rig_of(map: ActuatorMap) -> Rig
 // The counts are within the tables, and n numbers are as wide as a row with so many gimbal rates.
 fn row_fits(r: Rig, gimbals: usize, n: usize) -> bool
     requires { ⌜ gimbals ≤ 4 ⌝ }
-    ensures { λ b. ⌜ b ≡ Operations.rowFits r gimbals n ⌝ }
+    ensures { λ b. ⌜ b ≡ Controls.rowFits r gimbals n ⌝ }
 {
     if r.wheel_count > 8 {
         return false;
@@ -121,7 +100,7 @@ fn row_fits(r: Rig, gimbals: usize, n: usize) -> bool
     if r.thruster_count > 12 {
         return false;
     }
-    if inner::is_bare(r) {
+    if control_rows::is_bare(r) {
         return 3 <= n;
     }
     r.wheel_count + r.thruster_count + gimbals <= n
@@ -129,7 +108,7 @@ fn row_fits(r: Rig, gimbals: usize, n: usize) -> bool
 
 // A row held to its limits; where it does not fit the map it stays as it is.
 pub fn project_controls(map: ActuatorMap, u: &mut [f64], torque_limit: [f64; 3])
-    ensures { λ z. ⌜ now (u .exit) ≡ Operations.projectControls map «torque_limit» (now (u .entry)) ⌝ }
+    ensures { λ z. ⌜ now (u .exit) ≡ Controls.projectControls map «torque_limit» (now (u .entry)) ⌝ }
 {
     let rig = rig_of(map);
     if !row_fits(rig, 0, u.len()) {
@@ -137,12 +116,12 @@ pub fn project_controls(map: ActuatorMap, u: &mut [f64], torque_limit: [f64; 3])
     }
     let wheels = map.wheel_torques;
     let thrusters = map.thruster_torques;
-    inner::project_row(rig, &wheels, &thrusters, torque_limit, u);
+    control_limits::project_row(rig, &wheels, &thrusters, torque_limit, u);
 }
 
 // The pyramid's matrix at these gimbal angles; without a pyramid zeros that nothing reads.
 fn matrix(cmgs: Cmgs, delta: [f64; 4]) -> Jacobian
-    ensures { λ r. ⌜ r ≡ Operations.matrix cmgs delta ⌝ }
+    ensures { λ r. ⌜ r ≡ Controls.matrix cmgs delta ⌝ }
 {
     match cmgs {
         Cmgs::Without => {
@@ -158,7 +137,7 @@ fn matrix(cmgs: Cmgs, delta: [f64; 4]) -> Jacobian
 
 // A torque, or the refusal of the matrix and zeros.
 fn torque_by(fate: Fate, tau: [f64; 3]) -> Torque
-    ensures { λ r. ⌜ r ≡ Operations.torqueBy fate tau ⌝ }
+    ensures { λ r. ⌜ r ≡ Controls.torqueBy fate tau ⌝ }
 {
     match fate {
         Fate::Going => Torque {
@@ -177,9 +156,9 @@ fn torque_by(fate: Fate, tau: [f64; 3]) -> Torque
 
 // How a row that does not fit the map ends: refused with no actuators, as in the Rust.
 fn short_row(r: Rig) -> Fate
-    ensures { λ f. ⌜ f ≡ Operations.shortRow r ⌝ }
+    ensures { λ f. ⌜ f ≡ Controls.shortRow r ⌝ }
 {
-    if inner::is_bare(r) {
+    if control_rows::is_bare(r) {
         return Fate::Refused(8, 0);
     }
     Fate::Going
@@ -194,7 +173,7 @@ pub fn body_torque(
     h: [f64; 3],
     delta: [f64; 4],
 ) -> Torque
-    ensures { λ r. ⌜ r ≡ Operations.bodyTorque map (now (u .entry)) omega h delta ⌝ }
+    ensures { λ r. ⌜ r ≡ Controls.bodyTorque map (now (u .entry)) omega h delta ⌝ }
 {
     let rig = rig_of(map);
     let cmgs = map.cmgs;
@@ -206,6 +185,6 @@ pub fn body_torque(
     let fate = made.fate;
     let wheels = map.wheel_axes;
     let thrusters = map.thruster_axes;
-    let tau = inner::row_torque(rig, &wheels, &thrusters, u, omega, h, a);
+    let tau = control_rows::row_torque(rig, &wheels, &thrusters, u, omega, h, a);
     torque_by(fate, tau)
 }

@@ -9,7 +9,7 @@ use Rattle.common.specs.Iter.{iter}
 use Rattle.common.specs.Lists.{at}
 use Rattle.geom.specs.Vec as Vec
 use Rattle.geom.specs.Vec.{row}
-use Rattle.geom.specs.Quats.{quatMul, conj, norm3, logSo3}
+use Rattle.geom.specs.Quats.{norm3, rotationBetween}
 use Rattle.geom.specs.Tensors.{invert3}
 use Rattle.geom.specs.declared.Rotation.{Rotation}
 use Rattle.geom.specs.declared.Rotation.the-variants as Rotation
@@ -18,7 +18,7 @@ use Rattle.actuators.specs.Pyramid as Pyramid
 use Rattle.actuators.specs.declared.CmgPyramid.{CmgPyramid}
 use Rattle.actuators.specs.declared.Cmgs.{Cmgs}
 use Rattle.actuators.specs.declared.Cmgs.the-variants.{Without, With}
-use Rattle.controls.specs.Operations as Operations
+use Rattle.controls.specs.Controls as Controls
 use Rattle.problem.specs.declared.CheckedProblem.{CheckedProblem}
 use Rattle.forward.specs.Steps.{rateDot, rateNext, gimbalsNext}
 use Rattle.eigenaxis_seed.specs.Shapes.{pace, rising, sixteen}
@@ -33,7 +33,7 @@ vectorOf (Rotation.By x y z) = x ∷ y ∷ z ∷ []
 
 -- the turn from q0 to qf as a rotation vector, the shorter way round; a half turn has one too, and no turn has zeros
 unfoldable pub turnOf : CheckedProblem → List Float
-turnOf p = vectorOf (logSo3 (quatMul (conj (p .q0)) (p .qf)))
+turnOf p = vectorOf (rotationBetween (p .q0) (p .qf))
 
 -- the rate that node i is to have, phi being the rotation vector and k the rising steps
 abbrev pub aim : Shape → ℕ → Float → List Float → ℕ → List Float
@@ -81,7 +81,7 @@ abbrev pub rowOf : CheckedProblem → List Float → List Float
 rowOf p torque = allocate (p .map) torque .u
 
 abbrev pub heldRow : CheckedProblem → List Float → List Float
-heldRow p u = Operations.projectControls (p .map) (p .«torque_limit») u
+heldRow p u = Controls.projectControls (p .map) (p .«torque_limit») u
 
 -- the wheels' momenta after a step of dt at these rates, which are +0 past the wheels
 abbrev pub charged : List Float → List Float → Float → List Float
@@ -99,17 +99,17 @@ charged hw rates dt =
 -- the rate at the end of a step with the row u
 unfoldable pub rateAfter : CheckedProblem → Float → List Float → Motion → List Float
 rateAfter p dt u m =
-    rateNext (m .w) (rateDot (p .inertia) (p .inverse) (m .w) (m .h) (Operations.bodyTorque (p .map) u (m .w) (m .h) (m .delta) .tau)) dt
+    rateNext (m .w) (rateDot (p .inertia) (p .inverse) (m .w) (m .h) (Controls.bodyTorque (p .map) u (m .w) (m .h) (m .delta) .tau)) dt
 
 -- the momenta at its end
 unfoldable pub momentaAfter : CheckedProblem → Float → List Float → Motion → List Float
-momentaAfter p dt u m = charged (m .hw) (Operations.wheelMomentumRates (p .map) u) dt
+momentaAfter p dt u m = charged (m .hw) (Controls.wheelMomentumRates (p .map) u) dt
 
 -- the motion after a step with the row u; a pyramid is served alone, so its rates are the row's first four
 abbrev pub follow : CheckedProblem → Float → List Float → Motion → Motion
 follow p dt u m = record {
   w = rateAfter p dt u m;
-  h = Operations.bodyMomentum (p .map) (momentaAfter p dt u m);
+  h = Controls.bodyMomentum (p .map) (momentaAfter p dt u m);
   hw = momentaAfter p dt u m;
   delta = gimbalsNext u (m .delta) dt;
 }
@@ -151,7 +151,7 @@ start p = record {
   fits = true;
   rates = replicate 51 Vec.plusZero;
   torques = replicate 51 Vec.plusZero;
-  motion = record { w = Vec.zero3; h = Operations.bodyMomentum (p .map) (p .momenta); hw = p .momenta; delta = replicate 4 Vec.plusZero };
+  motion = record { w = Vec.zero3; h = Controls.bodyMomentum (p .map) (p .momenta); hw = p .momenta; delta = replicate 4 Vec.plusZero };
 }
 
 abbrev pub turn : CheckedProblem → Shape → ℕ → Float → List Float → ℕ → Seeding → Seeding

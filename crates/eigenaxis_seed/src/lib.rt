@@ -42,7 +42,7 @@ pub fn turn_of(p: CheckedProblem) -> [f64; 3]
     ensures { λ r. ⌜ r ≡ Seeds.turnOf p ⌝ }
 {
     let q0 = p.q0;
-    let rotation = geom::log_so3(q0.conjugate().mul(p.qf));
+    let rotation = geom::rotation_between(q0, p.qf);
     match rotation {
         Rotation::Outside => [0.0; 3],
         Rotation::By(x, y, z) => [x, y, z],

@@ -6,18 +6,10 @@ use native.Mathlib.Omega.{arith}
 use Rattle.common.specs.Iter.{iter, iter-next, iter-stays}
 use Rattle.common.specs.declared.Fate.{Fate}
 use Rattle.common.specs.declared.Fate.the-variants.{Going, Refused}
-use Rattle.geom.specs.Quats.{conj, quatMul, logSo3}
-use Rattle.geom.specs.declared.Quat.{Quat}
-use Rattle.geom.specs.declared.Rotation.{Rotation}
 use Rattle.problem.specs.declared.CheckedProblem.{CheckedProblem}
 use Rattle.forward.specs.declared.Node.{Node}
 use Rattle.residuals.specs.Sums.{nodeAt}
-use Rattle.residuals.specs.Residuals.{errorOf}
 use Rattle.ends.specs.Ends as Ends
-
--- the end attitude error, in the code's steps
-pub error-is : (q qf : Quat) {a b : Quat} {x : Rotation} → a ≡ conj q → b ≡ quatMul a qf → x ≡ logSo3 b → x ≡ errorOf q qf
-error-is q qf e f g = rw (g, f, e) refl
 
 module _ (p : CheckedProblem) (ns : List Node) (k : ℕ) {f : Fate} (before : Going ≡ iter (Ends.nodeTurn p ns) Going k) (is : f ≡ Ends.nodeFate p (nodeAt ns k) k) where
   -- node k passes

@@ -13,7 +13,7 @@ use Rattle.geom.specs.Quats.{norm3}
 use Rattle.geom.specs.declared.Rotation.{Rotation}
 use Rattle.geom.specs.declared.Rotation.the-variants as Rotation
 use Rattle.actuators.specs.declared.ActuatorMap.{ActuatorMap}
-use Rattle.controls.specs.Limits.{momentumExcess}
+use Rattle.control_limits.specs.Limits.{momentumExcess}
 use Rattle.problem.specs.declared.CheckedProblem.{CheckedProblem}
 use Rattle.forward.specs.Steps.{slack}
 use Rattle.forward.specs.declared.Node.{Node}

@@ -28,7 +28,7 @@ fn over_momentum(map: ActuatorMap, hw: [f64; 8]) -> bool
     ensures { λ r. ⌜ r ≡ Ends.tooMuch map hw ⌝ }
 {
     let limits = map.wheel_momenta;
-    controls::inner::momentum_excess(&limits, map.wheel_count, &hw) > 1.0e-9
+    control_limits::momentum_excess(&limits, map.wheel_count, &hw) > 1.0e-9
 }
 
 // Torque, rate and momenta of node k against their limits.
@@ -97,7 +97,7 @@ pub fn end_checks(p: CheckedProblem, run: Run) -> Fate
     let nodes = run.nodes;
     let last = nodes[16];
     let q = last.q;
-    let error = geom::log_so3(q.conjugate().mul(p.qf));
+    let error = geom::rotation_between(q, p.qf);
     match error {
         Rotation::Outside => Fate::Refused(11, 0),
         Rotation::By(a, b, c) => {

@@ -7,7 +7,7 @@ ghost use Rattle.actuators.specs.Allocate as Allocate;
 ghost use Rattle.actuators.specs.Pyramid as Pyramid;
 ghost use Rattle.actuators.specs.Answers as Answers;
 ghost use Rattle.controls.specs.Answers.{ofTorque};
-ghost use Rattle.controls.specs.Operations as Operations;
+ghost use Rattle.controls.specs.Controls as Controls;
 ghost use Rattle.export_problem.specs.Declared as Declared;
 ghost use Rattle.export_leaves.specs.Outcomes as Outcomes;
 use super::paths::number_of;
@@ -74,8 +74,8 @@ pub extern "C" fn slew_body_torque(
     delta: &[f64; 4],
     out: &mut [f64; 3],
 ) -> usize
-    ensures { λ r. ⌜ r ≡ Outcomes.number (ofTorque (Operations.bodyTorque (Declared.map (now (c .entry)) (now (v .entry))) (now (u .entry)) (now (omega .entry)) (now (h .entry)) (now (delta .entry)))) ⌝ }
-    ensures { λ _. ⌜ now (out .exit) ≡ Operations.bodyTorque (Declared.map (now (c .entry)) (now (v .entry))) (now (u .entry)) (now (omega .entry)) (now (h .entry)) (now (delta .entry)) .tau ⌝ }
+    ensures { λ r. ⌜ r ≡ Outcomes.number (ofTorque (Controls.bodyTorque (Declared.map (now (c .entry)) (now (v .entry))) (now (u .entry)) (now (omega .entry)) (now (h .entry)) (now (delta .entry)))) ⌝ }
+    ensures { λ _. ⌜ now (out .exit) ≡ Controls.bodyTorque (Declared.map (now (c .entry)) (now (v .entry))) (now (u .entry)) (now (omega .entry)) (now (h .entry)) (now (delta .entry)) .tau ⌝ }
 {
     let map = map_of(c, v);
     let t = controls::body_torque(map, u, *omega, *h, *delta);
@@ -93,7 +93,7 @@ pub extern "C" fn slew_project_controls(
     u: &mut [f64],
     limit: &[f64; 3],
 )
-    ensures { λ _. ⌜ now (u .exit) ≡ Operations.projectControls (Declared.map (now (c .entry)) (now (v .entry))) (now (limit .entry)) (now (u .entry)) ⌝ }
+    ensures { λ _. ⌜ now (u .exit) ≡ Controls.projectControls (Declared.map (now (c .entry)) (now (v .entry))) (now (limit .entry)) (now (u .entry)) ⌝ }
 {
     let map = map_of(c, v);
     controls::project_controls(map, u, *limit);
@@ -158,7 +158,7 @@ pub extern "C" fn slew_power_excess(
     u: &[f64],
     omega: &[f64; 3],
 ) -> f64
-    ensures { λ r. ⌜ r ≡ Operations.powerExcess (Declared.map (now (c .entry)) (now (v .entry))) (now (u .entry)) (now (omega .entry)) ⌝ }
+    ensures { λ r. ⌜ r ≡ Controls.powerExcess (Declared.map (now (c .entry)) (now (v .entry))) (now (u .entry)) (now (omega .entry)) ⌝ }
 {
     let map = map_of(c, v);
     controls::power_excess(map, u, *omega)
@@ -171,7 +171,7 @@ pub extern "C" fn slew_momentum_excess(
     v: &[f64; 100],
     wheel_momenta: &[f64],
 ) -> f64
-    ensures { λ r. ⌜ r ≡ Operations.momentumExcess (Declared.map (now (c .entry)) (now (v .entry))) (now («wheel_momenta» .entry)) ⌝ }
+    ensures { λ r. ⌜ r ≡ Controls.momentumExcess (Declared.map (now (c .entry)) (now (v .entry))) (now («wheel_momenta» .entry)) ⌝ }
 {
     let map = map_of(c, v);
     controls::momentum_excess(map, wheel_momenta)
@@ -185,7 +185,7 @@ pub extern "C" fn slew_wheel_momentum_rates(
     u: &[f64],
     out: &mut [f64; 8],
 )
-    ensures { λ _. ⌜ now (out .exit) ≡ Operations.wheelMomentumRates (Declared.map (now (c .entry)) (now (v .entry))) (now (u .entry)) ⌝ }
+    ensures { λ _. ⌜ now (out .exit) ≡ Controls.wheelMomentumRates (Declared.map (now (c .entry)) (now (v .entry))) (now (u .entry)) ⌝ }
 {
     let map = map_of(c, v);
     *out = controls::wheel_momentum_rates(map, u);
@@ -199,7 +199,7 @@ pub extern "C" fn slew_body_momentum(
     wheel_momenta: &[f64],
     out: &mut [f64; 3],
 )
-    ensures { λ _. ⌜ now (out .exit) ≡ Operations.bodyMomentum (Declared.map (now (c .entry)) (now (v .entry))) (now («wheel_momenta» .entry)) ⌝ }
+    ensures { λ _. ⌜ now (out .exit) ≡ Controls.bodyMomentum (Declared.map (now (c .entry)) (now (v .entry))) (now («wheel_momenta» .entry)) ⌝ }
 {
     let map = map_of(c, v);
     *out = controls::body_momentum(map, wheel_momenta);

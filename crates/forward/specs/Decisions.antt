@@ -8,7 +8,7 @@ use Rattle.common.specs.Lists.{at, slice, pasted}
 use Rattle.float.specs.Ops.{max, clamp}
 use Rattle.actuators.specs.Maps.{controlDim}
 use Rattle.actuators.specs.declared.ActuatorMap.{ActuatorMap}
-use Rattle.controls.specs.Operations.{projectControls}
+use Rattle.controls.specs.Controls.{projectControls}
 
 -- the numbers of a decision with c controls a row
 abbrev pub packedLen : ℕ → ℕ

@@ -10,7 +10,7 @@ use Rattle.angles.specs.Both.{bothOf}
 use Rattle.angles.specs.declared.Both.{Both}
 use Rattle.angles.specs.declared.Both.the-variants as Both
 use Rattle.geom.specs.Vec as Vec
-use Rattle.actuators.specs.Pyramid.{pyramidA, pyramidFrom, pyramid-once, skewed}
+use Rattle.actuators.specs.Pyramid.{pyramidA, pyramidFrom, skewed}
 use Rattle.actuators.specs.declared.CmgPyramid.{CmgPyramid}
 use Rattle.actuators.specs.declared.Cmgs.{Cmgs}
 use Rattle.actuators.specs.declared.Cmgs.the-variants.{Without, With}

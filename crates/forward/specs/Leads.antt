@@ -8,7 +8,7 @@ use Rattle.common.specs.declared.Fate.{Fate}
 use Rattle.common.specs.declared.Fate.the-variants.{Going, Refused}
 use Rattle.float.specs.Sqrt.{sqrt}
 use Rattle.geom.specs.Quats.{quatMul, normalized, norm3, expAt}
-use Rattle.controls.specs.Parts.{rowTorque}
+use Rattle.control_rows.specs.Parts.{rowTorque}
 use Rattle.geom.specs.declared.Quat.{Quat}
 use Rattle.geom.specs.declared.Normal.{Normal}
 use Rattle.geom.specs.declared.Normal.the-variants as Normal

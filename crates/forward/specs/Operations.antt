@@ -13,8 +13,8 @@ use Rattle.common.specs.Answer.{Answer, Given, Refused}
 use Rattle.common.specs.declared.Fate.{Fate}
 use Rattle.common.specs.declared.Fate.the-variants as Fate
 use Rattle.actuators.specs.Maps.{isSized, controlDim}
-use Rattle.controls.specs.declared.WheelLaw.{WheelLaw}
-use Rattle.controls.specs.declared.WheelLaw.the-variants.{Once}
+use Rattle.control_rows.specs.declared.WheelLaw.{WheelLaw}
+use Rattle.control_rows.specs.declared.WheelLaw.the-variants.{Once}
 use Rattle.problem.specs.Problems as Problems
 use Rattle.problem.specs.Passed.{passed-sized}
 use Rattle.problem.specs.declared.Problem.{Problem}

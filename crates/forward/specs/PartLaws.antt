@@ -14,7 +14,7 @@ use Rattle.common.specs.declared.Fate.{Fate}
 use Rattle.common.specs.declared.Fate.the-variants.{Going, Refused}
 use Rattle.float.specs.Sqrt.{sqrt}
 use Rattle.geom.specs.Vec as Vec
-use Rattle.controls.specs.declared.Rig.{Rig}
+use Rattle.control_rows.specs.declared.Rig.{Rig}
 use Rattle.forward.specs.Decisions.{rowOf}
 use Rattle.forward.specs.Defects.{upright}
 use Rattle.forward.specs.Steps.{Body, step}

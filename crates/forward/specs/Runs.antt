@@ -11,10 +11,10 @@ use Rattle.float.specs.Ops.{max}
 use Rattle.geom.specs.Vec as Vec
 use Rattle.geom.specs.declared.Quat.{Quat}
 use Rattle.actuators.specs.Maps.{controlDim}
-use Rattle.controls.specs.Parts.{bodyMomentum}
-use Rattle.controls.specs.Operations.{rigUnder}
-use Rattle.controls.specs.declared.WheelLaw.{WheelLaw}
-use Rattle.controls.specs.declared.WheelLaw.the-variants.{Once}
+use Rattle.control_rows.specs.Parts.{bodyMomentum}
+use Rattle.controls.specs.Controls.{rigUnder}
+use Rattle.control_rows.specs.declared.WheelLaw.{WheelLaw}
+use Rattle.control_rows.specs.declared.WheelLaw.the-variants.{Once}
 use Rattle.problem.specs.declared.CheckedProblem.{CheckedProblem}
 use Rattle.forward.specs.Decisions.{rowOf, stepTime}
 use Rattle.forward.specs.Steps.{Body, bodyWith, step}

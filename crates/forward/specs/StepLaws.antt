@@ -11,7 +11,8 @@ use Rattle.common.specs.declared.Fate.the-variants.{Going, Refused}
 use Rattle.float.specs.Sqrt.{sqrt}
 use Rattle.angles.specs.Both.{bothOf}
 use Rattle.angles.specs.declared.Both.the-variants as Both
-use Rattle.actuators.specs.Pyramid.{pyramidA, pyramidFrom, pyramid-once, singularityOf}
+use Rattle.actuators.specs.Pyramid.{pyramidA, pyramidFrom, singularityOf}
+use Rattle.actuators.specs.PyramidLaws.{pyramid-once}
 use Rattle.actuators.specs.declared.CmgPyramid.{CmgPyramid}
 use Rattle.actuators.specs.declared.Cmgs.{Cmgs}
 use Rattle.actuators.specs.declared.Cmgs.the-variants.{Without, With}
@@ -21,10 +22,10 @@ use Rattle.common.specs.Lists.{slice}
 use Rattle.geom.specs.Vec as Vec
 use Rattle.geom.specs.Quats.{expSo3}
 use Rattle.geom.specs.declared.Quat.{Quat}
-use Rattle.controls.specs.Limits.{powerExcess}
-use Rattle.controls.specs.Parts as Parts
-use Rattle.controls.specs.Parts.{Sized, width, rowTorque, momentaNext}
-use Rattle.controls.specs.declared.Rig.{Rig}
+use Rattle.control_limits.specs.Limits.{powerExcess}
+use Rattle.control_rows.specs.Parts as Parts
+use Rattle.control_rows.specs.Parts.{Sized, width, rowTorque, momentaNext}
+use Rattle.control_rows.specs.declared.Rig.{Rig}
 use Rattle.forward.specs.Steps.{Body, matrixAt, swing, swingBy, swungBy, noSwing, gimbalsNext, gimbalRow, stop, slack, attitudeStep, powered, wheelMomenta, bodyMomentum, rateDot, rateNext, defectOf, turnOf, turnedStep, ratedStep, torquedStep, step}
 use Rattle.forward.specs.declared.Skew.{Skew}
 use Rattle.forward.specs.declared.Swung.{Swung}

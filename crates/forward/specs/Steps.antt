@@ -20,10 +20,10 @@ use Rattle.actuators.specs.declared.Cmgs.{Cmgs}
 use Rattle.actuators.specs.declared.Cmgs.the-variants.{Without, With}
 use Rattle.actuators.specs.declared.Jacobian.{Jacobian}
 use Rattle.actuators.specs.declared.Power.{Power}
-use Rattle.controls.specs.Parts as Parts
-use Rattle.controls.specs.Parts.{rowTorque, momentaNext}
-use Rattle.controls.specs.Limits.{powerExcess}
-use Rattle.controls.specs.declared.Rig.{Rig}
+use Rattle.control_rows.specs.Parts as Parts
+use Rattle.control_rows.specs.Parts.{rowTorque, momentaNext}
+use Rattle.control_limits.specs.Limits.{powerExcess}
+use Rattle.control_rows.specs.declared.Rig.{Rig}
 use Rattle.forward.specs.declared.Frame.{Frame}
 use Rattle.forward.specs.declared.State.{State}
 use Rattle.forward.specs.declared.Swung.{Swung}

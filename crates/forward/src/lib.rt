@@ -4,7 +4,7 @@
 ghost use mathlib.Core.Path.{_≡_};
 ghost use Rattle.forward.specs.Operations as Operations;
 use common::Fate;
-use controls::WheelLaw;
+use control_rows::WheelLaw;
 use geom::Quat;
 use problem::Checked;
 use problem::Problem;

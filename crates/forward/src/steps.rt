@@ -5,8 +5,8 @@ ghost use mathlib.Core.Path.{_≡_};
 ghost use Prim.Native.Nat.{_+_, _≤_};
 ghost use lib.ListN.{length};
 ghost use Rattle.actuators.specs.Maps.{gimbals};
-ghost use Rattle.controls.specs.Parts.{Sized};
-ghost use Rattle.controls.specs.Limits.{powerExcess};
+ghost use Rattle.control_rows.specs.Parts.{Sized};
+ghost use Rattle.control_limits.specs.Limits.{powerExcess};
 ghost use Rattle.actuators.specs.declared.Cmgs.the-variants.{With};
 ghost use Rattle.forward.specs.Steps as Steps;
 ghost use Rattle.forward.specs.StepLaws.{SkewOf, Made, rooted};
@@ -24,7 +24,7 @@ use actuators::CmgPyramid;
 use actuators::Cmgs;
 use actuators::Power;
 use common::Fate;
-use controls::Rig;
+use control_rows::Rig;
 use geom::Normal;
 use geom::Quat;
 use geom::Turned;
@@ -148,7 +148,7 @@ fn over_power(wheels: &[f64; 24], powers: [Power; 8], n: usize, u: &[f64], w: [f
     if n == 0 {
         return false;
     }
-    controls::inner::power_excess(wheels, powers, n, u, w) > 1.0e-9
+    control_limits::power_excess(wheels, powers, n, u, w) > 1.0e-9
 }
 
 // A lead whose gimbals or power refuse the step.
@@ -241,8 +241,8 @@ pub fn settle(
     if over_power(wheels, powers, nw, &u[0..nw], w) {
         return barred(13, k, l);
     }
-    let hw2 = controls::inner::momenta_next(nw, hw, &u[0..nw], dt);
-    let h2 = controls::inner::body_momentum(wheels, nw, &hw2);
+    let hw2 = control_rows::momenta_next(nw, hw, &u[0..nw], dt);
+    let h2 = control_rows::body_momentum(wheels, nw, &hw2);
     let tau = l.tau;
     let turn = l.turn;
     let e = l.s;
@@ -281,7 +281,7 @@ pub fn lead(
     let j = f.j;
     let jinv = f.jinv;
     let dt = f.dt;
-    let tau = controls::inner::row_torque(r, wheels, thrusters, u, w, h, a);
+    let tau = control_rows::row_torque(r, wheels, thrusters, u, w, h, a);
     let wd = rate_dot(j, jinv, w, h, tau);
     let w2 = rate_next(w, wd, dt);
     let square = defect_square(j, w, h, tau, wd);

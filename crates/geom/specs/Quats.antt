@@ -142,3 +142,7 @@ logUp q = logAt q (norm3 (part q))
 -- the rotation vector of q
 unfoldable pub logSo3 : Quat → Rotation
 logSo3 q = logUp (upright q)
+
+-- the turn that takes the attitude q to r: the rotation vector of r as seen from q
+abbrev pub rotationBetween : Quat → Quat → Rotation
+rotationBetween q r = logSo3 (quatMul (conj q) r)

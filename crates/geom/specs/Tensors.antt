@@ -1,4 +1,4 @@
--- Symmetric isPositive definite tensors and inverses, in the order of operations of geom.rs. Definitions only.
+-- Symmetric positive definite tensors and inverses, in the order of operations of geom.rs. Definitions only.
 use mathlib.Core.List.{List, [], _∷_}
 use mathlib.Core.Bool.{Bool, not, cond, _&&_, _||_}
 use lib.Ieee.{Float, binary64, sub, div, lt, ofBits}
@@ -7,17 +7,13 @@ use Rattle.common.specs.Lists.{at}
 use Rattle.float.specs.Ops.{abs}
 use Rattle.common.specs.declared.Fate.{Fate}
 use Rattle.common.specs.declared.Fate.the-variants as Fate
-use Rattle.geom.specs.Vec.{row, plusZero, one, minor, scale3, det3}
+use Rattle.geom.specs.Vec.{row, plusZero, one, minor, scale3, det3, isPositive}
 use Rattle.geom.specs.Quats.{least}
 use Rattle.geom.specs.declared.Inverse.{Inverse}
 
 -- do two numbers differ by more than 1e-12
 abbrev pub apart : Float → Float → Bool
 apart a b = lt (ofBits binary64 0x3d71_9799_812d_ea11) (abs (sub binary64 a b))
-
--- is the number above 0 and finite
-abbrev pub isPositive : Float → Bool
-isPositive x = lt plusZero x && finite x
 
 -- are the numbers across the diagonal equal within 1e-12
 abbrev pub symmetric : List (List Float) → Bool

@@ -3,7 +3,7 @@ use Prim.Native.Nat.{ℕ}
 use mathlib.Core.List.{List, [], _∷_}
 use lib.ListN.{getD}
 use mathlib.Core.Bool.{Bool, _&&_}
-use lib.Ieee.{Float, binary64, add, sub, mul, le, ofBits}
+use lib.Ieee.{Float, binary64, add, sub, mul, lt, le, ofBits}
 use lib.Ieee.Scale.{finite}
 use Rattle.common.specs.Lists.{at}
 use Rattle.float.specs.Ops.{abs, max}
@@ -92,6 +92,10 @@ overBy e t l = max e (sub binary64 (abs t) l)
 -- the largest excess of a torque's size over its limit, +0 where there is none
 abbrev pub torqueExcess : List Float → List Float → Float
 torqueExcess t l = overBy (overBy (overBy plusZero (at t 0) (at l 0)) (at t 1) (at l 1)) (at t 2) (at l 2)
+
+-- is the number finite and above 0
+abbrev pub isPositive : Float → Bool
+isPositive x = finite x && lt plusZero x
 
 -- is the number finite and at most the bound in size
 abbrev pub still : Float → Float → Bool

@@ -102,16 +102,8 @@ impl Quat {
     pub fn is_finite(self) -> bool
         ensures { λ r. ⌜ r ≡ Quats.finiteQ self ⌝ }
     {
-        if !float::is_finite(self.w) {
-            return false;
-        }
-        if !float::is_finite(self.x) {
-            return false;
-        }
-        if !float::is_finite(self.y) {
-            return false;
-        }
-        float::is_finite(self.z)
+        float::is_finite(self.w)
+            & (float::is_finite(self.x) & (float::is_finite(self.y) & float::is_finite(self.z)))
     }
 
     pub fn norm(self) -> f64
@@ -231,10 +223,7 @@ pub fn body_euler_torque(
 fn normal_by(q: Quat, n: f64, tolerance: f64) -> Normal
     ensures { λ r. ⌜ r ≡ Quats.normalBy tolerance q n ⌝ }
 {
-    if n == 0.0 {
-        return Normal::Not;
-    }
-    if !float::is_finite(n) {
+    if (n == 0.0) | !float::is_finite(n) {
         return Normal::Not;
     }
     if float::abs(n - 1.0) > tolerance {
@@ -254,10 +243,7 @@ pub fn unit3(v: [f64; 3]) -> Axis
     ensures { λ r. ⌜ r ≡ Quats.unit3 v ⌝ }
 {
     let n = norm3(v);
-    if n < 1.0e-18 {
-        return Axis::Not;
-    }
-    if !float::is_finite(n) {
+    if (n < 1.0e-18) | !float::is_finite(n) {
         return Axis::Not;
     }
     let s = 1.0 / n;
@@ -326,6 +312,13 @@ pub fn log_so3(q: Quat) -> Rotation
     }
 }
 
+// The turn that takes the attitude q to r, as a rotation vector.
+pub fn rotation_between(q: Quat, r: Quat) -> Rotation
+    ensures { λ v. ⌜ v ≡ Quats.rotationBetween q r ⌝ }
+{
+    log_so3(q.conjugate().mul(r))
+}
+
 // The larger of e and the excess of the torque's size over its limit.
 fn over_by(e: f64, torque: f64, limit: f64) -> f64
     ensures { λ r. ⌜ r ≡ Vec.overBy e torque limit ⌝ }
@@ -344,23 +337,13 @@ pub fn torque_excess(torque: [f64; 3], limit: [f64; 3]) -> f64
 fn still(x: f64, bound: f64) -> bool
     ensures { λ r. ⌜ r ≡ Vec.still x bound ⌝ }
 {
-    if float::is_finite(x) {
-        float::abs(x) <= bound
-    } else {
-        false
-    }
+    float::is_finite(x) & (float::abs(x) <= bound)
 }
 
 pub fn rest(omega: [f64; 3], bound: f64) -> bool
     ensures { λ r. ⌜ r ≡ Vec.rest omega bound ⌝ }
 {
-    if !still(omega[0], bound) {
-        return false;
-    }
-    if !still(omega[1], bound) {
-        return false;
-    }
-    still(omega[2], bound)
+    still(omega[0], bound) & (still(omega[1], bound) & still(omega[2], bound))
 }
 
 // Do two numbers differ by more than 1e-12?
@@ -370,40 +353,30 @@ fn apart(a: f64, b: f64) -> bool
     float::abs(a - b) > 1.0e-12
 }
 
-fn is_positive(x: f64) -> bool
-    ensures { λ r. ⌜ r ≡ Tensors.isPositive x ⌝ }
+// Whether a number is finite and above 0.
+pub fn is_positive(x: f64) -> bool
+    ensures { λ r. ⌜ r ≡ Vec.isPositive x ⌝ }
 {
-    if x > 0.0 { float::is_finite(x) } else { false }
+    float::is_finite(x) & (x > 0.0)
 }
 
 fn symmetric(j: [[f64; 3]; 3]) -> bool
     ensures { λ r. ⌜ r ≡ Tensors.symmetric j ⌝ }
 {
-    if apart(j[0][1], j[1][0]) {
-        return false;
-    }
-    if apart(j[0][2], j[2][0]) {
-        return false;
-    }
-    !apart(j[1][2], j[2][1])
+    !apart(j[0][1], j[1][0]) & (!apart(j[0][2], j[2][0]) & !apart(j[1][2], j[2][1]))
 }
 
 fn definite(j: [[f64; 3]; 3]) -> bool
     ensures { λ r. ⌜ r ≡ Tensors.definite j ⌝ }
 {
-    if !is_positive(j[0][0]) {
-        return false;
-    }
-    if !is_positive(j[0][0] * j[1][1] - j[0][1] * j[1][0]) {
-        return false;
-    }
-    is_positive(det3(j))
+    is_positive(j[0][0])
+        & (is_positive(j[0][0] * j[1][1] - j[0][1] * j[1][0]) & is_positive(det3(j)))
 }
 
 pub fn is_spd(j: [[f64; 3]; 3]) -> bool
     ensures { λ r. ⌜ r ≡ Tensors.isSpd j ⌝ }
 {
-    if symmetric(j) { definite(j) } else { false }
+    symmetric(j) & definite(j)
 }
 
 fn adjugate0(j: [[f64; 3]; 3]) -> [f64; 3]
@@ -466,10 +439,7 @@ pub fn invert3(j: [[f64; 3]; 3]) -> Inverse
     ensures { λ r. ⌜ r ≡ Tensors.invert3 j ⌝ }
 {
     let det = det3(j);
-    if !float::is_finite(det) {
-        return no_inverse();
-    }
-    if float::abs(det) < 1.0e-18 {
+    if !float::is_finite(det) | (float::abs(det) < 1.0e-18) {
         return no_inverse();
     }
     let m = scaled_adjugate(j, 1.0 / det);

@@ -11,11 +11,11 @@ use lib.Seq.{getD-set-same, getD-set-other}
 use lib.Ieee.{Float}
 use Rattle.common.specs.Iter.{iter}
 use Rattle.actuators.specs.Maps.{controlDim, isSized, isEmpty, gimbals}
-use Rattle.actuators.specs.Sizes.{sized-counts}
+use Rattle.actuators.specs.MapLaws.{sized-counts}
 use Rattle.actuators.specs.declared.ActuatorMap.{ActuatorMap}
-use Rattle.controls.specs.Limits.{changed}
-use Rattle.controls.specs.Parts.{bare}
-use Rattle.controls.specs.Operations.{rigOf}
+use Rattle.control_limits.specs.Limits.{changed}
+use Rattle.control_rows.specs.Parts.{bare}
+use Rattle.controls.specs.Controls.{rigOf}
 use Rattle.held_counts.specs.Counts.{limitIn, control, counted, countTurn, heldAt, placeTurn, heldCounts, noneHeld, countAt}
 
 -- ---- a map with a control at place i

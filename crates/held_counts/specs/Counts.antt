@@ -9,8 +9,8 @@ use Rattle.common.specs.Iter.{iter}
 use Rattle.common.specs.Lists.{at}
 use Rattle.actuators.specs.Maps.{controlDim}
 use Rattle.actuators.specs.declared.ActuatorMap.{ActuatorMap}
-use Rattle.controls.specs.Limits.{limitOf, changed}
-use Rattle.controls.specs.Operations.{rigOf}
+use Rattle.control_limits.specs.Limits.{limitOf, changed}
+use Rattle.controls.specs.Controls.{rigOf}
 
 -- control i's limit in a row of the map m, with the torque limits box
 abbrev pub limitIn : ActuatorMap → List Float → ℕ → Float

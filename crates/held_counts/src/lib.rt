@@ -3,14 +3,14 @@
 ghost use mathlib.Core.Path.{_≡_};
 ghost use Prim.Native.Nat.{_≤_, _<_};
 ghost use Rattle.actuators.specs.Maps.{controlDim};
-ghost use Rattle.controls.specs.Limits.{partLimit};
-ghost use Rattle.controls.specs.Operations.{rigOf};
+ghost use Rattle.control_limits.specs.Limits.{partLimit};
+ghost use Rattle.controls.specs.Controls.{rigOf};
 ghost use Rattle.held_counts.specs.Counts as Counts;
 use actuators::ActuatorMap;
 use actuators::control_dim;
-use controls::inner::gimbal_rate;
-use controls::inner::hold;
-use controls::inner::is_bare;
+use control_limits::gimbal_rate;
+use control_limits::hold;
+use control_rows::is_bare;
 use controls::rig_of;
 
 // Control i's limit in a row of parts: its wheel's torque, its thruster's torque or the pyramid's rate.

@@ -8,9 +8,9 @@ use Rattle.common.specs.Lists.{at}
 use Rattle.float.specs.Ops as Ops
 use Rattle.laws.specs.Below.{below-three}
 use Rattle.actuators.specs.Maps as Maps
-use Rattle.controls.specs.Parts.{width}
-use Rattle.controls.specs.Limits.{hold, limitOf, projected}
-use Rattle.controls.specs.Operations.{rowFits, projectControls}
+use Rattle.control_rows.specs.Parts.{width}
+use Rattle.control_limits.specs.Limits.{hold, limitOf, projected}
+use Rattle.controls.specs.Controls.{rowFits, projectControls}
 use Rattle.limit_laws.specs.Holds.{Limit, Number, endless}
 use Rattle.limit_laws.specs.Rows.{rowLimit, Limited, Numbers, smaller}
 use Rattle.limit_laws.specs.NestingLaws.{project-nested}

@@ -17,7 +17,7 @@ use Rattle.laws.specs.Place.{mid, place}
 use Rattle.laws.specs.Order.{Held, held, lt-up, nlt-up, le-up, neg-held, abs-held, place-neg, place-abs, le-trans, lt-le, not-above}
 use Rattle.laws.specs.Signs.{place-plus, above-zero-plus}
 use Rattle.laws.specs.Clamp.{test, clamp-same, sym-abs, sym-idem, sym-neg, clamp-mono, clamp-wider, clamp-narrower}
-use Rattle.controls.specs.Limits.{hold, changed}
+use Rattle.control_limits.specs.Limits.{hold, changed}
 
 -- a limit: an f64 above 0
 pub record Limit (l : Float) : Type 0 where

@@ -13,10 +13,10 @@ use Rattle.actuators.specs.Maps.{gimbals, noCmgs}
 use Rattle.actuators.specs.declared.ActuatorMap.{ActuatorMap}
 use Rattle.actuators.specs.declared.Cmgs.{Cmgs}
 use Rattle.actuators.specs.declared.Cmgs.the-variants.{Without, With}
-use Rattle.controls.specs.Parts.{bare, width}
-use Rattle.controls.specs.Limits.{hold, gimbalRate, partLimit, limitOf}
-use Rattle.controls.specs.Operations.{rigOf, rowFits, projectControls}
-use Rattle.controls.specs.declared.WheelLaw.the-variants.{Once}
+use Rattle.control_rows.specs.Parts.{bare, width}
+use Rattle.control_limits.specs.Limits.{hold, gimbalRate, partLimit, limitOf}
+use Rattle.controls.specs.Controls.{rigOf, rowFits, projectControls}
+use Rattle.control_rows.specs.declared.WheelLaw.the-variants.{Once}
 use Rattle.limit_laws.specs.Holds.{hold-nested}
 use Rattle.limit_laws.specs.Rows.{rowLimit, heldOf, Limited, Numbers, Alike, smaller, slower, nested}
 use Rattle.limit_laws.specs.RowLaws.{project-then}

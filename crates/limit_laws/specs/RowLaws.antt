@@ -12,11 +12,11 @@ use Rattle.common.specs.Iter.{iter}
 use Rattle.common.specs.Lists.{at}
 use Rattle.actuators.specs.Maps.{gimbals}
 use Rattle.actuators.specs.declared.ActuatorMap.{ActuatorMap}
-use Rattle.controls.specs.Parts.{width}
-use Rattle.controls.specs.Limits.{held, fewer, projected}
-use Rattle.controls.specs.Operations.{rigOf, rowFits, projectControls}
-use Rattle.controls.specs.Stored.{stored}
-use Rattle.controls.specs.StoredLaws.{stored-length}
+use Rattle.control_rows.specs.Parts.{width}
+use Rattle.control_limits.specs.Limits.{held, fewer, projected}
+use Rattle.controls.specs.Controls.{rigOf, rowFits, projectControls}
+use Rattle.control_rows.specs.Stored.{stored}
+use Rattle.control_rows.specs.StoredLaws.{stored-length}
 use Rattle.limit_laws.specs.Holds.{hold-twice, hold-neg, hold-mono}
 use Rattle.limit_laws.specs.Rows.{rowLimit, heldOf, Limited, Numbers}
 use Rattle.limit_laws.specs.StoreInner.{stored-every, stored-then, stored-neg}

@@ -11,9 +11,9 @@ use Rattle.actuators.specs.Maps.{gimbals, noCmgs}
 use Rattle.actuators.specs.declared.ActuatorMap.{ActuatorMap}
 use Rattle.actuators.specs.declared.Cmgs.{Cmgs}
 use Rattle.actuators.specs.declared.Cmgs.the-variants.{Without, With}
-use Rattle.controls.specs.Parts.{width}
-use Rattle.controls.specs.Limits.{limitOf, fewer}
-use Rattle.controls.specs.Operations.{rigOf, rowFits}
+use Rattle.control_rows.specs.Parts.{width}
+use Rattle.control_limits.specs.Limits.{limitOf, fewer}
+use Rattle.controls.specs.Controls.{rigOf, rowFits}
 use Rattle.limit_laws.specs.Holds.{Limit, Number}
 
 -- control i's limit in a row of the map m; with no actuators it is the box's, axis by axis

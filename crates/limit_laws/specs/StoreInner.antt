@@ -8,9 +8,8 @@ use lib.Seq.{ext-getD}
 use lib.Ieee.{Float, nan, neg}
 use Rattle.common.specs.Lists.{at}
 use Rattle.laws.specs.Clamp.{test}
-use Rattle.controls.specs.Stored.{stored}
-use Rattle.controls.specs.StoredLaws.{stored-length}
-use Rattle.controls.specs.StoredAt.{stored-at, stored-after}
+use Rattle.control_rows.specs.Stored.{stored}
+use Rattle.control_rows.specs.StoredLaws.{stored-length, stored-at, stored-after}
 
 -- minus at a place
 neg-at : (u : List Float) (i : ℕ) → at (map neg u) i ≡ neg (at u i)

@@ -11,10 +11,10 @@ use lib.ListN.{length, replicate, length-replicate}
 use lib.Ieee.{Float}
 use Rattle.common.specs.declared.Fate.{Fate}
 use Rattle.common.specs.declared.Fate.the-variants.{Going, Refused}
-use Rattle.geom.specs.Vec.{plusZero}
+use Rattle.geom.specs.Vec.{plusZero, isPositive}
 use Rattle.actuators.specs.Maps.{isSized}
 use Rattle.problem.specs.Passed.{passed-sized}
-use Rattle.problem.specs.Problems.{isPositive, check}
+use Rattle.problem.specs.Problems.{check}
 use Rattle.problem.specs.declared.Checked.{Checked}
 use Rattle.problem.specs.declared.CheckedProblem.{CheckedProblem}
 use Rattle.problem.specs.declared.Problem.{Problem}

@@ -10,14 +10,14 @@ use Rattle.common.specs.Answer as Answers
 use Rattle.common.specs.Lists.{at}
 use Rattle.common.specs.declared.Fate.{Fate}
 use Rattle.common.specs.declared.Fate.the-variants.{Going, Refused}
-use Rattle.geom.specs.Vec.{plusZero, tensor}
+use Rattle.geom.specs.Vec.{plusZero, tensor, isPositive}
 use Rattle.actuators.specs.Maps.{controlDim}
 use Rattle.profile.specs.Profiles.{bangCoastBang}
 use Rattle.profile.specs.Seeds.{sampleSeed}
 use Rattle.profile.specs.declared.Profile.{Profile}
 use Rattle.profile.specs.declared.Profiled.{Profiled}
 use Rattle.profile.specs.declared.Seed.{Seed}
-use Rattle.problem.specs.Problems.{isPositive, check}
+use Rattle.problem.specs.Problems.{check}
 use Rattle.problem.specs.declared.Problem.{Problem}
 use Rattle.problem.specs.declared.CheckedProblem.{CheckedProblem}
 use Rattle.forward.specs.Runs.{blankNode}

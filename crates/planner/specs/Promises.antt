@@ -19,7 +19,7 @@ use Rattle.geom.specs.Quats.{norm3, normalized}
 use Rattle.geom.specs.declared.Quat.{Quat}
 use Rattle.geom.specs.declared.Normal.the-variants as Normal
 use Rattle.geom.specs.declared.Rotation.the-variants as Rotation
-use Rattle.controls.specs.Parts.{bodyMomentum}
+use Rattle.control_rows.specs.Parts.{bodyMomentum}
 use Rattle.held_counts.specs.Counts.{countAt}
 use Rattle.profile.specs.Seeds.{sampleSeed}
 use Rattle.problem.specs.Problems.{check}

@@ -15,14 +15,14 @@ use Rattle.common.specs.declared.Fate.{Fate}
 use Rattle.common.specs.declared.Fate.the-variants.{Going, Refused}
 use Rattle.float.specs.Ops.{abs}
 use Rattle.laws.specs.Limits.{Limit, Under, under-exact}
-use Rattle.geom.specs.Vec.{tensor}
+use Rattle.geom.specs.Vec.{tensor, isPositive}
 use Rattle.actuators.specs.Maps.{isSized, controlDim}
-use Rattle.controls.specs.Parts.{bodyMomentum}
+use Rattle.control_rows.specs.Parts.{bodyMomentum}
 use Rattle.profile.specs.Seeds.{sampleSeed}
 use Rattle.profile.specs.declared.Seed.{Seed}
 use Rattle.problem.specs.Passed.{passed-sized}
 use Rattle.problem.specs.StartLaws.{placed-at}
-use Rattle.problem.specs.Problems.{isPositive, check}
+use Rattle.problem.specs.Problems.{check}
 use Rattle.problem.specs.declared.Problem.{Problem}
 use Rattle.problem.specs.declared.CheckedProblem.{CheckedProblem}
 use Rattle.forward.specs.Decisions.{packedLen}

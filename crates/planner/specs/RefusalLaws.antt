@@ -12,7 +12,8 @@ use Rattle.common.specs.declared.Fate.{Fate}
 use Rattle.common.specs.declared.Fate.the-variants.{Going, Refused}
 use Rattle.profile.specs.Seeds.{sampleSeed}
 use Rattle.profile.specs.declared.Profile.{Profile}
-use Rattle.problem.specs.Problems.{isPositive, check}
+use Rattle.geom.specs.Vec.{isPositive}
+use Rattle.problem.specs.Problems.{check}
 use Rattle.problem.specs.declared.Problem.{Problem}
 use Rattle.problem.specs.declared.CheckedProblem.{CheckedProblem}
 use Rattle.seeds.specs.Seeds.{served}

@@ -11,7 +11,8 @@ use Rattle.common.specs.declared.Fate.the-variants.{Going, Refused}
 use Rattle.actuators.specs.Maps.{isSized, controlDim}
 use Rattle.profile.specs.Seeds.{sampleSeed}
 use Rattle.problem.specs.Passed.{passed-sized}
-use Rattle.problem.specs.Problems.{check, isPositive}
+use Rattle.geom.specs.Vec.{isPositive}
+use Rattle.problem.specs.Problems.{check}
 use Rattle.problem.specs.declared.Problem.{Problem}
 use Rattle.problem.specs.declared.CheckedProblem.{CheckedProblem}
 use Rattle.seeds.specs.Seeds.{served}

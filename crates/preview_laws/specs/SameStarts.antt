@@ -13,7 +13,7 @@ use Rattle.common.specs.declared.Fate.the-variants.{Going, Refused}
 use Rattle.geom.specs.declared.Quat.{Quat}
 use Rattle.geom.specs.declared.Normal.{Normal}
 use Rattle.geom.specs.declared.Normal.the-variants.{Is, Not}
-use Rattle.geom.specs.Vec.{tensor}
+use Rattle.geom.specs.Vec.{tensor, plusZero}
 use Rattle.geom.specs.Quats.{normalized}
 use Rattle.geom.specs.Tensors.{invertSpd}
 use Rattle.actuators.specs.Prepare.{prepare}
@@ -55,7 +55,7 @@ module _ (m n : Momenta) (A : Alike m n) where
   place-same : (count k : ℕ) → m .count ≡ count → placeStart count k (at (m .at) k) ≡ placeStart count k (at (n .at) k)
   place-same count k c = by (ltb k count) refl
     where
-      by : (b : Bool) → ltb k count ≡ b → cond b (at (m .at) k) Problems.plusZero ≡ cond b (at (n .at) k) Problems.plusZero
+      by : (b : Bool) → ltb k count ≡ b → cond b (at (m .at) k) plusZero ≡ cond b (at (n .at) k) plusZero
       by true e = A .each k (rw c (ltb-true k count e))
       by false e = refl
 

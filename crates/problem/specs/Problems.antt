@@ -3,7 +3,7 @@ use Prim.Native.Nat.{ℕ}
 use mathlib.Core.Bool.{Bool, true, false, not, cond, _&&_}
 use mathlib.Core.List.{List}
 use lib.ListN.{replicate}
-use lib.Ieee.{Float, binary64, lt, ofBits}
+use lib.Ieee.{Float, lt}
 use lib.Ieee.Scale.{finite}
 use Rattle.common.specs.Lists.{at}
 use Rattle.common.specs.declared.Fate.{Fate}
@@ -13,7 +13,7 @@ use Rattle.common.specs.declared.Limit.the-variants.{Nothing, At}
 use Rattle.geom.specs.declared.Quat.{Quat}
 use Rattle.geom.specs.declared.Normal.{Normal}
 use Rattle.geom.specs.declared.Normal.the-variants.{Is, Not}
-use Rattle.geom.specs.Vec.{tensor}
+use Rattle.geom.specs.Vec.{plusZero, one, isPositive, tensor}
 use Rattle.geom.specs.Quats.{normalized}
 use Rattle.geom.specs.Tensors.{invertSpd}
 use Rattle.actuators.specs.declared.ActuatorMap.{ActuatorMap}
@@ -25,18 +25,8 @@ use Rattle.problem.specs.declared.CheckedProblem.{CheckedProblem}
 use Rattle.problem.specs.declared.Checked.{Checked}
 use Rattle.problem.specs.Starts.{checkStarts, placed}
 
--- 0 and 1
-abbrev pub plusZero : Float
-plusZero = ofBits binary64 0
-
-abbrev pub one : Float
-one = ofBits binary64 0x3ff0_0000_0000_0000
-
 -- ---- row 4 of the table
--- finite and above 0
-abbrev pub isPositive : Float → Bool
-isPositive x = finite x && lt plusZero x
-
+-- a limit is absent, or finite and above 0
 abbrev pub limitFits : Limit → Bool
 limitFits Nothing = true
 limitFits (At x) = isPositive x

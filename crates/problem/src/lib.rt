@@ -13,6 +13,7 @@ use float::is_finite;
 use geom::Normal;
 use geom::Quat;
 use geom::invert_spd;
+use geom::is_positive;
 use geom::tensor;
 
 pub mod starts;
@@ -68,13 +69,6 @@ pub struct Checked {
     pub problem: CheckedProblem,
 }
 
-// Whether x is finite and above 0.
-pub fn is_positive(x: f64) -> bool
-    ensures { λ r. ⌜ r ≡ Problems.isPositive x ⌝ }
-{
-    if is_finite(x) { x > 0.0 } else { false }
-}
-
 // Whether an optional limit is absent, or finite and above 0.
 pub fn limit_fits(limit: Limit) -> bool
     ensures { λ r. ⌜ r ≡ Problems.limitFits limit ⌝ }
@@ -89,49 +83,33 @@ pub fn limit_fits(limit: Limit) -> bool
 pub fn weight_fits(x: f64) -> bool
     ensures { λ r. ⌜ r ≡ Problems.weightFits x ⌝ }
 {
-    if is_finite(x) { !(x < 0.0) } else { false }
+    is_finite(x) & !(x < 0.0)
 }
 
 // Whether every weight is finite and not below 0.
 pub fn weights_fit(w: Weights) -> bool
     ensures { λ r. ⌜ r ≡ Problems.weightsFit w ⌝ }
 {
-    if !weight_fits(w.time) {
-        return false;
-    }
-    if !weight_fits(w.control) {
-        return false;
-    }
-    if !weight_fits(w.energy) {
-        return false;
-    }
-    if !weight_fits(w.pointing) {
-        return false;
-    }
-    if !weight_fits(w.smoothness) {
-        return false;
-    }
-    weight_fits(w.momentum)
+    weight_fits(w.time)
+        & weight_fits(w.control)
+        & weight_fits(w.energy)
+        & weight_fits(w.pointing)
+        & weight_fits(w.smoothness)
+        & weight_fits(w.momentum)
 }
 
 // Whether a tolerance is above 0 and below 1.
 pub fn tolerance_fits(x: f64) -> bool
     ensures { λ r. ⌜ r ≡ Problems.toleranceFits x ⌝ }
 {
-    if x > 0.0 { x < 1.0 } else { false }
+    (x > 0.0) & (x < 1.0)
 }
 
 // Whether the torque limits are finite and above 0.
 pub fn limits_fit(limit: [f64; 3]) -> bool
     ensures { λ r. ⌜ r ≡ Problems.limitsFit limit ⌝ }
 {
-    if !is_positive(limit[0]) {
-        return false;
-    }
-    if !is_positive(limit[1]) {
-        return false;
-    }
-    is_positive(limit[2])
+    is_positive(limit[0]) & is_positive(limit[1]) & is_positive(limit[2])
 }
 
 // Check 4: the torque limits, the slew limit, the weights and the tolerances.
@@ -141,19 +119,11 @@ pub fn numbers_fit(p: Problem) -> bool
     let limit = p.torque_limit;
     let slew = p.slew;
     let weights = p.weights;
-    if !limits_fit(limit) {
-        return false;
-    }
-    if !limit_fits(slew) {
-        return false;
-    }
-    if !weights_fit(weights) {
-        return false;
-    }
-    if !tolerance_fits(p.norm_tolerance) {
-        return false;
-    }
-    tolerance_fits(p.tie_tolerance)
+    limits_fit(limit)
+        & limit_fits(slew)
+        & weights_fit(weights)
+        & tolerance_fits(p.norm_tolerance)
+        & tolerance_fits(p.tie_tolerance)
 }
 
 // The problem of a refused check: zeros and no actuators.

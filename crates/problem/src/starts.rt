@@ -11,11 +11,7 @@ use float::is_finite;
 pub fn start_fits(limit: f64, x: f64) -> bool
     ensures { λ r. ⌜ r ≡ Starts.startFits limit x ⌝ }
 {
-    if is_finite(x) {
-        !(abs(x) > limit)
-    } else {
-        false
-    }
+    is_finite(x) & !(abs(x) > limit)
 }
 
 // Whether wheel k is one of the n declared ones and has a start that fits.
@@ -23,14 +19,8 @@ fn wheel_starts(n: usize, limits: [f64; 8], m: Momenta, k: usize) -> bool
     requires { ⌜ k < 8 ⌝ }
     ensures { λ r. ⌜ r ≡ Starts.wheelStarts n limits m k ⌝ }
 {
-    if k >= n {
-        return false;
-    }
-    if k >= m.count {
-        return false;
-    }
     let at = m.at;
-    start_fits(limits[k], at[k])
+    (k < n) & ((k < m.count) & start_fits(limits[k], at[k]))
 }
 
 // How many wheels, from the first on, do.
@@ -52,13 +42,11 @@ pub fn check_starts(n: usize, limits: [f64; 8], m: Momenta) -> Fate
     ensures { λ r. ⌜ r ≡ Starts.checkStarts n limits m ⌝ }
 {
     let k = leading_starts(n, limits, m);
-    if k != n {
-        return Fate::Refused(22, k);
+    if (k == n) & (k == m.count) {
+        Fate::Going
+    } else {
+        Fate::Refused(22, k)
     }
-    if k != m.count {
-        return Fate::Refused(22, k);
-    }
-    Fate::Going
 }
 
 // The start x of wheel k, or +0 past the n wheels.

@@ -17,7 +17,7 @@ use Rattle.angles.specs.Arcs.{acosOf}
 use Rattle.geom.specs.declared.Quat.{Quat}
 use Rattle.geom.specs.declared.Turned.{Turned}
 use Rattle.geom.specs.declared.Turned.the-variants as Turned
-use Rattle.geom.specs.Vec.{plusZero, zero3, half, one, two, minusOne, scale3, tensor, applyTensor, bodyEulerTorque}
+use Rattle.geom.specs.Vec.{plusZero, zero3, half, one, two, minusOne, isPositive, scale3, tensor, applyTensor, bodyEulerTorque}
 use Rattle.geom.specs.Halves.{onBoth}
 use Rattle.geom.specs.Quats.{quat, dotQ, negateQ, conj, quatMul, norm3, part, least}
 use Rattle.geom.specs.Tensors.{flatten}
@@ -93,7 +93,7 @@ boxAlpha n l = boxTurn (boxTurn (boxTurn (ofBits binary64 0x7ff0_0000_0000_0000)
 
 -- an acceleration is finite and above 0
 unfoldable pub accelerationOf : Float → Acceleration
-accelerationOf a = cond (not (finite a) || le a plusZero) Acceleration.Not (Acceleration.Is a)
+accelerationOf a = cond (isPositive a) (Acceleration.Is a) Acceleration.Not
 
 -- the acceleration about an axis within the torque limits
 abbrev pub alphaFromBox : List (List Float) → List Float → List Float → Acceleration
@@ -108,9 +108,10 @@ coasting acc coast limit = cond (not (finite coast) || lt coast plusZero) (Switc
 -- with a slew limit: without a coast where the top rate is within it
 unfoldable pub limited : Float → Float → Float → Float → Float → Switches
 limited theta alpha bang peak limit =
-    cond (not (finite limit) || le limit plusZero) (Switches.Refused 4 0)
+    cond (isPositive limit)
     (cond (le peak limit) (Switches.Are bang plusZero peak)
     (coasting (div binary64 limit alpha) (div binary64 (sub binary64 theta (div binary64 (mul binary64 limit limit) alpha)) limit) limit))
+    (Switches.Refused 4 0)
 
 -- with or without one
 abbrev pub switchBy : Float → Float → Float → Limit → Switches
@@ -167,8 +168,7 @@ withAlpha q0 j axis theta slew (Acceleration.Is alpha) = withSwitches q0 j axis 
 -- with the angle, which has to be finite and above 0
 unfoldable pub withTheta : Quat → List (List Float) → List Float → Float → List Float → Limit → Profiled
 withTheta q0 j axis theta limit slew =
-    cond (not (finite theta) || le theta plusZero) (refused (Fate.Refused 7 0))
-    (withAlpha q0 j axis theta slew (alphaFromBox j axis limit))
+    cond (isPositive theta) (withAlpha q0 j axis theta slew (alphaFromBox j axis limit)) (refused (Fate.Refused 7 0))
 
 -- the vector part of rel over its length n
 abbrev pub axisOf : Quat → Float → List Float
@@ -179,7 +179,7 @@ abbrev pub withHalf : Quat → List (List Float) → List Float → List Float �
 withHalf q0 j axis limit slew Angle.Outside = refused (Fate.Refused 11 0)
 withHalf q0 j axis limit slew (Angle.Is a) = withTheta q0 j axis (mul binary64 two a) limit slew
 
--- with the relative attitude, whose vector part has length n and whose scalar part is d within -1 to 1: no plusZero angle, no half turn
+-- with the relative attitude, whose vector part has length n and whose scalar part is d within -1 to 1: no zero angle, no half turn
 unfoldable pub withRelative : Quat → List (List Float) → List Float → Limit → Float → Quat → Float → Float → Profiled
 withRelative q0 j limit slew tie rel n d =
     cond (lt n least) (refused (Fate.Refused 7 0))

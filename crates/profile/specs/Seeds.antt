@@ -12,13 +12,17 @@ use Rattle.profile.specs.declared.Seed.{Seed}
 unfoldable pub nodeTime : Float → ℕ → Float
 nodeTime duration i = div binary64 (mul binary64 duration (ofInt binary64 (pos i))) (ofBits binary64 0x4030_0000_0000_0000)
 
--- the body rates at the first n nodes, three numbers a node, one after the other
+-- what f gives at the times of the first n nodes, one after the other
+abbrev pub nodesTo : (Float → List Float) → Float → ℕ → List Float
+nodesTo f duration n = iter (λ i v. v ++ f (nodeTime duration i)) [] n
+
+-- the body rates at the first n nodes, three numbers a node
 unfoldable pub ratesTo : Profile → ℕ → List Float
-ratesTo p n = iter (λ i v. v ++ omegaVec p (nodeTime (p .duration) i)) [] n
+ratesTo p n = nodesTo (omegaVec p) (p .duration) n
 
 -- the body torques likewise
 unfoldable pub torquesTo : Profile → ℕ → List Float
-torquesTo p n = iter (λ i v. v ++ torqueVec p (nodeTime (p .duration) i)) [] n
+torquesTo p n = nodesTo (torqueVec p) (p .duration) n
 
 -- the seed of a profile
 abbrev pub sampleSeed : Profile → Seed

@@ -137,13 +137,10 @@ fn box_turn(alpha: f64, jn: f64, limit: f64) -> f64
 fn acceleration_of(alpha: f64) -> Acceleration
     ensures { λ r. ⌜ r ≡ Profiles.accelerationOf alpha ⌝ }
 {
-    if !float::is_finite(alpha) {
-        return Acceleration::Not;
-    }
-    if alpha <= 0.0 {
-        Acceleration::Not
-    } else {
+    if geom::is_positive(alpha) {
         Acceleration::Is(alpha)
+    } else {
+        Acceleration::Not
     }
 }
 
@@ -168,10 +165,7 @@ pub fn alpha_from_box(
 fn coasting(t_acc: f64, t_coast: f64, limit: f64) -> Switches
     ensures { λ r. ⌜ r ≡ Profiles.coasting «t_acc» «t_coast» limit ⌝ }
 {
-    if !float::is_finite(t_coast) {
-        return Switches::Refused(7, 2);
-    }
-    if t_coast < 0.0 {
+    if !float::is_finite(t_coast) | (t_coast < 0.0) {
         Switches::Refused(7, 2)
     } else {
         Switches::Are(t_acc, t_coast, limit)
@@ -182,10 +176,7 @@ fn coasting(t_acc: f64, t_coast: f64, limit: f64) -> Switches
 fn limited(theta: f64, alpha: f64, bang: f64, peak: f64, limit: f64) -> Switches
     ensures { λ r. ⌜ r ≡ Profiles.limited theta alpha bang peak limit ⌝ }
 {
-    if !float::is_finite(limit) {
-        return Switches::Refused(4, 0);
-    }
-    if limit <= 0.0 {
+    if !geom::is_positive(limit) {
         return Switches::Refused(4, 0);
     }
     if peak <= limit {
@@ -302,10 +293,7 @@ fn with_theta(
 ) -> Profiled
     ensures { λ r. ⌜ r ≡ Profiles.withTheta q0 j axis theta limit slew ⌝ }
 {
-    if !float::is_finite(theta) {
-        return refused(Fate::Refused(7, 0));
-    }
-    if theta <= 0.0 {
+    if !geom::is_positive(theta) {
         return refused(Fate::Refused(7, 0));
     }
     with_alpha(q0, j, axis, theta, slew, alpha_from_box(j, axis, limit))
@@ -390,44 +378,24 @@ fn with_node(v: [f64; 51], i: usize, w: [f64; 3]) -> [f64; 51]
     out
 }
 
-// The body rates at the nodes, one after the other.
-fn seed_rates(p: Profile) -> [f64; 51]
-    ensures { λ r. ⌜ r ≡ Seeds.ratesTo p 17 ⌝ }
-{
-    let duration = p.duration;
-    let mut v = [0.0; 51];
-    let mut i: usize = 0;
-    while i < 17 {
-        let next = with_node(v, i, p.omega_vec(node_time(duration, i)));
-        v = next;
-        i += 1;
-    }
-    v
-}
-
-// The body torques at the nodes, one after the other.
-fn seed_torques(p: Profile) -> [f64; 51]
-    ensures { λ r. ⌜ r ≡ Seeds.torquesTo p 17 ⌝ }
-{
-    let duration = p.duration;
-    let mut v = [0.0; 51];
-    let mut i: usize = 0;
-    while i < 17 {
-        let next = with_node(v, i, p.torque_vec(node_time(duration, i)));
-        v = next;
-        i += 1;
-    }
-    v
-}
-
-// The seed of our own entry: the profile at duration × i / 16.
+// The seed of our own entry: the profile at duration × i / 16, its body rates and its body torques node by node.
 pub fn sample_seed(p: Profile) -> Seed
     ensures { λ r. ⌜ r ≡ Seeds.sampleSeed p ⌝ }
 {
-    let rates = seed_rates(p);
-    let torques = seed_torques(p);
+    let duration = p.duration;
+    let mut rates = [0.0; 51];
+    let mut torques = [0.0; 51];
+    let mut i: usize = 0;
+    while i < 17 {
+        let t = node_time(duration, i);
+        let next_rates = with_node(rates, i, p.omega_vec(t));
+        rates = next_rates;
+        let next_torques = with_node(torques, i, p.torque_vec(t));
+        torques = next_torques;
+        i += 1;
+    }
     Seed {
-        duration: p.duration,
+        duration: duration,
         rates: rates,
         torques: torques,
     }

@@ -22,9 +22,9 @@ use Rattle.geom.specs.declared.Normal.the-variants as Normal
 use Rattle.geom.specs.declared.Turned.{Turned}
 use Rattle.geom.specs.declared.Turned.the-variants as Turned
 use Rattle.actuators.specs.Maps.{controlDim}
-use Rattle.controls.specs.Parts.{axes, wheelBy, wheelPart, partsTorque, rowTorque}
-use Rattle.controls.specs.declared.WheelLaw.{WheelLaw}
-use Rattle.controls.specs.declared.WheelLaw.the-variants.{Once, Published}
+use Rattle.control_rows.specs.Parts.{axes, wheelBy, wheelPart, partsTorque, rowTorque}
+use Rattle.control_rows.specs.declared.WheelLaw.{WheelLaw}
+use Rattle.control_rows.specs.declared.WheelLaw.the-variants.{Once, Published}
 use Rattle.problem.specs.declared.Problem.{Problem}
 use Rattle.problem.specs.declared.CheckedProblem.{CheckedProblem}
 use Rattle.forward.specs.Decisions.{rowOf, stepTime}

@@ -4,9 +4,9 @@ use mathlib.Core.List.{List, [], _∷_}
 use lib.Ieee.{Float, add, sub, mul, neg, ofBits}
 use Rattle.common.specs.Iter.{iter}
 use Rattle.geom.specs.Vec as Vec
-use Rattle.controls.specs.Parts.{wheelPart}
-use Rattle.controls.specs.declared.WheelLaw.{WheelLaw}
-use Rattle.controls.specs.declared.WheelLaw.the-variants.{Once, Published}
+use Rattle.control_rows.specs.Parts.{wheelPart}
+use Rattle.control_rows.specs.declared.WheelLaw.{WheelLaw}
+use Rattle.control_rows.specs.declared.WheelLaw.the-variants.{Once, Published}
 
 abbrev torque : WheelLaw → List Float
 torque law = wheelPart law (Vec.one ∷ Vec.plusZero ∷ Vec.plusZero ∷ []) 1 (Vec.plusZero ∷ []) (Vec.one ∷ Vec.plusZero ∷ Vec.plusZero ∷ []) (Vec.plusZero ∷ Vec.one ∷ Vec.plusZero ∷ []) Vec.zero3

@@ -7,8 +7,8 @@ use Rattle.common.specs.Iter.{iter}
 use Rattle.common.specs.Lists.{at}
 use Rattle.laws.specs.Zeros.{isZero}
 use Rattle.actuators.specs.Maps.{controlDim}
-use Rattle.controls.specs.declared.WheelLaw.{WheelLaw}
-use Rattle.controls.specs.declared.WheelLaw.the-variants as WheelLaw
+use Rattle.control_rows.specs.declared.WheelLaw.{WheelLaw}
+use Rattle.control_rows.specs.declared.WheelLaw.the-variants as WheelLaw
 use Rattle.problem.specs.declared.Problem.{Problem}
 use Rattle.problem.specs.declared.CheckedProblem.{CheckedProblem}
 use Rattle.forward.specs.Decisions.{stepTime}

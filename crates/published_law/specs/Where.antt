@@ -13,7 +13,7 @@ use Rattle.common.specs.declared.Fate.the-variants.{Going, Refused}
 use Rattle.laws.specs.Below.{below-none, below-next}
 use Rattle.geom.specs.Vec as Vec
 use Rattle.actuators.specs.Maps.{controlDim}
-use Rattle.controls.specs.Parts as Parts
+use Rattle.control_rows.specs.Parts as Parts
 use Rattle.problem.specs.declared.Problem.{Problem}
 use Rattle.forward.specs.Decisions.{rowOf, stepTime}
 use Rattle.forward.specs.Steps.{Body, bodyMomentum, wheelMomenta, step}

@@ -19,7 +19,7 @@ use super::sums::energy;
 use super::sums::norm_slice;
 use super::sums::smooth;
 use common::Fate;
-use controls::WheelLaw;
+use control_rows::WheelLaw;
 use float::sqrt;
 use forward::rows::attitude_in;
 use forward::rows::momenta_in;

@@ -21,12 +21,12 @@ use Rattle.actuators.specs.Maps.{gimbals}
 use Rattle.actuators.specs.declared.Cmgs.{Cmgs}
 use Rattle.actuators.specs.declared.Cmgs.the-variants.{Without, With}
 use Rattle.actuators.specs.declared.ActuatorMap.{ActuatorMap}
-use Rattle.controls.specs.Parts.{bare, width}
-use Rattle.controls.specs.Limits.{hold, gimbalRate, partLimit, limitOf, fewer, projected, momentumExcess}
-use Rattle.controls.specs.Limits as Controls
-use Rattle.controls.specs.StoredLaws.{stored-length}
-use Rattle.controls.specs.declared.Rig.{Rig}
-use Rattle.controls.specs.Operations.{rigOf}
+use Rattle.control_rows.specs.Parts.{bare, width}
+use Rattle.control_limits.specs.Limits.{hold, gimbalRate, partLimit, limitOf, fewer, projected, momentumExcess}
+use Rattle.control_limits.specs.Limits as Controls
+use Rattle.control_rows.specs.StoredLaws.{stored-length}
+use Rattle.control_rows.specs.declared.Rig.{Rig}
+use Rattle.controls.specs.Controls.{rigOf}
 use Rattle.run_laws.specs.Values.{Fine3, Fit3, HeldN}
 use Rattle.run_laws.specs.Torques.{stored-at}
 use Rattle.run_laws.specs.Prepared.{MapOk, RateOk}

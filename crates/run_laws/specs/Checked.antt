@@ -20,7 +20,7 @@ use Rattle.laws.specs.Order.{held}
 use Rattle.laws.specs.Finite.{finite-number}
 use Rattle.laws.specs.Limits as Limits
 use Rattle.laws.specs.Unit.{Below1}
-use Rattle.geom.specs.Vec.{tensor}
+use Rattle.geom.specs.Vec.{tensor, plusZero, one, isPositive}
 use Rattle.geom.specs.Quats.{normalized}
 use Rattle.geom.specs.Tensors.{invertSpd}
 use Rattle.geom.specs.declared.Quat.{Quat}
@@ -36,7 +36,7 @@ use Rattle.problem.specs.declared.Problem.{Problem}
 use Rattle.problem.specs.declared.CheckedProblem.{CheckedProblem}
 use Rattle.run_laws.specs.Values.{goes, FitsQ, WithinQ}
 use Rattle.run_laws.specs.Attitudes.{normalized-is, normed-in}
-use Rattle.run_laws.specs.Prepared.{FitsM, MapOk, prepare-ok}
+use Rattle.run_laws.specs.Prepared.{FitsM, MapOk, limit-of, prepare-ok}
 use Rattle.run_laws.specs.Runs.{MomentaOk}
 
 -- ---- a slew limit, where there is one, is finite and above 0
@@ -68,9 +68,6 @@ pub record Ready (p : CheckedProblem) : Type 0 where
   pub map : MapOk (p .map)
   pub momenta : MomentaOk (p .map .«wheel_count») (p .momenta)
 
-limit-of : (x : Float) → T (fits binary64 x) → T (Problems.isPositive x) → Limits.Limit x
-limit-of x g t = record { fit = g; fine = and-l (finite x) (lt Problems.plusZero x) t; over = and-r (finite x) (lt Problems.plusZero x) t }
-
 slew-of : (l : Limit) → SlewFits l → T (Problems.limitFits l) → SlewOk l
 slew-of Nothing g t = tt
 slew-of (At r) g t = limit-of r g t
@@ -100,9 +97,9 @@ module _ (p : Problem) (F : FitsP p) where
   numbers-of : T (Problems.numbersFit p) → Numbers
   unfolding Problems.numbersFit
   numbers-of t =
-      let l0 = Problems.isPositive (at (p .«torque_limit») 0) in
-      let l1 = Problems.isPositive (at (p .«torque_limit») 1) in
-      let l2 = Problems.isPositive (at (p .«torque_limit») 2) in
+      let l0 = isPositive (at (p .«torque_limit») 0) in
+      let l1 = isPositive (at (p .«torque_limit») 1) in
+      let l2 = isPositive (at (p .«torque_limit») 2) in
       let s = Problems.limitFits (p .slew) in
       let w = Problems.weightsFit (p .weights) in
       let n = Problems.toleranceFits (p .«norm_tolerance») in
@@ -115,7 +112,7 @@ module _ (p : Problem) (F : FitsP p) where
       record {
         limits = below-three (λ i. Limits.Limit (at (p .«torque_limit») i)) (limit-of _ (F .limit 0 (omega arith)) (and-l l0 l1 t0)) (limit-of _ (F .limit 1 (omega arith)) (and-r l0 l1 t0)) (limit-of _ (F .limit 2 (omega arith)) (and-r (l0 && l1) l2 t1));
         slew = slew-of (p .slew) (F .slew) (and-r f s t2);
-        tolerance = record { fit = F .tolerance; less = and-r (lt Problems.plusZero (p .«norm_tolerance»)) (lt (p .«norm_tolerance») Problems.one) (and-r (f && s && w) n t4) };
+        tolerance = record { fit = F .tolerance; less = and-r (lt plusZero (p .«norm_tolerance»)) (lt (p .«norm_tolerance») one) (and-r (f && s && w) n t4) };
       }
 
   module _ (m : ActuatorMap) (M : MapOk m) (N : Numbers) (H : MomentaOk (m .«wheel_count») (placed (m .«wheel_count») (p .momenta .at))) where

@@ -20,11 +20,11 @@ use Rattle.laws.specs.Limits.{Limit, control-within}
 use Rattle.laws.specs.Numbers.{clamp-n}
 use Rattle.actuators.specs.Maps.{isSized, isEmpty, controlDim, gimbals}
 use Rattle.actuators.specs.declared.ActuatorMap.{ActuatorMap}
-use Rattle.controls.specs.Parts.{bare, width}
-use Rattle.controls.specs.Limits.{limitOf, projected}
-use Rattle.controls.specs.Operations as Controls
-use Rattle.controls.specs.Operations.{projectControls}
-use Rattle.controls.specs.Operations.{rigOf}
+use Rattle.control_rows.specs.Parts.{bare, width}
+use Rattle.control_limits.specs.Limits.{limitOf, projected}
+use Rattle.controls.specs.Controls as Controls
+use Rattle.controls.specs.Controls.{projectControls}
+use Rattle.controls.specs.Controls.{rigOf}
 use Rattle.forward.specs.Decisions.{rowOf, shortest, longest, projectTurn, projectDecision}
 use Rattle.run_laws.specs.Torques.{at-slice}
 use Rattle.run_laws.specs.Prepared.{MapOk}

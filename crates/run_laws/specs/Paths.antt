@@ -14,14 +14,14 @@ use Rattle.common.specs.declared.Fate.{Fate}
 use Rattle.common.specs.declared.Fate.the-variants.{Going, Refused}
 use Rattle.actuators.specs.Maps.{isSized, isEmpty, controlDim, gimbals}
 use Rattle.actuators.specs.declared.ActuatorMap.{ActuatorMap}
-use Rattle.controls.specs.Parts.{width}
+use Rattle.control_rows.specs.Parts.{width}
 use Rattle.problem.specs.Problems.{check, refused}
 use Rattle.problem.specs.declared.Problem.{Problem}
 use Rattle.problem.specs.declared.CheckedProblem.{CheckedProblem}
 use Rattle.forward.specs.Decisions.{rowOf, sixteen, stepTime}
 use Rattle.forward.specs.Runs.{startOf, nodeOf, noNode, runFrom, bodyOf, runUnder, runOf}
-use Rattle.controls.specs.Operations.{rigOf}
-use Rattle.controls.specs.declared.WheelLaw.the-variants.{Once}
+use Rattle.controls.specs.Controls.{rigOf}
+use Rattle.control_rows.specs.declared.WheelLaw.the-variants.{Once}
 use Rattle.forward.specs.Steps.{Body}
 use Rattle.forward.specs.Operations.{admit, reconstructBy, reconstructUnder, reconstruct}
 use Rattle.forward.specs.declared.Node.{Node}

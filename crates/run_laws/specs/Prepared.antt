@@ -3,14 +3,13 @@ use mathlib.Core.Path.{_≡_, refl, sym, _∙_}
 use mathlib.Core.Bool.{Bool, true, false, not, _||_}
 use Prim.Native.Nat.{ℕ, _<_, _≤_}
 use lib.Dec.{T}
-use lib.Ieee.{Float, binary64, le, fits, ofBits}
+use lib.Ieee.{Float, binary64, lt, le, fits}
+use lib.Ieee.Fits.{and-l, and-r}
 use lib.Ieee.Scale.{finite}
 use Rattle.common.specs.Lists.{at}
 use Rattle.common.specs.declared.Fate.the-variants.{Going}
-use Rattle.laws.specs.Finite.{finite-number}
-use Rattle.laws.specs.Order.{held, not-most}
 use Rattle.laws.specs.Limits.{Limit}
-use Rattle.actuators.specs.Maps.{plusZero}
+use Rattle.geom.specs.Vec.{plusZero, isPositive}
 use Rattle.actuators.specs.Prepare as Prepare
 use Rattle.actuators.specs.ReadyLaws.{Sound, prepared}
 use Rattle.actuators.specs.declared.CmgPyramid.{CmgPyramid}
@@ -31,20 +30,13 @@ twice false t = t
 passed : (b : Bool) → b ≡ false → T (not b)
 passed b e = rw e tt
 
-zero-fits : T (fits binary64 plusZero)
-unfolding fits ofBits
-zero-fits = tt
-
-zero-finite : T (finite plusZero)
-unfolding ofBits
-zero-finite = tt
+-- finite and above 0
+pub limit-of : (x : Float) → T (fits binary64 x) → T (isPositive x) → Limit x
+limit-of x g t = record { fit = g; fine = and-l (finite x) (lt plusZero x) t; over = and-r (finite x) (lt plusZero x) t }
 
 inside : (x : Float) → T (fits binary64 x) → T (not (Prepare.outside x)) → Limit x
 unfolding Prepare.outside
-inside x g t =
-    let r = neither (not (finite x)) (le x plusZero) t in
-    let f = twice (finite x) (r .0) in
-    record { fit = g; fine = f; over = not-most binary64 x plusZero (held g (finite-number x f)) (held zero-fits (finite-number plusZero zero-finite)) (r .1) }
+inside x g t = limit-of x g (twice (isPositive x) t)
 
 rate-inside : (y : CmgPyramid) → T (fits binary64 (y .«max_gimbal_rate_rad_s»)) → T (not (Prepare.pyramidOutside y)) → Limit (y .«max_gimbal_rate_rad_s»)
 unfolding Prepare.pyramidOutside

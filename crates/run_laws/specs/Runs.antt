@@ -22,9 +22,9 @@ use Rattle.geom.specs.Vec as Vec
 use Rattle.geom.specs.Quats.{quatMul}
 use Rattle.geom.specs.declared.Quat.{Quat}
 use Rattle.actuators.specs.Maps.{gimbals}
-use Rattle.controls.specs.Parts.{width}
+use Rattle.control_rows.specs.Parts.{width}
 use Rattle.forward.specs.Decisions.{rowOf}
-use Rattle.controls.specs.Parts as Parts
+use Rattle.control_rows.specs.Parts as Parts
 use Rattle.forward.specs.Steps.{Body, wheelMomenta, bodyMomentum, rateDot, rateNext, step}
 use Rattle.forward.specs.Runs.{start, nodeOf, blankNode, noNode, Course, advance, courseBy, courseTurn, startCourse, course, ended, endBy, endOf, runFrom}
 use Rattle.forward.specs.declared.State.{State}

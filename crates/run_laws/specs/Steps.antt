@@ -17,8 +17,8 @@ use Rattle.geom.specs.declared.Normal.{Normal}
 use Rattle.geom.specs.declared.Normal.the-variants as Normal
 use Rattle.geom.specs.declared.Turned.{Turned}
 use Rattle.geom.specs.declared.Turned.the-variants as Turned
-use Rattle.controls.specs.Parts.{rowTorque}
-use Rattle.controls.specs.Limits.{powerExcess}
+use Rattle.control_rows.specs.Parts.{rowTorque}
+use Rattle.control_limits.specs.Limits.{powerExcess}
 use Rattle.forward.specs.Steps.{Body, stop, matrixAt, rateDot, rateNext, turnOf, defectOf, gimbalRow, swing, stateNext, slack, powered, swungStep, attitudeStep, normedStep, turnedStep, ratedStep, torquedStep, matrixStep, step}
 use Rattle.forward.specs.declared.State.{State}
 use Rattle.forward.specs.declared.Stepped.{Stepped}

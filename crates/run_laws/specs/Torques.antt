@@ -18,12 +18,12 @@ use Rattle.geom.specs.Vec.{add3, scale3, zero3, minusOne}
 use Rattle.actuators.specs.Maps.{axisAt, gimbals, noCmgs}
 use Rattle.actuators.specs.declared.Cmgs.{Cmgs}
 use Rattle.actuators.specs.declared.Cmgs.the-variants.{Without, With}
-use Rattle.controls.specs.Stored.{stored}
-use Rattle.controls.specs.StoredLaws.{stored-length}
-use Rattle.controls.specs.Parts.{axes, wheelBy, wheelPart, pyramidPart, gimbalPart, bare, width, partsTorque, rowTorque, charged, momentaNext}
-use Rattle.controls.specs.declared.Rig.{Rig}
-use Rattle.controls.specs.declared.WheelLaw.{WheelLaw}
-use Rattle.controls.specs.declared.WheelLaw.the-variants.{Once, Published}
+use Rattle.control_rows.specs.Stored.{stored}
+use Rattle.control_rows.specs.StoredLaws.{stored-length}
+use Rattle.control_rows.specs.Parts.{axes, wheelBy, wheelPart, pyramidPart, gimbalPart, bare, width, partsTorque, rowTorque, charged, momentaNext}
+use Rattle.control_rows.specs.declared.Rig.{Rig}
+use Rattle.control_rows.specs.declared.WheelLaw.{WheelLaw}
+use Rattle.control_rows.specs.declared.WheelLaw.the-variants.{Once, Published}
 use Rattle.run_laws.specs.Values.{Fine3, Fit3, FineN, FitN}
 
 -- ---- numbers of a part of a row

@@ -12,7 +12,7 @@ use Rattle.common.specs.Iter.{iter}
 use Rattle.common.specs.declared.Fate.{Fate}
 use Rattle.common.specs.declared.Fate.the-variants.{Going, Refused}
 use Rattle.laws.specs.Below.{below-none, below-next}
-use Rattle.controls.specs.declared.WheelLaw.the-variants.{Once}
+use Rattle.control_rows.specs.declared.WheelLaw.the-variants.{Once}
 use Rattle.problem.specs.declared.Problem.{Problem}
 use Rattle.problem.specs.declared.CheckedProblem.{CheckedProblem}
 use Rattle.forward.specs.Decisions.{rowOf, stepTime}

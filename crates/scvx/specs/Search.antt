@@ -39,7 +39,7 @@ use Rattle.common.specs.declared.Fate.{Fate}
 use Rattle.common.specs.declared.Fate.the-variants as Fate
 use Rattle.float.specs.Ops.{min, max}
 use Rattle.actuators.specs.Maps.{controlDim}
-use Rattle.problem.specs.Problems.{plusZero}
+use Rattle.geom.specs.Vec.{plusZero}
 use Rattle.problem.specs.declared.CheckedProblem.{CheckedProblem}
 use Rattle.held_counts.specs.Counts.{heldCounts, noneHeld}
 use Rattle.forward.specs.Decisions.{packedLen, unpack, projectDecision}

@@ -13,7 +13,7 @@ use Rattle.common.specs.declared.Fate.{Fate}
 use Rattle.common.specs.declared.Fate.the-variants as Fate
 use Rattle.residuals.specs.declared.ResidualVector.{ResidualVector}
 use Rattle.actuators.specs.Maps.{controlDim, isSized}
-use Rattle.problem.specs.Problems.{plusZero}
+use Rattle.geom.specs.Vec.{plusZero}
 use Rattle.problem.specs.declared.CheckedProblem.{CheckedProblem}
 use Rattle.residuals.specs.Sums.{normSlice}
 use Rattle.residuals.specs.Residuals.{residualsOf}

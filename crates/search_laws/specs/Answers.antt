@@ -17,8 +17,8 @@ use Rattle.laws.specs.Order.{Held, held}
 use Rattle.geom.specs.Quats.{norm3}
 use Rattle.actuators.specs.Maps.{controlDim}
 use Rattle.actuators.specs.declared.ActuatorMap.{ActuatorMap}
-use Rattle.controls.specs.Limits.{limitOf}
-use Rattle.controls.specs.Operations.{rigOf}
+use Rattle.control_limits.specs.Limits.{limitOf}
+use Rattle.controls.specs.Controls.{rigOf}
 use Rattle.problem.specs.declared.CheckedProblem.{CheckedProblem}
 use Rattle.forward.specs.Decisions.{packedLen}
 use Rattle.forward.specs.Runs.{runOf}

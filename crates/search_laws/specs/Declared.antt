@@ -19,9 +19,9 @@ use Rattle.actuators.specs.Maps.{isSized, isEmpty, controlDim, gimbals, noCmgs,
 use Rattle.actuators.specs.Prepare.{prepare}
 use Rattle.actuators.specs.declared.Actuators.{Actuators}
 use Rattle.actuators.specs.declared.ActuatorMap.{ActuatorMap}
-use Rattle.controls.specs.Limits.{gimbalRate, partLimit, limitOf}
-use Rattle.controls.specs.declared.Rig.{Rig}
-use Rattle.controls.specs.declared.WheelLaw.the-variants.{Once}
+use Rattle.control_limits.specs.Limits.{gimbalRate, partLimit, limitOf}
+use Rattle.control_rows.specs.declared.Rig.{Rig}
+use Rattle.control_rows.specs.declared.WheelLaw.the-variants.{Once}
 use Rattle.problem.specs.Problems as Problems
 use Rattle.problem.specs.Starts.{checkStarts, placed}
 use Rattle.problem.specs.StartLaws.{starts-passed}

@@ -1,11 +1,10 @@
 -- f64 holds every number of the seed that our own entry takes from a profile. Assumes nothing.
-use mathlib.Core.Bool.{Bool, true, false, not, cond, _||_}
+use mathlib.Core.Bool.{Bool, true, false, cond}
 use mathlib.Core.List.{List, [], _++_}
 use Prim.Native.Nat.{ℕ, zero, suc}
 use lib.Dec.{T}
 use lib.Ieee.{Float, binary64, mul, lt, le, fits}
 use lib.Ieee.Fits.{add-fits}
-use lib.Ieee.Scale.{finite}
 use Rattle.common.specs.Iter.{iter}
 use Rattle.common.specs.declared.Limit.{Limit}
 use Rattle.float.specs.Ops.{abs, clamp}
@@ -59,7 +58,7 @@ module _ (q0 : Quat) (j : List (List Float)) (limit : List Float) (slew : Limit)
 
   angled : (axis : List Float) (theta : Float) → Timed (Profiles.withTheta q0 j axis theta limit slew)
   unfolding Profiles.withTheta
-  angled axis theta = either (not (finite theta) || le theta Vec.plusZero) _ _ zero-fits (accelerated axis theta (Profiles.alphaFromBox j axis limit))
+  angled axis theta = either (Vec.isPositive theta) _ _ (accelerated axis theta (Profiles.alphaFromBox j axis limit)) zero-fits
 
   halved : (axis : List Float) (a : Angle) → Timed (Profiles.withHalf q0 j axis limit slew a)
   halved axis Angle.Outside = zero-fits

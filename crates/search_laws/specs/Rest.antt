@@ -18,7 +18,7 @@ use Rattle.geom.specs.declared.Quat.{Quat}
 use Rattle.geom.specs.declared.Axis.the-variants.{Is}
 use Rattle.actuators.specs.Maps as Maps
 use Rattle.actuators.specs.declared.Actuators.{Actuators}
-use Rattle.controls.specs.Parts.{axes, bodyMomentum}
+use Rattle.control_rows.specs.Parts.{axes, bodyMomentum}
 use Rattle.problem.specs.Problems.{check}
 use Rattle.problem.specs.Starts.{placeStart, placed}
 use Rattle.problem.specs.declared.Problem.{Problem}

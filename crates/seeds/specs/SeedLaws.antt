@@ -12,7 +12,7 @@ use Rattle.common.specs.declared.Fate.the-variants.{Going, Refused}
 use Rattle.geom.specs.Vec as Vec
 use Rattle.geom.specs.Tensors.{invert3}
 use Rattle.actuators.specs.Maps.{isSized, isEmpty, controlDim, gimbals}
-use Rattle.actuators.specs.Sizes.{sized-counts}
+use Rattle.actuators.specs.MapLaws.{sized-counts}
 use Rattle.actuators.specs.Pyramid.{gram, rows, pyramidA}
 use Rattle.actuators.specs.Allocate as Allocate
 use Rattle.actuators.specs.declared.CmgPyramid.{CmgPyramid}

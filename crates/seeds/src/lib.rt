@@ -76,7 +76,8 @@ pub fn seed_decision(
     torques: &[f64],
 ) -> SeedDecision
     requires { ⌜ (controlDim map ≤ 12) × (48 ≤ length (now torques)) ⌝ }
-    ensures { λ r. ⌜ (r .z ≡ Seeds.seedDecision map «torque_limit» duration (now (torques .entry))) × (r .held ≡ Seeds.seedHeld map «torque_limit» duration (now (torques .entry))) ⌝ }
+    ensures { λ r. ⌜ r .z ≡ Seeds.seedDecision map «torque_limit» duration (now (torques .entry)) ⌝ }
+    ensures { λ r. ⌜ r .held ≡ Seeds.seedHeld map «torque_limit» duration (now (torques .entry)) ⌝ }
 {
     let n = control_dim(map);
     let mut z = [0.0; 193];

@@ -7,8 +7,8 @@ use lib.ListN.{length}
 use lib.Ieee.{Float}
 use Rattle.common.specs.Lists.{at}
 use Rattle.actuators.specs.Maps.{controlDim}
-use Rattle.controls.specs.Operations.{rigUnder}
-use Rattle.controls.specs.declared.WheelLaw.the-variants.{Once}
+use Rattle.controls.specs.Controls.{rigUnder}
+use Rattle.control_rows.specs.declared.WheelLaw.the-variants.{Once}
 use Rattle.problem.specs.declared.CheckedProblem.{CheckedProblem}
 use Rattle.forward.specs.Decisions.{stepTime}
 use Rattle.forward.specs.StepLaws.{SkewOf}

@@ -11,7 +11,7 @@ ghost use Rattle.actuators.specs.Maps.{controlDim, isSized};
 ghost use Rattle.residuals.specs.Residuals.{residualsOf};
 ghost use Rattle.shared_runs.specs.Shared.{Agree, Same, Keeps, Holds};
 use common::Fate;
-use controls::WheelLaw;
+use control_rows::WheelLaw;
 use float_bits::same_bits;
 use forward::Partway;
 use forward::Skew;

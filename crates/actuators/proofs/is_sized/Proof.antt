@@ -1,16 +1,13 @@
--- `actuators::is_sized` meets its contract. Assumes nothing.
-use borrow.Author.Tests.{lt-leb, le-leb}
+-- `actuators::is_sized` meets its contract: each test is the definition's. Assumes nothing.
+use borrow.Author.Needs.{needs}
+use mathlib.Core.Path.{refl}
 use Rattle.actuators.specs.Maps.{isSized}
 use Rattle.actuators.proofs.is_sized.Statement.{statement}
 use Rattle.actuators.proofs.is_sized.Tie as tie
 
 returns : tie.Need-returns
 unfolding isSized
-returns c = rw (lt-leb _ _ (c .if1 .taken))
-
-returns-2 : tie.Need-returns-2
-unfolding isSized
-returns-2 c = rw (le-leb _ _ (c .before .if1 .left))
+returns c = refl
 
 pub is-sized-spec : {M : Type 1} → statement M
-is-sized-spec = tie.close (tie.spec returns returns-2)
+is-sized-spec = tie.close (tie.spec returns)

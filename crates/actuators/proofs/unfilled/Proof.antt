@@ -1,4 +1,4 @@
--- `actuators::unfilled` meets its contract. Assumes nothing.
+-- `actuators::unfilled` meets its contract: each step is its definition's. Assumes nothing.
 use lib.Ieee as Ieee
 use Rattle.actuators.specs.Maps as Maps
 use Rattle.actuators.proofs.unfilled.Statement.{statement}

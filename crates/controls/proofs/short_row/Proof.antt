@@ -5,9 +5,6 @@ use borrow.Author.Needs.{needs}
 use Rattle.controls.proofs.short_row.Statement.{statement}
 use Rattle.controls.proofs.short_row.Tie as tie
 
-is-bare-requires : tie.Need-is-bare-requires
-is-bare-requires c κs = search needs
-
 returns : tie.Need-returns
 returns c = rw (sym (c .before .is-bare .ensures) ∙ c .if1 .taken)
 
@@ -15,4 +12,4 @@ returns-2 : tie.Need-returns-2
 returns-2 c = rw (sym (c .before .is-bare .ensures) ∙ c .if1 .left)
 
 pub short-row-spec : {M : Type 1} → statement M
-short-row-spec = tie.close (tie.spec is-bare-requires returns returns-2)
+short-row-spec = tie.close (tie.spec (λ c κs. search needs) returns returns-2)

@@ -1,13 +1,7 @@
--- `controls::torque_by` meets its contract. Assumes nothing.
+-- `controls::torque_by` meets its contract: each way out is a case of the definition, told by the tests on the way. Assumes nothing.
 use borrow.Author.Needs.{needs}
 use Rattle.controls.proofs.torque_by.Statement.{statement}
 use Rattle.controls.proofs.torque_by.Tie as tie
-
-enum-told : tie.Need-enum-told
-enum-told c = search needs
-
-enum-known-fate : tie.Need-enum-known-fate
-enum-known-fate c = search needs
 
 returns : tie.Need-returns
 returns c = rw (c .enum-told .given .1)
@@ -17,4 +11,4 @@ unfolding lib.Ieee.ofBits
 returns-2 c = rw (c .before .fate .given .1)
 
 pub torque-by-spec : {M : Type 1} → statement M
-torque-by-spec = tie.close (tie.spec enum-told enum-known-fate returns returns-2)
+torque-by-spec = tie.close (tie.spec (λ c. search needs) (λ c. search needs) returns returns-2)

@@ -7,11 +7,11 @@ use Rattle.eigenaxis_seed.proofs.turn_of.Tie as tie
 
 returns : tie.Need-returns
 unfolding Seeds.turnOf Ieee.ofBits
-returns c = rw (← c .before .before .before .before .conjugate .ensures, ← c .before .before .before .mul .ensures, ← c .before .before .log-so3 .ensures, c .enum-told .given .1)
+returns c = rw (← c .before .before .rotation-between .ensures, c .enum-told .given .1)
 
 returns-2 : tie.Need-returns-2
 unfolding Seeds.turnOf
-returns-2 c = rw (← c .before .before .before .before .before .conjugate .ensures, ← c .before .before .before .before .mul .ensures, ← c .before .before .before .log-so3 .ensures, c .before .rotation .given .1)
+returns-2 c = rw (← c .before .before .before .rotation-between .ensures, c .before .rotation .given .1)
 
 pub turn-of-spec : {M : Type 1} → statement M
-turn-of-spec = tie.close (tie.spec (λ c κs. search needs) (λ c κs. search needs) (λ c κs. search needs) (λ c. search needs) (λ c. search needs) returns returns-2)
+turn-of-spec = tie.close (tie.spec (λ c κs. search needs) (λ c. search needs) (λ c. search needs) returns returns-2)

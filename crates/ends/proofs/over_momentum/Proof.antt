@@ -2,7 +2,7 @@
 use lib.Ieee as Ieee
 use native.Mathlib.Omega.{arith}
 use borrow.Author.Needs.{needs}
-use Rattle.actuators.specs.Sizes.{sized-counts}
+use Rattle.actuators.specs.MapLaws.{sized-counts}
 use Rattle.ends.proofs.over_momentum.Statement.{statement}
 use Rattle.ends.proofs.over_momentum.Tie as tie
 

@@ -3,21 +3,6 @@ use borrow.Author.Needs.{needs}
 use Rattle.geom.proofs.euler_lhs.Statement.{statement}
 use Rattle.geom.proofs.euler_lhs.Tie as tie
 
-apply-tensor-requires : tie.Need-apply-tensor-requires
-apply-tensor-requires c κs = search needs
-
-apply-tensor-requires-2 : tie.Need-apply-tensor-requires-2
-apply-tensor-requires-2 c κs = search needs
-
-add3-requires : tie.Need-add3-requires
-add3-requires c κs = search needs
-
-cross-requires : tie.Need-cross-requires
-cross-requires c κs = search needs
-
-add3-requires-2 : tie.Need-add3-requires-2
-add3-requires-2 c κs = search needs
-
 returns : tie.Need-returns
 returns c =
     rw (
@@ -32,9 +17,4 @@ pub euler-lhs-spec : {M : Type 1} → statement M
 euler-lhs-spec =
     tie.close
     (tie.spec
-    apply-tensor-requires
-    apply-tensor-requires-2
-    add3-requires
-    cross-requires
-    add3-requires-2
-    returns)
+    (λ c κs. search needs) (λ c κs. search needs) (λ c κs. search needs) (λ c κs. search needs) (λ c κs. search needs) returns)

@@ -1,4 +1,4 @@
--- `held_counts::held_at` meets its contract: the loop keeps that count is the definition's over k rows, at most k (`count-most`), as `counted` asks.
+-- `held_counts::held_at` meets its contract: after k turns the count is that of the first k rows, so it is at most k. Assumes nothing.
 use Prim.Native.Nat.{_+_, _*_, _-_, _<_, _≤_}
 use mathlib.Core.Path.{_≡_, refl}
 use Rattle.common.specs.Iter.{iter, iter-none, iter-next, row-end}
@@ -36,16 +36,5 @@ pub held-at-spec : {M : Type 1} → statement M
 held-at-spec =
     tie.close
     (tie.spec
-    Inv-loop
-    μ-loop
-    loop-holds
-    (λ c. omega (arith, place c))
-    (λ c. omega (arith, place c))
-    (λ c. omega (arith, place c))
-    (λ c. omega (arith, place c))
-    (λ c. place c)
-    counted-requires
-    (λ c. search needs)
-    (λ c. search needs)
-    loop-again
-    returns)
+    Inv-loop μ-loop loop-holds (λ c. omega (arith, place c)) (λ c. omega (arith, place c)) (λ c. omega (arith, place c))
+    (λ c. omega (arith, place c)) (λ c. place c) counted-requires (λ c. search needs) (λ c. search needs) loop-again returns)

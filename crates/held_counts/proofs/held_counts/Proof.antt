@@ -1,4 +1,4 @@
--- `held_counts::held_counts` meets its contract: the loop keeps that the first i places have their counts, by `limit_in` and `held_at`.
+-- `held_counts::held_counts` meets its contract: after i turns the first i places have their counts. Assumes nothing.
 use Prim.Native.Nat.{_-_, _≤_}
 use mathlib.Core.Path.{_≡_, refl}
 use lib.ListN.{length, length-set}
@@ -25,7 +25,10 @@ held-at-requires : tie.Need-held-at-requires Inv-loop μ-loop
 held-at-requires c κs = (omega (arith, c .before .before .before .control-dim .ensures, c .before .before .before .before .pre), search needs)
 
 write : tie.Need-array-write-out Inv-loop μ-loop
-write c = omega (arith, c .before .before .before .before .control-dim .ensures, c .before .before .before .before .before .pre)
+write c =
+    let after-control-dim = c .before .before .before .before in
+    let start = after-control-dim .before in
+    omega (arith, after-control-dim .control-dim .ensures, start .pre)
 
 loop-again : tie.Need-loop-again Inv-loop μ-loop
 loop-again c = (search needs, (search needs, iter-next _ _ _ (c .before .before .before .loop .inv .1 .1) (rw (c .held-at .ensures, c .before .limit-in .ensures, ← c .before .before .before .before .control-dim .ensures))))
@@ -40,15 +43,5 @@ pub held-counts-spec : {M : Type 1} → statement M
 held-counts-spec =
     tie.close
     (tie.spec
-    Inv-loop
-    μ-loop
-    (λ c κs. search needs)
-    loop-holds
-    limit-in-requires
-    held-at-requires
-    (λ c. search needs)
-    write
-    (λ c. search needs)
-    (λ c. search needs)
-    loop-again
-    returns)
+    Inv-loop μ-loop (λ c κs. search needs) loop-holds limit-in-requires held-at-requires (λ c. search needs) write (λ c. search needs)
+    (λ c. search needs) loop-again returns)

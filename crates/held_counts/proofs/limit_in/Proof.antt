@@ -1,11 +1,11 @@
--- `held_counts::limit_in` meets its contract: with no actuators i is below 3 (`held-bare`); else the tables have room for the counts (`held-tables`).
+-- `held_counts::limit_in` meets its contract: each way out is a case of the definition, told by the tests on the way. Assumes nothing.
 use Prim.Native.Nat.{_<_}
 use mathlib.Core.Path.{_≡_, sym, _∙_}
 use mathlib.Core.Bool.{Bool, true, false}
-use Rattle.controls.specs.Limits as Limits
-use Rattle.controls.specs.Parts.{bare}
-use Rattle.controls.specs.Operations.{rigOf}
-use Rattle.controls.specs.declared.Rig.{Rig}
+use Rattle.control_limits.specs.Limits as Limits
+use Rattle.control_rows.specs.Parts.{bare}
+use Rattle.controls.specs.Controls.{rigOf}
+use Rattle.control_rows.specs.declared.Rig.{Rig}
 use Rattle.actuators.specs.declared.ActuatorMap.{ActuatorMap}
 use Rattle.held_counts.specs.CountLaws.{held-bare, held-tables}
 use native.Mathlib.Omega.{arith}
@@ -35,10 +35,4 @@ pub limit-in-spec : {M : Type 1} → statement M
 limit-in-spec =
     tie.close
     (tie.spec
-    (λ c κs. search needs)
-    (λ c κs. search needs)
-    (λ c. omega (arith, below c))
-    below
-    returns
-    part-limit-requires
-    returns-2)
+    (λ c κs. search needs) (λ c κs. search needs) (λ c. omega (arith, below c)) below returns part-limit-requires returns-2)

@@ -1,4 +1,4 @@
--- `held_counts::part_limit` meets its contract: wheel, thruster, pyramid: two comparisons in the definition's order, and in each case its limit.
+-- `held_counts::part_limit` meets its contract: each way out is a case of the definition, told by the tests on the way. Assumes nothing.
 use borrow.Author.Tests.{lt-ltb, le-ltb}
 use borrow.Author.Needs.{needs}
 use Rattle.held_counts.proofs.part_limit.Statement.{statement}
@@ -17,12 +17,5 @@ pub part-limit-spec : {M : Type 1} → statement M
 part-limit-spec =
     tie.close
     (tie.spec
-    (λ c. search needs)
-    (λ c. search needs)
-    returns
-    (λ c. search needs)
-    (λ c. search needs)
-    (λ c. search needs)
-    returns-2
-    (λ c κs. search needs)
+    (λ c. search needs) (λ c. search needs) returns (λ c. search needs) (λ c. search needs) (λ c. search needs) returns-2 (λ c κs. search needs)
     returns-3)

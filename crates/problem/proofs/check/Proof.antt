@@ -1,23 +1,8 @@
--- `problem::check` meets its contract: the fate of `prepare` decides, as in the definition: its refusal, or `with_map`.
+-- `problem::check` meets its contract: each way out is a case of the definition, told by the tests on the way. Assumes nothing.
 use Rattle.problem.specs.Problems as Problems
 use borrow.Author.Needs.{needs}
 use Rattle.problem.proofs.check.Statement.{statement}
 use Rattle.problem.proofs.check.Tie as tie
-
-prepare-requires : tie.Need-prepare-requires
-prepare-requires c κs = search needs
-
-enum-known-fate : tie.Need-enum-known-fate
-enum-known-fate c = search needs
-
-refused-requires : tie.Need-refused-requires
-refused-requires c κs = search needs
-
-enum-told : tie.Need-enum-told
-enum-told c = search needs
-
-with-map-requires : tie.Need-with-map-requires
-with-map-requires c κs = search needs
 
 returns : tie.Need-returns
 unfolding Problems.check
@@ -31,10 +16,4 @@ pub check-spec : {M : Type 1} → statement M
 check-spec =
     tie.close
     (tie.spec
-    prepare-requires
-    enum-known-fate
-    refused-requires
-    enum-told
-    with-map-requires
-    returns
-    returns-2)
+    (λ c κs. search needs) (λ c. search needs) (λ c κs. search needs) (λ c. search needs) (λ c κs. search needs) returns returns-2)

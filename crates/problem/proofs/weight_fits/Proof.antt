@@ -1,18 +1,12 @@
--- `problem::weight_fits` meets its contract: `is_finite` decides first, then the comparison with 0, as in the definition.
-use lib.Ieee as Ieee
+-- `problem::weight_fits` meets its contract: each test is the definition's. Assumes nothing.
 use borrow.Author.Needs.{needs}
+use lib.Ieee as Ieee
 use Rattle.problem.proofs.weight_fits.Statement.{statement}
 use Rattle.problem.proofs.weight_fits.Tie as tie
 
-is-finite-requires : tie.Need-is-finite-requires
-is-finite-requires c κs = search needs
-
 returns : tie.Need-returns
 unfolding Ieee.ofBits
-returns c = rw (← c .before .is-finite .ensures, c .if1 .taken)
-
-returns-2 : tie.Need-returns-2
-returns-2 c = rw (← c .before .is-finite .ensures, c .if1 .left)
+returns c = rw (c .is-finite .ensures)
 
 pub weight-fits-spec : {M : Type 1} → statement M
-weight-fits-spec = tie.close (tie.spec is-finite-requires returns returns-2)
+weight-fits-spec = tie.close (tie.spec (λ c κs. search needs) returns)

@@ -1,4 +1,4 @@
--- `problem::with_map` meets its contract: check 4, check 22, then `with_starts`: the definition's order, each on its callee's contract.
+-- `problem::with_map` meets its contract: each way out is a case of the definition, told by the tests on the way. Assumes nothing.
 use Rattle.geom.specs.Tests.{met, unmet}
 use Rattle.problem.specs.Problems as Problems
 use borrow.Author.Needs.{needs}
@@ -22,4 +22,8 @@ returns-3 c =
     rw (met (t .before .before .before .before .numbers-fit .ensures) (t .before .before .before .if1 .left), ← t .check-starts .ensures, c .before .enum-told .given .1) (c .with-starts .ensures)
 
 pub with-map-spec : {M : Type 1} → statement M
-with-map-spec = tie.close (tie.spec (λ c κs. search needs) (λ c κs. search needs) returns (λ c κs. search needs) (λ c. search needs) (λ c κs. search needs) (λ c. search needs) (λ c κs. search needs) returns-2 returns-3)
+with-map-spec =
+    tie.close
+    (tie.spec
+    (λ c κs. search needs) (λ c κs. search needs) returns (λ c κs. search needs) (λ c. search needs) (λ c κs. search needs) (λ c. search needs)
+    (λ c κs. search needs) returns-2 returns-3)

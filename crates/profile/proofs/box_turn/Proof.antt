@@ -1,15 +1,9 @@
--- `box_turn` meets its contract: either case of the comparison is the definition's, with `abs` and `min` by their contracts.
+-- `profile::box_turn` meets its contract: each way out is a case of the definition, told by the tests on the way. Assumes nothing.
 use borrow.Author.Needs.{needs}
 use lib.Ieee.{ofBits}
 use Rattle.profile.specs.Profiles.{boxTurn}
 use Rattle.profile.proofs.box_turn.Statement.{statement}
 use Rattle.profile.proofs.box_turn.Tie as tie
-
-abs-requires : tie.Need-abs-requires
-abs-requires c κs = search needs
-
-min-requires : tie.Need-min-requires
-min-requires c κs = search needs
 
 returns : tie.Need-returns
 unfolding boxTurn ofBits
@@ -20,4 +14,4 @@ unfolding boxTurn ofBits
 returns-2 c = rw (← c .before .before .abs .ensures, c .before .if1 .left, c .min .ensures)
 
 pub box-turn-spec : {M : Type 1} → statement M
-box-turn-spec = tie.close (tie.spec abs-requires min-requires returns returns-2)
+box-turn-spec = tie.close (tie.spec (λ c κs. search needs) (λ c κs. search needs) returns returns-2)

@@ -1,27 +1,9 @@
--- `relative` meets its contract: the sign of `dot` decides whether qf or its negation is multiplied, as in the definition.
+-- `profile::relative` meets its contract: each way out is a case of the definition, told by the tests on the way. Assumes nothing.
 use borrow.Author.Needs.{needs}
 use lib.Ieee.{ofBits}
 use Rattle.profile.specs.Profiles.{relative}
 use Rattle.profile.proofs.relative.Statement.{statement}
 use Rattle.profile.proofs.relative.Tie as tie
-
-dot-requires : tie.Need-dot-requires
-dot-requires c κs = search needs
-
-conjugate-requires : tie.Need-conjugate-requires
-conjugate-requires c κs = search needs
-
-negate-requires : tie.Need-negate-requires
-negate-requires c κs = search needs
-
-mul-requires : tie.Need-mul-requires
-mul-requires c κs = search needs
-
-conjugate-requires-2 : tie.Need-conjugate-requires-2
-conjugate-requires-2 c κs = search needs
-
-mul-requires-2 : tie.Need-mul-requires-2
-mul-requires-2 c κs = search needs
 
 returns : tie.Need-returns
 unfolding relative ofBits
@@ -35,11 +17,5 @@ pub relative-spec : {M : Type 1} → statement M
 relative-spec =
     tie.close
     (tie.spec
-    dot-requires
-    conjugate-requires
-    negate-requires
-    mul-requires
-    conjugate-requires-2
-    mul-requires-2
-    returns
+    (λ c κs. search needs) (λ c κs. search needs) (λ c κs. search needs) (λ c κs. search needs) (λ c κs. search needs) (λ c κs. search needs) returns
     returns-2)

@@ -1,20 +1,8 @@
--- `switch_times` meets its contract: with no slew limit there is no coast, with one `limited` answers, both from the root of `sqrt`.
+-- `profile::switch_times` meets its contract: each way out is a case of the definition, told by the tests on the way. Assumes nothing.
 use borrow.Author.Needs.{needs}
 use Rattle.profile.specs.Profiles.{switchTimes}
 use Rattle.profile.proofs.switch_times.Statement.{statement}
 use Rattle.profile.proofs.switch_times.Tie as tie
-
-sqrt-requires : tie.Need-sqrt-requires
-sqrt-requires c κs = search needs
-
-enum-told : tie.Need-enum-told
-enum-told c = search needs
-
-enum-known-slew-limit : tie.Need-enum-known-slew-limit
-enum-known-slew-limit c = search needs
-
-limited-requires : tie.Need-limited-requires
-limited-requires c κs = search needs
 
 returns : tie.Need-returns
 unfolding switchTimes lib.Ieee.ofBits
@@ -25,6 +13,4 @@ unfolding switchTimes
 returns-2 c = rw (c .before .before .slew-limit .given .1, c .limited .ensures, c .before .before .before .before .sqrt .ensures)
 
 pub switch-times-spec : {M : Type 1} → statement M
-switch-times-spec =
-    tie.close
-    (tie.spec sqrt-requires enum-told enum-known-slew-limit limited-requires returns returns-2)
+switch-times-spec = tie.close (tie.spec (λ c κs. search needs) (λ c. search needs) (λ c. search needs) (λ c κs. search needs) returns returns-2)

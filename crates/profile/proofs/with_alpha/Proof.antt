@@ -1,22 +1,7 @@
--- `with_alpha` meets its contract: the acceleration decides, as in the definition: a refusal, or `with_switches` with its times.
+-- `profile::with_alpha` meets its contract: each way out is a case of the definition, told by the tests on the way. Assumes nothing.
 use borrow.Author.Needs.{needs}
 use Rattle.profile.proofs.with_alpha.Statement.{statement}
 use Rattle.profile.proofs.with_alpha.Tie as tie
-
-enum-told : tie.Need-enum-told
-enum-told c = search needs
-
-refused-requires : tie.Need-refused-requires
-refused-requires c κs = search needs
-
-enum-known-a : tie.Need-enum-known-a
-enum-known-a c = search needs
-
-switch-times-requires : tie.Need-switch-times-requires
-switch-times-requires c κs = search needs
-
-with-switches-requires : tie.Need-with-switches-requires
-with-switches-requires c κs = search needs
 
 returns : tie.Need-returns
 returns c = rw (c .before .enum-told .given .1, c .refused .ensures)
@@ -28,10 +13,4 @@ pub with-alpha-spec : {M : Type 1} → statement M
 with-alpha-spec =
     tie.close
     (tie.spec
-    enum-told
-    refused-requires
-    enum-known-a
-    switch-times-requires
-    with-switches-requires
-    returns
-    returns-2)
+    (λ c. search needs) (λ c κs. search needs) (λ c. search needs) (λ c κs. search needs) (λ c κs. search needs) returns returns-2)

@@ -1,20 +1,8 @@
--- `with_half` meets its contract: the half angle decides, as in the definition: a refusal, or `with_theta` with twice it.
+-- `profile::with_half` meets its contract: each way out is a case of the definition, told by the tests on the way. Assumes nothing.
 use borrow.Author.Needs.{needs}
 use lib.Ieee.{ofBits}
 use Rattle.profile.proofs.with_half.Statement.{statement}
 use Rattle.profile.proofs.with_half.Tie as tie
-
-enum-told : tie.Need-enum-told
-enum-told c = search needs
-
-refused-requires : tie.Need-refused-requires
-refused-requires c κs = search needs
-
-enum-known-half : tie.Need-enum-known-half
-enum-known-half c = search needs
-
-with-theta-requires : tie.Need-with-theta-requires
-with-theta-requires c κs = search needs
 
 returns : tie.Need-returns
 returns c = rw (c .before .enum-told .given .1, c .refused .ensures)
@@ -24,6 +12,4 @@ unfolding ofBits
 returns-2 c = rw (c .before .before .half .given .1, c .with-theta .ensures)
 
 pub with-half-spec : {M : Type 1} → statement M
-with-half-spec =
-    tie.close
-    (tie.spec enum-told refused-requires enum-known-half with-theta-requires returns returns-2)
+with-half-spec = tie.close (tie.spec (λ c. search needs) (λ c κs. search needs) (λ c. search needs) (λ c κs. search needs) returns returns-2)

@@ -1,4 +1,4 @@
--- `seeds::allocate_rows` meets its contract.
+-- `seeds::allocate_rows` meets its contract: after k turns the first k rows are allocated, and each row lies within the decision. Assumes nothing.
 use Prim.Native.Nat.{ℕ, _≤_, _<_, _-_, _+_, _*_}
 use mathlib.Core.Path.{_≡_, _∙_}
 use lib.ListN.{length}
@@ -33,45 +33,39 @@ add-at c = omega (arith, room (c .before .loop .k) (c .before .before .before .a
 add-end : tie.Need-add-end Inv-loop μ-loop
 add-end c = omega (arith, room (c .before .loop .k) (c .before .before .before .args .n) (search needs) (c .before .before .before .pre .1 .0))
 
-row-of-requires : tie.Need-row-of-requires Inv-loop μ-loop
-row-of-requires c κs = search needs
-
 mul-out : tie.Need-mul-out Inv-loop μ-loop
-mul-out c = omega (arith, room (c .before .before .loop .k) (c .before .before .before .before .args .n) (search needs) (c .before .before .before .before .pre .1 .0))
-
-sub-put-row : tie.Need-sub-put-row Inv-loop μ-loop
-sub-put-row c = search needs
-
-part-out-start : tie.Need-part-out-start Inv-loop μ-loop
-part-out-start c = search needs
+mul-out c =
+    let start = c .before .before .before .before in
+    omega (arith, room (c .before .before .loop .k) (start .args .n) (search needs) (start .pre .1 .0))
 
 part-out-end : tie.Need-part-out-end Inv-loop μ-loop
-part-out-end c = omega (arith, room (c .before .before .loop .k) (c .before .before .before .before .args .n) (search needs) (c .before .before .before .before .pre .1 .0))
+part-out-end c =
+    let start = c .before .before .before .before in
+    omega (arith, room (c .before .before .loop .k) (start .args .n) (search needs) (start .pre .1 .0))
 
 put-row-requires : tie.Need-put-row-requires Inv-loop μ-loop
 put-row-requires c κs =
-    let n = c .before .before .before .before .before .args .n in
-    let h = c .before .before .before .before .before .pre .1 .0 in
-    let l = c .before .before .before .loop in
+    let looped = c .before .before .before in
+    let start = looped .before .before in
+    let n = start .args .n in
+    let h = start .pre .1 .0 in
+    let l = looped .loop in
     let r = room (l .k) n (omega arith) h in
     omega (arith, length-slice (l .out) (1 + l .k * n) (1 + l .k * n + n) (omega arith))
 
-add-k : tie.Need-add-k Inv-loop μ-loop
-add-k c = search needs
-
-loop-less : tie.Need-loop-less Inv-loop μ-loop
-loop-less c = search needs
-
 loop-again : tie.Need-loop-again Inv-loop μ-loop
 loop-again c =
-    let s = c .before .before .before .before .before .before .before in
+    let after-row-of = c .before .before .before in
+    let looped = after-row-of .before .before in
+    let start = looped .before .before in
+    let s = start in
     let n = s .args .n in
-    let l = c .before .before .before .before .before .loop in
+    let l = looped .loop in
     let f = c .before .put-row in
     let r = room (l .k) n (omega arith) (s .pre .1 .0) in
     let g = length-slice (l .out) (1 + l .k * n) (1 + l .k * n + n) (omega arith) in
     let e : 1 + l .k * n + n - (1 + l .k * n) ≡ n = omega arith in
-    (omega arith, (length-pasted (l .out) (f .last .0) (1 + l .k * n) (1 + l .k * n + n) (omega arith) (omega arith) (f .kept .0) ∙ l .inv .1 .0, iter-next _ _ _ (l .inv .1 .1) (rw (← s .pre .0, f .ensures, g, e, c .before .before .before .row-of .ensures))))
+    (omega arith, (length-pasted (l .out) (f .last .0) (1 + l .k * n) (1 + l .k * n + n) (omega arith) (omega arith) (f .kept .0) ∙ l .inv .1 .0, iter-next _ _ _ (l .inv .1 .1) (rw (← s .pre .0, f .ensures, g, e, after-row-of .row-of .ensures))))
 
 returns : tie.Need-returns Inv-loop μ-loop
 returns c = let e : c .before .loop .k ≡ 16 = omega arith in rw (← e) (c .before .loop .inv .1 .1)
@@ -80,19 +74,5 @@ pub allocate-rows-spec : {M : Type 1} → statement M
 allocate-rows-spec =
     tie.close
     (tie.spec
-    Inv-loop
-    μ-loop
-    loop-holds
-    mul-at
-    add-at
-    add-end
-    row-of-requires
-    mul-out
-    sub-put-row
-    part-out-start
-    part-out-end
-    put-row-requires
-    add-k
-    loop-less
-    loop-again
-    returns)
+    Inv-loop μ-loop loop-holds mul-at add-at add-end (λ c κs. search needs) mul-out (λ c. search needs) (λ c. search needs) part-out-end
+    put-row-requires (λ c. search needs) (λ c. search needs) loop-again returns)

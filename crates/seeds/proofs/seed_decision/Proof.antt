@@ -1,4 +1,4 @@
--- `seeds::seed_decision` meets its contract.
+-- `seeds::seed_decision` meets its contract: each step is its definition's. Assumes nothing.
 use lib.Ieee as Ieee
 use borrow.Author.Needs.{needs}
 use Rattle.seeds.specs.Seeds as Seeds
@@ -13,9 +13,4 @@ pub seed-decision-spec : {M : Type 1} → statement M
 seed-decision-spec =
     tie.close
     (tie.spec
-    (λ c κs. search needs)
-    (λ c. search needs)
-    (λ c κs. search needs)
-    (λ c κs. search needs)
-    (λ c κs. search needs)
-    returns)
+    (λ c κs. search needs) (λ c. search needs) (λ c κs. search needs) (λ c κs. search needs) (λ c κs. search needs) returns)

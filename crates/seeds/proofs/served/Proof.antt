@@ -1,4 +1,4 @@
--- `seeds::served` meets its contract.
+-- `seeds::served` meets its contract: each step is its definition's. Assumes nothing.
 use lib.Ieee as Ieee
 use native.Mathlib.Omega.{arith}
 use borrow.Author.Needs.{needs}
@@ -6,12 +6,9 @@ use Rattle.seeds.specs.Seeds as Seeds
 use Rattle.seeds.proofs.served.Statement.{statement}
 use Rattle.seeds.proofs.served.Tie as tie
 
-allocate-body-torque-requires : tie.Need-allocate-body-torque-requires
-allocate-body-torque-requires c κs = search needs
-
 returns : tie.Need-returns
 unfolding Seeds.served Ieee.ofBits
 returns c = rw (c .allocate-body-torque .ensures)
 
 pub served-spec : {M : Type 1} → statement M
-served-spec = tie.close (tie.spec allocate-body-torque-requires returns)
+served-spec = tie.close (tie.spec (λ c κs. search needs) returns)

@@ -3,8 +3,8 @@ use mathlib.Core.Path.{refl}
 use native.Mathlib.Omega.{arith}
 use lib.Ieee as Ieee
 use Rattle.common.specs.Iter.{iter-none}
-use Rattle.controls.specs.Sizes.{dim-sized}
-use Rattle.controls.specs.declared.WheelLaw.the-variants.{Once}
+use Rattle.controls.specs.SizeLaws.{dim-sized}
+use Rattle.control_rows.specs.declared.WheelLaw.the-variants.{Once}
 use Rattle.forward.specs.Runs as Runs
 use Rattle.forward.specs.Launch.{launch-goes}
 use Rattle.forward.specs.PartLaws.{stands-first}

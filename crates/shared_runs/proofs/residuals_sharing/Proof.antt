@@ -2,7 +2,7 @@
 use mathlib.Core.Path.{_≡_, refl, sym, ap, _∙_}
 use native.Mathlib.Omega.{arith}
 use lib.ListN.{length}
-use Rattle.actuators.specs.Sizes.{sized-counts}
+use Rattle.actuators.specs.MapLaws.{sized-counts}
 use Rattle.forward.specs.Runs as Runs
 use Rattle.forward.specs.Decisions.{stepTime}
 use Rattle.residuals.specs.Residuals.{targetOf}

@@ -1,58 +1,42 @@
--- `actuators::allocation::axes_alone` meets its contract. Assumes nothing.
-use lib.Ieee as Ieee
-use Rattle.actuators.specs.Allocate as Allocate
+-- `actuators::allocation::axes_alone` meets its contract: the tests are the definition's, and so is what follows each. Assumes nothing.
 use borrow.Author.Needs.{needs}
+use native.Mathlib.Omega.{arith}
+use mathlib.Core.Path.{_≡_}
+use lib.Ieee as Ieee
+use lib.ListN.{length}
+use Rattle.actuators.specs.Allocate as Allocate
 use Rattle.actuators.proofs.allocation.axes_alone.Statement.{statement}
 use Rattle.actuators.proofs.allocation.axes_alone.Tie as tie
 
-alone-requires : tie.Need-alone-requires
-alone-requires c κs = search needs
-
-wheel-columns-requires : tie.Need-wheel-columns-requires
-wheel-columns-requires c κs = search needs
-
-scale3-requires : tie.Need-scale3-requires
-scale3-requires c κs = search needs
-
-along-axes-requires : tie.Need-along-axes-requires
-along-axes-requires c κs = search needs
+columns-requires : tie.Need-columns-requires
+columns-requires c κs = let l : length (c .before .before .before .before .args .map .«wheel_axes») ≡ 24 = search needs in omega arith
 
 returns : tie.Need-returns
 unfolding Allocate.axesAlone Ieee.ofBits Ieee.neg
-returns c = rw (← c .before .before .before .before .before .alone .ensures, c .before .before .before .before .if1 .taken, c .along-axes .ensures, c .before .scale3 .ensures, c .before .before .wheel-columns .ensures)
+returns c =
+    let told = c .before .before .before .before .before in
+    rw (← told .before .alone .ensures, told .if1 .taken, c .along-axes .ensures, c .before .scale3 .ensures, c .before .before .columns .ensures)
 
-alone-requires-2 : tie.Need-alone-requires-2
-alone-requires-2 c κs = search needs
-
-thruster-columns-requires : tie.Need-thruster-columns-requires
-thruster-columns-requires c κs = search needs
-
-along-axes-requires-2 : tie.Need-along-axes-requires-2
-along-axes-requires-2 c κs = search needs
+columns-requires-2 : tie.Need-columns-requires-2
+columns-requires-2 c κs = let l : length (c .before .before .before .before .before .before .args .map .«thruster_axes») ≡ 36 = search needs in omega arith
 
 returns-2 : tie.Need-returns-2
 unfolding Allocate.axesAlone
-returns-2 c = rw (← c .before .before .before .before .before .before .alone .ensures, c .before .before .before .before .before .if1 .left, ← c .before .before .before .before .alone2 .ensures, c .before .before .before .if2 .taken, c .along-axes2 .ensures, c .before .thruster-columns .ensures)
-
-unserved-requires : tie.Need-unserved-requires
-unserved-requires c κs = search needs
+returns-2 c =
+    let told = c .before .before .before .before in
+    let other = told .before .before in
+    rw (← other .before .alone .ensures, other .if1 .left, ← told .before .alone2 .ensures, told .if2 .taken, c .along-axes2 .ensures, c .before .columns2 .ensures)
 
 returns-3 : tie.Need-returns-3
 unfolding Allocate.axesAlone
-returns-3 c = rw (← c .before .before .before .before .alone .ensures, c .before .before .before .if1 .left, ← c .before .before .alone2 .ensures, c .before .if2 .left) (c .unserved .ensures)
+returns-3 c =
+    let told = c .before in
+    let other = told .before .before in
+    rw (← other .before .alone .ensures, other .if1 .left, ← told .before .alone2 .ensures, told .if2 .left) (c .unserved .ensures)
 
 pub axes-alone-spec : {M : Type 1} → statement M
 axes-alone-spec =
     tie.close
     (tie.spec
-    alone-requires
-    wheel-columns-requires
-    scale3-requires
-    along-axes-requires
-    returns
-    alone-requires-2
-    thruster-columns-requires
-    along-axes-requires-2
-    returns-2
-    unserved-requires
-    returns-3)
+    (λ c κs. search needs) (λ c. search needs) columns-requires (λ c κs. search needs) (λ c κs. search needs) returns (λ c κs. search needs)
+    (λ c. search needs) columns-requires-2 (λ c κs. search needs) returns-2 (λ c κs. search needs) returns-3)

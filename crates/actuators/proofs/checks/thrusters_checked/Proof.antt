@@ -1,4 +1,4 @@
--- `actuators::checks::thrusters_checked` meets its contract. Assumes nothing.
+-- `actuators::checks::thrusters_checked` meets its contract: after k turns the answer is that of the first k thrusters. Assumes nothing.
 use Rattle.common.specs.Iter.{iter, iter-none, iter-next}
 use mathlib.Core.Path.{_≡_}
 use Prim.Native.Nat.{_≤_, _-_}
@@ -17,21 +17,6 @@ abbrev μ-loop : tie.MeasureT-loop
 loop-holds : tie.Need-loop-holds Inv-loop μ-loop
 loop-holds c = (search needs, iter-none _ _)
 
-mul-thruster : tie.Need-mul-thruster Inv-loop μ-loop
-mul-thruster c = search needs
-
-array-copy-out-thruster : tie.Need-array-copy-out-thruster Inv-loop μ-loop
-array-copy-out-thruster c = search needs
-
-thruster-turn-requires : tie.Need-thruster-turn-requires Inv-loop μ-loop
-thruster-turn-requires c κs = search needs
-
-add-k : tie.Need-add-k Inv-loop μ-loop
-add-k c = search needs
-
-loop-less : tie.Need-loop-less Inv-loop μ-loop
-loop-less c = search needs
-
 loop-again : tie.Need-loop-again Inv-loop μ-loop
 loop-again c = (search needs, iter-next _ _ _ (c .before .before .before .loop .inv .1) (c .thruster-turn .ensures))
 
@@ -43,13 +28,5 @@ pub thrusters-checked-spec : {M : Type 1} → statement M
 thrusters-checked-spec =
     tie.close
     (tie.spec
-    Inv-loop
-    μ-loop
-    loop-holds
-    mul-thruster
-    array-copy-out-thruster
-    thruster-turn-requires
-    add-k
-    loop-less
-    loop-again
+    Inv-loop μ-loop loop-holds (λ c. search needs) (λ c. search needs) (λ c κs. search needs) (λ c. search needs) (λ c. search needs) loop-again
     returns)

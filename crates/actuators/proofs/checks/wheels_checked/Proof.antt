@@ -1,4 +1,4 @@
--- `actuators::checks::wheels_checked` meets its contract. Assumes nothing.
+-- `actuators::checks::wheels_checked` meets its contract: after k turns the answer is that of the first k wheels. Assumes nothing.
 use Rattle.common.specs.Iter.{iter, iter-none, iter-next}
 use mathlib.Core.Path.{_≡_}
 use Prim.Native.Nat.{_≤_, _-_}
@@ -17,21 +17,6 @@ abbrev μ-loop : tie.MeasureT-loop
 loop-holds : tie.Need-loop-holds Inv-loop μ-loop
 loop-holds c = (search needs, iter-none _ _)
 
-mul-wheel : tie.Need-mul-wheel Inv-loop μ-loop
-mul-wheel c = search needs
-
-array-copy-out-wheel : tie.Need-array-copy-out-wheel Inv-loop μ-loop
-array-copy-out-wheel c = search needs
-
-wheel-turn-requires : tie.Need-wheel-turn-requires Inv-loop μ-loop
-wheel-turn-requires c κs = search needs
-
-add-k : tie.Need-add-k Inv-loop μ-loop
-add-k c = search needs
-
-loop-less : tie.Need-loop-less Inv-loop μ-loop
-loop-less c = search needs
-
 loop-again : tie.Need-loop-again Inv-loop μ-loop
 loop-again c = (search needs, iter-next _ _ _ (c .before .before .before .loop .inv .1) (c .wheel-turn .ensures))
 
@@ -43,13 +28,5 @@ pub wheels-checked-spec : {M : Type 1} → statement M
 wheels-checked-spec =
     tie.close
     (tie.spec
-    Inv-loop
-    μ-loop
-    loop-holds
-    mul-wheel
-    array-copy-out-wheel
-    wheel-turn-requires
-    add-k
-    loop-less
-    loop-again
+    Inv-loop μ-loop loop-holds (λ c. search needs) (λ c. search needs) (λ c κs. search needs) (λ c. search needs) (λ c. search needs) loop-again
     returns)

@@ -3,8 +3,8 @@ use mathlib.Core.Path.{_≡_, refl, _∙_}
 use native.Mathlib.Omega.{arith}
 use lib.ListN.{length}
 use lib.Ieee as Ieee
-use Rattle.controls.specs.Sizes.{dim-sized}
-use Rattle.controls.specs.declared.WheelLaw.the-variants.{Once}
+use Rattle.controls.specs.SizeLaws.{dim-sized}
+use Rattle.control_rows.specs.declared.WheelLaw.the-variants.{Once}
 use Rattle.forward.specs.Runs as Runs
 use Rattle.forward.specs.Launch.{launch-goes, launch-refused}
 use Rattle.forward.specs.PartLaws.{told, stands-first}

@@ -1,6 +1,6 @@
 -- `forward::runs::steps_under` meets its contract. Assumes nothing.
 use lib.Ieee as Ieee
-use Rattle.controls.specs.Sizes.{dim-sized}
+use Rattle.controls.specs.SizeLaws.{dim-sized}
 use borrow.Author.Needs.{needs}
 use Rattle.forward.proofs.runs.steps_under.Statement.{statement}
 use Rattle.forward.proofs.runs.steps_under.Tie as tie

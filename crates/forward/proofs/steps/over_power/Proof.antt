@@ -2,7 +2,7 @@
 use mathlib.Core.Path.{refl}
 use lib.Ieee as Ieee
 use Rattle.common.specs.Iter as Iter
-use Rattle.controls.specs.Limits as Limits
+use Rattle.control_limits.specs.Limits as Limits
 use borrow.Author.Needs.{needs}
 use Rattle.forward.proofs.steps.over_power.Statement.{statement}
 use Rattle.forward.proofs.steps.over_power.Tie as tie

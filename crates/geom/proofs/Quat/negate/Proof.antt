@@ -4,12 +4,9 @@ use lib.Ieee.{ofBits, neg}
 use Rattle.geom.proofs.Quat.negate.Statement.{statement}
 use Rattle.geom.proofs.Quat.negate.Tie as tie
 
-scale-requires : tie.Need-scale-requires
-scale-requires c κs = search needs
-
 returns : tie.Need-returns
 unfolding ofBits neg
 returns c = rw (c .scale .ensures)
 
 pub negate-spec : {M : Type 1} → statement M
-negate-spec = tie.close (tie.spec scale-requires returns)
+negate-spec = tie.close (tie.spec (λ c κs. search needs) returns)

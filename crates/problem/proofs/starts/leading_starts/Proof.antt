@@ -1,4 +1,4 @@
--- `problem::starts::leading_starts` meets its contract: the loop keeps that the first k starts fit; the first that does not ends it.
+-- `problem::starts::leading_starts` meets its contract: every wheel before k has a start that fits. Assumes nothing.
 use Prim.Native.Nat.{_-_, _≤_}
 use native.Mathlib.Omega.{arith}
 use mathlib.Core.Path.{_≡_}
@@ -29,4 +29,7 @@ returns-2 : tie.Need-returns-2 Inv-loop μ-loop
 returns-2 c = leading-whole _ _ _ _ (c .before .loop .inv .1) (omega arith)
 
 pub leading-starts-spec : {M : Type 1} → statement M
-leading-starts-spec = tie.close (tie.spec Inv-loop μ-loop loop-holds (λ c κs. search needs) returns (λ c. search needs) (λ c. search needs) loop-again returns-2)
+leading-starts-spec =
+    tie.close
+    (tie.spec
+    Inv-loop μ-loop loop-holds (λ c κs. search needs) returns (λ c. search needs) (λ c. search needs) loop-again returns-2)

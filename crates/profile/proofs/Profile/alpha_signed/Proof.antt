@@ -1,4 +1,4 @@
--- `Profile::alpha_signed` meets its contract: three comparisons in the definition's order, and in each case its answer.
+-- `profile::Profile::alpha_signed` meets its contract: each way out is a case of the definition, told by the tests on the way. Assumes nothing.
 use lib.Ieee.{ofBits}
 use Rattle.profile.specs.Profiles.{alphaSigned}
 use Rattle.profile.proofs.Profile.alpha_signed.Statement.{statement}

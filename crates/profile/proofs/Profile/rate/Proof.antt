@@ -1,4 +1,4 @@
--- `Profile::rate` meets its contract: two comparisons in the definition's order, and in each case its formula.
+-- `profile::Profile::rate` meets its contract: each way out is a case of the definition, told by the tests on the way. Assumes nothing.
 use Rattle.profile.specs.Profiles.{rate}
 use Rattle.profile.proofs.Profile.rate.Statement.{statement}
 use Rattle.profile.proofs.Profile.rate.Tie as tie

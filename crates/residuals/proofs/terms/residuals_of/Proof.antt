@@ -3,7 +3,7 @@ use mathlib.Core.Path.{_≡_, refl, sym, ap, _∙_}
 use native.Mathlib.Omega.{arith}
 use lib.Ieee as Ieee
 use Rattle.common.specs.Iter.{iter-none}
-use Rattle.actuators.specs.Sizes.{sized-counts}
+use Rattle.actuators.specs.MapLaws.{sized-counts}
 use Rattle.residuals.specs.BeginLaws.{told-refused, told-going}
 use borrow.Author.Needs.{needs}
 use Rattle.residuals.proofs.terms.residuals_of.Statement.{statement}
