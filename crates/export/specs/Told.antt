@@ -4,7 +4,7 @@ use Rattle.common.specs.declared.Fate.{Fate}
 use Rattle.common.specs.declared.Fate.the-variants.{Going, Refused}
 use Rattle.planner.specs.Plans.{answer}
 use Rattle.planner.specs.declared.Planned.{Planned}
-use Rattle.export_runs.specs.Told.{Tells}
+use Rattle.export_leaves.specs.OutcomeLaws.{Tells}
 
 pub of-plan : (r : Planned) → Tells (answer r) (r .fate) (r .runs)
 of-plan r = go (r .fate) refl

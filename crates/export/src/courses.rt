@@ -1,22 +1,20 @@
 // planner: the profile of a problem as declared, as its 22 numbers (see export_leaves). `place` gets a refusal's place, or 0.
-ghost use mathlib.Core.Path.{_≡_};
 ghost use Rattle.planner.specs.Plans as Plans;
-ghost use Rattle.export_leaves.specs.Outcomes as Outcomes;
+ghost use Rattle.export_leaves.specs.Outcomes.{AnsweredAt, ofProfiled};
 ghost use Rattle.export.specs.Entries as Entries;
 use common::Fate;
-use export_leaves::courses::place_of;
 use export_leaves::courses::put_profile;
-use export_problem::problem_of;
+use export_leaves::pack::place_of;
 use problem::CheckedProblem;
+use problem_numbers::problem_of;
 
 // The profile of a problem that has passed checks 1 to 6 and 22.
 fn put_checked(p: CheckedProblem, out: &mut [f64; 22], place: &mut usize) -> usize
-    ensures { λ r. ⌜ r ≡ Outcomes.number (Outcomes.ofProfiled (Plans.profiled p)) ⌝ }
-    ensures { λ _. ⌜ now (out .exit) ≡ Outcomes.listOr (Outcomes.ofProfiled (Plans.profiled p)) (now (out .entry)) ⌝ }
-    ensures { λ _. ⌜ now (place .exit) ≡ Outcomes.place (Outcomes.ofProfiled (Plans.profiled p)) ⌝ }
+    ensures { λ r. ⌜ AnsweredAt (ofProfiled (Plans.profiled p)) r (now (place .exit)) (now (out .entry)) (now (out .exit)) ⌝ }
 {
     let made = planner::profiled(p);
-    *place = place_of(made);
+    let fate = made.fate;
+    *place = place_of(fate);
     put_profile(made, out)
 }
 
@@ -30,9 +28,8 @@ pub extern "C" fn slew_problem_profile(
     out: &mut [f64; 22],
     place: &mut usize,
 ) -> usize
-    ensures { λ r. ⌜ r ≡ Outcomes.number (Entries.profile (now (c .entry)) (now (v .entry)) (now (b .entry)) limited) ⌝ }
-    ensures { λ _. ⌜ now (out .exit) ≡ Outcomes.listOr (Entries.profile (now (c .entry)) (now (v .entry)) (now (b .entry)) limited) (now (out .entry)) ⌝ }
-    ensures { λ _. ⌜ now (place .exit) ≡ Outcomes.place (Entries.profile (now (c .entry)) (now (v .entry)) (now (b .entry)) limited) ⌝ }
+    ensures { λ r. ⌜ AnsweredAt (Entries.profile (now (c .entry)) (now (v .entry)) (now (b .entry)) limited)
+        r (now (place .exit)) (now (out .entry)) (now (out .exit)) ⌝ }
 {
     let checked = problem::check(problem_of(c, v, b, limited));
     let fate = checked.fate;

@@ -1,21 +1,19 @@
 // samples: dense samples of a path, one at a time. A path is its duration and the rows of its 17 nodes, as `slew_reconstruct` gives them; a sample its time,
 // attitude, rate, torque and body momentum. Beside a refusal the sample is zeros.
-ghost use mathlib.Core.Path.{_≡_};
 ghost use Rattle.geom.specs.Vec as Vec;
-ghost use Rattle.sample_text.specs.SampleTexts as SampleTexts;
 ghost use Rattle.samples.specs.Answers as Answers;
 ghost use Rattle.samples.specs.Counts as Counts;
 ghost use Rattle.samples.specs.Samples as Samples;
-ghost use Rattle.export_leaves.specs.Outcomes as Outcomes;
-use export_runs::paths::number_of;
-use export_runs::paths::place_of;
+ghost use Rattle.export_leaves.specs.Outcomes.{Answered};
+ghost use Rattle.export.specs.Entries.{SampleTold};
+use export_leaves::pack::number_of;
+use export_leaves::pack::place_of;
 use sample_text::numbers_of;
 use samples::Count;
 
 // A refusal's number, or 0, and then the count is put into `out`.
 fn put_count(n: Count, out: &mut usize) -> usize
-    ensures { λ r. ⌜ r ≡ Outcomes.number (Answers.ofCount n) ⌝ }
-    ensures { λ _. ⌜ now (out .exit) ≡ Outcomes.countOr (Answers.ofCount n) (now (out .entry)) ⌝ }
+    ensures { λ r. ⌜ Answered (Answers.ofCount n) r (now (out .entry)) (now (out .exit)) ⌝ }
 {
     match n {
         Count::Of(k) => {
@@ -34,8 +32,7 @@ pub extern "C" fn slew_sample_count(
     alpha: f64,
     out: &mut usize,
 ) -> usize
-    ensures { λ r. ⌜ r ≡ Outcomes.number (Answers.ofCount (Counts.sampleCount duration requested alpha)) ⌝ }
-    ensures { λ _. ⌜ now (out .exit) ≡ Outcomes.countOr (Answers.ofCount (Counts.sampleCount duration requested alpha)) (now (out .entry)) ⌝ }
+    ensures { λ r. ⌜ Answered (Answers.ofCount (Counts.sampleCount duration requested alpha)) r (now (out .entry)) (now (out .exit)) ⌝ }
 {
     put_count(samples::sample_count(duration, requested, alpha), out)
 }
@@ -53,9 +50,8 @@ pub extern "C" fn slew_sample_path(
     out: &mut [f64; 14],
     place: &mut usize,
 ) -> usize
-    ensures { λ r. ⌜ r ≡ Outcomes.number (Answers.ofSampled (Samples.sample (Vec.tensor (now (j .entry))) tolerance duration (now (nodes .entry)) requested alpha index)) ⌝ }
-    ensures { λ _. ⌜ now (out .exit) ≡ SampleTexts.numbers (Samples.sample (Vec.tensor (now (j .entry))) tolerance duration (now (nodes .entry)) requested alpha index .sample) ⌝ }
-    ensures { λ _. ⌜ now (place .exit) ≡ Outcomes.place (Answers.ofSampled (Samples.sample (Vec.tensor (now (j .entry))) tolerance duration (now (nodes .entry)) requested alpha index)) ⌝ }
+    ensures { λ r. ⌜ SampleTold (Samples.sample (Vec.tensor (now (j .entry))) tolerance duration (now (nodes .entry)) requested alpha index)
+        r (now (place .exit)) (now (out .exit)) ⌝ }
 {
     let inertia = geom::tensor(*j);
     let made = samples::sample(inertia, tolerance, duration, nodes, requested, alpha, index);

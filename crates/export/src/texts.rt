@@ -2,10 +2,10 @@
 //
 // For a plan an `out` of less than 16,384 bytes gets nothing, the answer is 0, and no forward run begins. The workspace is untouched where no forward run
 // began, and all +0 otherwise.
-ghost use mathlib.Core.Path.{_≡_};
 ghost use lib.ListN.{length};
 ghost use Rattle.plan_text.specs.PlanTexts as PlanTexts;
 ghost use Rattle.sample_text.specs.SampleTexts as SampleTexts;
+ghost use Rattle.export.specs.Entries.{TextTold};
 use plan_text::plan_text;
 use plan_text::plan_text_from;
 use sample_text::sample_text;
@@ -13,9 +13,8 @@ use sample_text::sample_text;
 // With our own seed. Answers how many bytes of `out` were written.
 #[no_mangle]
 pub extern "C" fn slew_plan(text: &[u8], workspace: &mut [f64], out: &mut [u8]) -> usize
-    ensures { λ r. ⌜ r ≡ PlanTexts.told (PlanTexts.planned (now (text .entry)) (length (now (workspace .entry)))) (now (out .entry)) .bytes ⌝ }
-    ensures { λ _. ⌜ now (out .exit) ≡ PlanTexts.written (PlanTexts.planned (now (text .entry)) (length (now (workspace .entry)))) (now (out .entry)) ⌝ }
-    ensures { λ _. ⌜ now (workspace .exit) ≡ PlanTexts.leaves (PlanTexts.planned (now (text .entry)) (length (now (workspace .entry)))) (now (out .entry)) (now (workspace .entry)) ⌝ }
+    ensures { λ r. ⌜ TextTold (PlanTexts.planned (now (text .entry)) (length (now (workspace .entry)))) r
+        (now (out .entry)) (now (out .exit)) (now (workspace .entry)) (now (workspace .exit)) ⌝ }
 {
     let told = plan_text(text, workspace, out);
     told.bytes
@@ -29,9 +28,8 @@ pub extern "C" fn slew_plan_from(
     workspace: &mut [f64],
     out: &mut [u8],
 ) -> usize
-    ensures { λ r. ⌜ r ≡ PlanTexts.told (PlanTexts.plannedFrom (now (text .entry)) (now (seed .entry)) (length (now (workspace .entry)))) (now (out .entry)) .bytes ⌝ }
-    ensures { λ _. ⌜ now (out .exit) ≡ PlanTexts.written (PlanTexts.plannedFrom (now (text .entry)) (now (seed .entry)) (length (now (workspace .entry)))) (now (out .entry)) ⌝ }
-    ensures { λ _. ⌜ now (workspace .exit) ≡ PlanTexts.leaves (PlanTexts.plannedFrom (now (text .entry)) (now (seed .entry)) (length (now (workspace .entry)))) (now (out .entry)) (now (workspace .entry)) ⌝ }
+    ensures { λ r. ⌜ TextTold (PlanTexts.plannedFrom (now (text .entry)) (now (seed .entry)) (length (now (workspace .entry)))) r
+        (now (out .entry)) (now (out .exit)) (now (workspace .entry)) (now (workspace .exit)) ⌝ }
 {
     let told = plan_text_from(text, seed, workspace, out);
     told.bytes
@@ -48,9 +46,8 @@ pub extern "C" fn slew_sample(
     index: usize,
     out: &mut [f64],
 ) -> u64
-    ensures { λ r. ⌜ r ≡ SampleTexts.told (SampleTexts.answer (SampleTexts.sampleCourse (SampleTexts.planCourse (now (text .entry)) (length (now (workspace .entry)))) requested alpha index)) (now (out .entry)) ⌝ }
-    ensures { λ _. ⌜ now (out .exit) ≡ SampleTexts.written (SampleTexts.answer (SampleTexts.sampleCourse (SampleTexts.planCourse (now (text .entry)) (length (now (workspace .entry)))) requested alpha index)) (now (out .entry)) ⌝ }
-    ensures { λ _. ⌜ now (workspace .exit) ≡ SampleTexts.leaves (SampleTexts.planCourse (now (text .entry)) (length (now (workspace .entry))) .runs) (now (out .entry)) (now (workspace .entry)) ⌝ }
+    ensures { λ r. ⌜ SampleTexts.Gives (SampleTexts.planCourse (now (text .entry)) (length (now (workspace .entry)))) requested alpha index
+        (now (workspace .entry)) (now (out .entry)) r (now (workspace .exit)) (now (out .exit)) ⌝ }
 {
     sample_text(text, workspace, requested, alpha, index, out)
 }

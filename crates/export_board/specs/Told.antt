@@ -3,15 +3,16 @@ use Prim.Native.Nat.{ℕ}
 use mathlib.Core.Path.{_≡_, ap, _∙_}
 use mathlib.Core.List.{List}
 use lib.IntN.{ℤ}
-use Rattle.drive_numbers.specs.Lists.{Listing, ofListing, Lists}
+use Rattle.drive_numbers.specs.Lists.{Listing, Lists}
 use Rattle.drive_numbers.specs.declared.lists.Listed.{Listed}
-use Rattle.export_leaves.specs.Outcomes as Outcomes
-use Rattle.export_runs.specs.Paths as Paths
-use Rattle.export_runs.specs.Told.{of-fate}
+use Rattle.export_leaves.specs.Outcomes.{fateNumber, fatePlace}
+use Rattle.export_leaves.specs.OutcomeLaws.{of-fate, placed}
+use Rattle.export_board.specs.BoardAnswers.{ListTold}
 
-module _ {l : Listing} {r : Listed} {n : ℕ} {out out′ : List (List ℤ)} (e : Lists l out r out′) where
-  pub list-number : n ≡ Paths.number (r .fate) → n ≡ Outcomes.number (ofListing l)
-  list-number p = p ∙ ap Paths.number (e .fate) ∙ of-fate (l .rows) (l .fate) .number
-
-  pub list-place : n ≡ Paths.place (r .fate) → n ≡ Outcomes.place (ofListing l)
-  list-place p = p ∙ ap Paths.place (e .fate) ∙ of-fate (l .rows) (l .fate) .place
+pub list-told : {l : Listing} {r : Listed} {n k : ℕ} {out out′ : List (List ℤ)} → Lists l out r out′ → k ≡ fatePlace (r .fate) → n ≡ fateNumber (r .fate)
+    → ListTold l n k (r .rows) out out′
+list-told {l} e p q = record {
+  placed = placed (of-fate (l .rows) (l .fate)) (p ∙ ap fatePlace (e .fate)) (q ∙ ap fateNumber (e .fate));
+  rows-are = e .count;
+  out-is = e .rows;
+}

@@ -1,14 +1,15 @@
 // The C interface of whole numbers for the drive board, thin over the proved library. `rt staticlib export_board` makes the archive.
 //
-// In C an `&mut [[i32; 13]]` is a pointer to rows of 13 numbers and a count of rows. A function that can refuse answers the refusal's number, or 0 where it gives an answer. A unit
-// is 2^-20 where `coarse` is true (rate, torque, momentum) and else 2^-30 (attitude).
+// In C an `&mut [[i32; 13]]` is a pointer to rows of 13 numbers and a count of rows. A function that can refuse answers the refusal's number, or 0 where it
+// gives an answer. A unit is 2^-20 where `coarse` is true (rate, torque, momentum) and else 2^-30 (attitude).
 ghost use mathlib.Core.Path.{_≡_};
 ghost use lib.ListN.{length};
 ghost use Rattle.geom.specs.Vec as Vec;
 ghost use Rattle.drive_numbers.specs.Numbers as Numbers;
 ghost use Rattle.drive_numbers.specs.Drive as Drive;
 ghost use Rattle.drive_numbers.specs.Lists as Lists;
-ghost use Rattle.export_leaves.specs.Outcomes as Outcomes;
+ghost use Rattle.export_leaves.specs.Outcomes.{number};
+ghost use Rattle.export_board.specs.BoardAnswers.{SampleTold, ListTold};
 ghost use Rattle.export_board.specs.Units as Units;
 use drive_numbers::Unit;
 use drive_numbers::Whole;
@@ -16,8 +17,8 @@ use drive_numbers::drive_sample;
 use drive_numbers::lists::drive_list;
 use drive_numbers::part;
 use drive_numbers::read_back;
-use export_runs::paths::number_of;
-use export_runs::paths::place_of;
+use export_leaves::pack::number_of;
+use export_leaves::pack::place_of;
 
 fn unit_of(coarse: bool) -> Unit
     ensures { λ r. ⌜ r ≡ Units.unit coarse ⌝ }
@@ -27,7 +28,7 @@ fn unit_of(coarse: bool) -> Unit
 
 // 24 and a 0, or 0 and the number.
 fn put_part(w: Whole, out: &mut i32) -> usize
-    ensures { λ r. ⌜ r ≡ Outcomes.number (Drive.ofWhole w) ⌝ }
+    ensures { λ r. ⌜ r ≡ number (Drive.ofWhole w) ⌝ }
     ensures { λ _. ⌜ now (out .exit) ≡ Drive.number w ⌝ }
 {
     match w {
@@ -45,7 +46,7 @@ fn put_part(w: Whole, out: &mut i32) -> usize
 // A part in whole units.
 #[no_mangle]
 pub extern "C" fn slew_board_part(x: f64, coarse: bool, out: &mut i32) -> usize
-    ensures { λ r. ⌜ r ≡ Outcomes.number (Drive.ofWhole (Numbers.part x (Units.unit coarse))) ⌝ }
+    ensures { λ r. ⌜ r ≡ number (Drive.ofWhole (Numbers.part x (Units.unit coarse))) ⌝ }
     ensures { λ _. ⌜ now (out .exit) ≡ Drive.number (Numbers.part x (Units.unit coarse)) ⌝ }
 {
     put_part(part(x, unit_of(coarse)), out)
@@ -72,9 +73,8 @@ pub extern "C" fn slew_board_sample(
     out: &mut [i32; 13],
     place: &mut usize,
 ) -> usize
-    ensures { λ r. ⌜ r ≡ Outcomes.number (Drive.ofDriven (Drive.driveSample (Vec.tensor (now (j .entry))) tolerance duration (now (nodes .entry)) requested alpha index)) ⌝ }
-    ensures { λ _. ⌜ now (out .exit) ≡ Drive.driveSample (Vec.tensor (now (j .entry))) tolerance duration (now (nodes .entry)) requested alpha index .numbers ⌝ }
-    ensures { λ _. ⌜ now (place .exit) ≡ Outcomes.place (Drive.ofDriven (Drive.driveSample (Vec.tensor (now (j .entry))) tolerance duration (now (nodes .entry)) requested alpha index)) ⌝ }
+    ensures { λ r. ⌜ SampleTold (Drive.driveSample (Vec.tensor (now (j .entry))) tolerance duration (now (nodes .entry)) requested alpha index)
+        r (now (place .exit)) (now (out .exit)) ⌝ }
 {
     let inertia = geom::tensor(*j);
     let made = drive_sample(inertia, tolerance, duration, nodes, requested, alpha, index);
@@ -85,7 +85,8 @@ pub extern "C" fn slew_board_sample(
     number_of(fate)
 }
 
-// The whole list of a path: a row a sample, and how many rows were written. What stands behind them stays. Fewer rows lent than there are samples get nothing: 99.
+// The whole list of a path: a row a sample, and how many rows were written. What stands behind them stays. Fewer rows lent than there are samples get
+// nothing: 99.
 #[no_mangle]
 pub extern "C" fn slew_board_list(
     j: &[f64; 9],
@@ -98,10 +99,9 @@ pub extern "C" fn slew_board_list(
     rows: &mut usize,
     place: &mut usize,
 ) -> usize
-    ensures { λ r. ⌜ r ≡ Outcomes.number (Lists.ofListing (Lists.driveList (Vec.tensor (now (j .entry))) tolerance duration (now (nodes .entry)) requested alpha (length (now (out .entry))))) ⌝ }
-    ensures { λ _. ⌜ now (out .exit) ≡ Lists.over (Lists.driveList (Vec.tensor (now (j .entry))) tolerance duration (now (nodes .entry)) requested alpha (length (now (out .entry)))) (now (out .entry)) ⌝ }
-    ensures { λ _. ⌜ now (rows .exit) ≡ length (Lists.driveList (Vec.tensor (now (j .entry))) tolerance duration (now (nodes .entry)) requested alpha (length (now (out .entry))) .rows) ⌝ }
-    ensures { λ _. ⌜ now (place .exit) ≡ Outcomes.place (Lists.ofListing (Lists.driveList (Vec.tensor (now (j .entry))) tolerance duration (now (nodes .entry)) requested alpha (length (now (out .entry))))) ⌝ }
+    ensures { λ r. ⌜ ListTold
+        (Lists.driveList (Vec.tensor (now (j .entry))) tolerance duration (now (nodes .entry)) requested alpha (length (now (out .entry))))
+        r (now (place .exit)) (now (rows .exit)) (now (out .entry)) (now (out .exit)) ⌝ }
 {
     let inertia = geom::tensor(*j);
     let made = drive_list(inertia, tolerance, duration, nodes, requested, alpha, out);

@@ -1,6 +1,6 @@
-// The C interface of the series' counts, for the comparison: how the series of an argument end, the sum's size and how many terms were formed. Where none is formed
-// the answer is false and what was lent is untouched. `rt staticlib export_counts` makes the archive, which is one of its own: beside a second caller the compiler
-// would no longer put the series into `sin`, `cos` and `sin_cos`.
+// The C interface of the series' counts, for the comparison: how the series of an argument end, the sum's size and how many terms were formed. Where none is
+// formed the answer is false and what was lent is untouched. `rt staticlib export_counts` makes the archive, which is one of its own: beside a second caller
+// the compiler would no longer put the series into `sin`, `cos` and `sin_cos`.
 ghost use mathlib.Core.Path.{_≡_};
 ghost use Rattle.angles.specs.Ended.{sineSeries, cosineSeries, bothSeries, arcSeries};
 ghost use Rattle.export_counts.specs.Outcomes as Outcomes;

@@ -7,7 +7,7 @@ use Rattle.planner.specs.declared.Planned.{Planned}
 use Rattle.eigenaxis_seed.specs.declared.Shape.{Shape}
 use Rattle.eigenaxis_seed.specs.declared.Shape.the-variants.{Fastest, Gentle}
 use Rattle.eigenaxis.specs.Ladders.{planEigenaxis, counted}
-use Rattle.export_problem.specs.Declared.{problem}
+use Rattle.problem_numbers.specs.Declared.{problem}
 
 abbrev pub shapeOf : Bool → Shape
 shapeOf gentle = cond gentle Gentle Fastest

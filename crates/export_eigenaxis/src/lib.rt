@@ -2,15 +2,12 @@
 // `export::plans`; the runs are those of every try.
 ghost use mathlib.Core.Path.{_≡_};
 ghost use lib.ListN.{length};
-ghost use Rattle.planner.specs.Plans as Plans;
-ghost use Rattle.samples.specs.Rows as Rows;
-ghost use Rattle.export.specs.Entries as Counts;
-ghost use Rattle.export_leaves.specs.Outcomes as Outcomes;
+ghost use Rattle.export.specs.Entries.{EntryTold};
 ghost use Rattle.export_eigenaxis.specs.Entries as Entries;
 use eigenaxis::plan_counted;
 use eigenaxis_seed::Shape;
 use export::plans::put_planned;
-use export_problem::problem_of;
+use problem_numbers::problem_of;
 
 fn shape_of(gentle: bool) -> Shape
     ensures { λ r. ⌜ r ≡ Entries.shapeOf gentle ⌝ }
@@ -38,14 +35,9 @@ pub extern "C" fn slew_plan_eigenaxis_numbers(
     nodes: &mut [[f64; 22]; 17],
     held: &mut [usize; 12],
 ) -> usize
-    ensures { λ r. ⌜ r ≡ Outcomes.number (Plans.answer (Entries.about (now (c .entry)) (now (v .entry)) (now (b .entry)) limited gentle (length (now (ws .entry))))) ⌝ }
-    ensures { λ _. ⌜ now (counts .exit) ≡ Counts.counts (Entries.about (now (c .entry)) (now (v .entry)) (now (b .entry)) limited gentle (length (now (ws .entry)))) ⌝ }
-    ensures { λ _. ⌜ now (duration .exit) ≡ Entries.about (now (c .entry)) (now (v .entry)) (now (b .entry)) limited gentle (length (now (ws .entry))) .path .duration ⌝ }
-    ensures { λ _. ⌜ now («max_defect» .exit) ≡ Entries.about (now (c .entry)) (now (v .entry)) (now (b .entry)) limited gentle (length (now (ws .entry))) .path .«max_defect» ⌝ }
-    ensures { λ _. ⌜ now (z .exit) ≡ Entries.about (now (c .entry)) (now (v .entry)) (now (b .entry)) limited gentle (length (now (ws .entry))) .path .z ⌝ }
-    ensures { λ _. ⌜ now (nodes .exit) ≡ Rows.rows (Entries.about (now (c .entry)) (now (v .entry)) (now (b .entry)) limited gentle (length (now (ws .entry))) .path .nodes) ⌝ }
-    ensures { λ _. ⌜ now (held .exit) ≡ Entries.about (now (c .entry)) (now (v .entry)) (now (b .entry)) limited gentle (length (now (ws .entry))) .path .held ⌝ }
-    ensures { λ _. ⌜ now (ws .exit) ≡ Plans.leaves (Entries.about (now (c .entry)) (now (v .entry)) (now (b .entry)) limited gentle (length (now (ws .entry))) .runs) (now (ws .entry)) ⌝ }
+    ensures { λ r. ⌜ EntryTold (Entries.about (now (c .entry)) (now (v .entry)) (now (b .entry)) limited gentle (length (now (ws .entry))))
+        (now (ws .entry)) (now (ws .exit)) r
+        (now (counts .exit)) (now (duration .exit)) (now («max_defect» .exit)) (now (z .exit)) (now (nodes .exit)) (now (held .exit)) ⌝ }
 {
     let shape = shape_of(gentle);
     let p = problem_of(c, v, b, limited);

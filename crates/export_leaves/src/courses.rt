@@ -1,15 +1,17 @@
 // profile: bang-coast-bang, switch times, the seed. A profile is its 22 numbers: theta, alpha, t_acc, t_coast, duration, omega_peak, the axis, the
 // inertia by rows, q0. `place` gets a refusal's place, or 0.
 ghost use mathlib.Core.Path.{_≡_};
-ghost use Rattle.geom.specs.Vec as Vec;
 ghost use Rattle.geom.specs.Answers as Turns;
 ghost use Rattle.profile.specs.Profiles as Profiles;
 ghost use Rattle.profile.specs.Seeds as Seeds;
 ghost use Rattle.profile.specs.Answers as Answers;
 ghost use Rattle.export_leaves.specs.Packed as Packed;
+ghost use Rattle.export_leaves.specs.Courses as Courses;
 ghost use Rattle.export_leaves.specs.Outcomes as Outcomes;
+ghost use Rattle.export_leaves.specs.Outcomes.{Answered, AnsweredAt, ofQuat};
 use super::pack::limit_of;
 use super::pack::numbers;
+use super::pack::place_of;
 use super::pack::profile_of;
 use super::pack::quat;
 use super::pack::three;
@@ -21,8 +23,7 @@ use profile::Switches;
 
 // A refusal's number, or 0, and then the three switching numbers are put into `out`.
 fn put_switches(s: Switches, out: &mut [f64; 3]) -> usize
-    ensures { λ r. ⌜ r ≡ Outcomes.number (Answers.ofSwitches s) ⌝ }
-    ensures { λ _. ⌜ now (out .exit) ≡ Outcomes.listOr (Answers.ofSwitches s) (now (out .entry)) ⌝ }
+    ensures { λ r. ⌜ Answered (Answers.ofSwitches s) r (now (out .entry)) (now (out .exit)) ⌝ }
 {
     match s {
         Switches::Are(acc, coast, peak) => {
@@ -35,8 +36,7 @@ fn put_switches(s: Switches, out: &mut [f64; 3]) -> usize
 
 // A refusal's number, or 0, and then the acceleration is put into `out`.
 fn put_acceleration(a: Acceleration, out: &mut f64) -> usize
-    ensures { λ r. ⌜ r ≡ Outcomes.number (Answers.ofAcceleration a) ⌝ }
-    ensures { λ _. ⌜ now (out .exit) ≡ Outcomes.numberOr (Answers.ofAcceleration a) (now (out .entry)) ⌝ }
+    ensures { λ r. ⌜ Answered (Answers.ofAcceleration a) r (now (out .entry)) (now (out .exit)) ⌝ }
 {
     match a {
         Acceleration::Is(x) => {
@@ -49,8 +49,7 @@ fn put_acceleration(a: Acceleration, out: &mut f64) -> usize
 
 // A refusal's number, or 0, and then the numbers made are put into `out`.
 fn put_made(fate: Fate, made: [f64; 22], out: &mut [f64; 22]) -> usize
-    ensures { λ r. ⌜ r ≡ Outcomes.number (Turns.ofFate made fate) ⌝ }
-    ensures { λ _. ⌜ now (out .exit) ≡ Outcomes.listOr (Turns.ofFate made fate) (now (out .entry)) ⌝ }
+    ensures { λ r. ⌜ Answered (Turns.ofFate made fate) r (now (out .entry)) (now (out .exit)) ⌝ }
 {
     match fate {
         Fate::Going => {
@@ -63,23 +62,11 @@ fn put_made(fate: Fate, made: [f64; 22], out: &mut [f64; 22]) -> usize
 
 // A refusal's number, or 0, and then the profile's numbers are put into `out`.
 pub fn put_profile(p: Profiled, out: &mut [f64; 22]) -> usize
-    ensures { λ r. ⌜ r ≡ Outcomes.number (Outcomes.ofProfiled p) ⌝ }
-    ensures { λ _. ⌜ now (out .exit) ≡ Outcomes.listOr (Outcomes.ofProfiled p) (now (out .entry)) ⌝ }
+    ensures { λ r. ⌜ Answered (Outcomes.ofProfiled p) r (now (out .entry)) (now (out .exit)) ⌝ }
 {
     let fate = p.fate;
     let made = p.profile;
     put_made(fate, numbers(made), out)
-}
-
-// A refusal's place, or 0.
-pub fn place_of(p: Profiled) -> usize
-    ensures { λ r. ⌜ r ≡ Outcomes.place (Outcomes.ofProfiled p) ⌝ }
-{
-    let fate = p.fate;
-    match fate {
-        Fate::Going => 0,
-        Fate::Refused(_, place) => place,
-    }
 }
 
 #[no_mangle]
@@ -90,8 +77,7 @@ pub extern "C" fn slew_switch_times(
     slew: f64,
     out: &mut [f64; 3],
 ) -> usize
-    ensures { λ r. ⌜ r ≡ Outcomes.number (Answers.ofSwitches (Profiles.switchTimes theta alpha (Packed.limit limited slew))) ⌝ }
-    ensures { λ _. ⌜ now (out .exit) ≡ Outcomes.listOr (Answers.ofSwitches (Profiles.switchTimes theta alpha (Packed.limit limited slew))) (now (out .entry)) ⌝ }
+    ensures { λ r. ⌜ Answered (Answers.ofSwitches (Profiles.switchTimes theta alpha (Packed.limit limited slew))) r (now (out .entry)) (now (out .exit)) ⌝ }
 {
     put_switches(
         profile::switch_times(theta, alpha, limit_of(limited, slew)),
@@ -106,8 +92,7 @@ pub extern "C" fn slew_alpha_from_box(
     limit: &[f64; 3],
     out: &mut f64,
 ) -> usize
-    ensures { λ r. ⌜ r ≡ Outcomes.number (Answers.ofAcceleration (Profiles.alphaFromBox (Vec.tensor (now (j .entry))) (now (axis .entry)) (now (limit .entry)))) ⌝ }
-    ensures { λ _. ⌜ now (out .exit) ≡ Outcomes.numberOr (Answers.ofAcceleration (Profiles.alphaFromBox (Vec.tensor (now (j .entry))) (now (axis .entry)) (now (limit .entry)))) (now (out .entry)) ⌝ }
+    ensures { λ r. ⌜ Answered (Courses.alphaFromBox (now (j .entry)) (now (axis .entry)) (now (limit .entry))) r (now (out .entry)) (now (out .exit)) ⌝ }
 {
     let about = *axis;
     let most = *limit;
@@ -126,7 +111,9 @@ pub extern "C" fn slew_bang_coast_bang(
     out: &mut [f64; 22],
     place: &mut usize,
 ) -> usize
-    ensures { λ r. ⌜ (r ≡ Outcomes.number (Outcomes.ofProfiled (Profiles.bangCoastBang (Packed.quat (now (q0 .entry))) (Packed.quat (now (qf .entry))) (Vec.tensor (now (j .entry))) (now (limit .entry)) (Packed.limit limited slew) tie))) × (now (out .exit) ≡ Outcomes.listOr (Outcomes.ofProfiled (Profiles.bangCoastBang (Packed.quat (now (q0 .entry))) (Packed.quat (now (qf .entry))) (Vec.tensor (now (j .entry))) (now (limit .entry)) (Packed.limit limited slew) tie)) (now (out .entry))) × (now (place .exit) ≡ Outcomes.place (Outcomes.ofProfiled (Profiles.bangCoastBang (Packed.quat (now (q0 .entry))) (Packed.quat (now (qf .entry))) (Vec.tensor (now (j .entry))) (now (limit .entry)) (Packed.limit limited slew) tie))) ⌝ }
+    ensures { λ r. ⌜ AnsweredAt
+        (Courses.bangCoastBang (now (q0 .entry)) (now (qf .entry)) (now (j .entry)) (now (limit .entry)) limited slew tie)
+        r (now (place .exit)) (now (out .entry)) (now (out .exit)) ⌝ }
 {
     let most = *limit;
     let from = quat(q0);
@@ -134,7 +121,8 @@ pub extern "C" fn slew_bang_coast_bang(
     let inertia = geom::tensor(*j);
     let top = limit_of(limited, slew);
     let p = profile::bang_coast_bang(from, to, inertia, most, top, tie);
-    *place = place_of(p);
+    let fate = p.fate;
+    *place = place_of(fate);
     put_profile(p, out)
 }
 
@@ -175,8 +163,7 @@ pub extern "C" fn slew_profile_torque_vec(p: &[f64; 22], t: f64, out: &mut [f64;
 
 #[no_mangle]
 pub extern "C" fn slew_profile_quaternion(p: &[f64; 22], t: f64, out: &mut [f64; 4]) -> usize
-    ensures { λ r. ⌜ r ≡ Outcomes.number (Turns.ofTurned (Profiles.quaternion (Packed.profile (now (p .entry))) t)) ⌝ }
-    ensures { λ _. ⌜ now (out .exit) ≡ Outcomes.fourOr (Turns.ofTurned (Profiles.quaternion (Packed.profile (now (p .entry))) t)) (now (out .entry)) ⌝ }
+    ensures { λ r. ⌜ Answered (ofQuat (Turns.ofTurned (Profiles.quaternion (Packed.profile (now (p .entry))) t))) r (now (out .entry)) (now (out .exit)) ⌝ }
 {
     put_turned(profile_of(p).quaternion(t), out)
 }

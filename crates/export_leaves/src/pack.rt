@@ -1,6 +1,8 @@
-// Records and arrays of the numbers that the interface takes and gives.
+// Records and arrays of the numbers that the interface takes and gives, and the numbers of a refusal.
 ghost use mathlib.Core.Path.{_≡_};
+ghost use Rattle.export_leaves.specs.Outcomes as Outcomes;
 ghost use Rattle.export_leaves.specs.Packed as Packed;
+use common::Fate;
 use common::Limit;
 use geom::Quat;
 use profile::Profile;
@@ -96,4 +98,24 @@ pub fn numbers(p: Profile) -> [f64; 22]
         q.y,
         q.z,
     ]
+}
+
+// A refusal's number, or 0.
+pub fn number_of(f: Fate) -> usize
+    ensures { λ r. ⌜ r ≡ Outcomes.fateNumber f ⌝ }
+{
+    match f {
+        Fate::Going => 0,
+        Fate::Refused(number, _) => number,
+    }
+}
+
+// A refusal's place, or 0.
+pub fn place_of(f: Fate) -> usize
+    ensures { λ r. ⌜ r ≡ Outcomes.fatePlace f ⌝ }
+{
+    match f {
+        Fate::Going => 0,
+        Fate::Refused(_, place) => place,
+    }
 }

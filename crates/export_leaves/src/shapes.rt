@@ -5,6 +5,7 @@ ghost use Rattle.geom.specs.Quats as Quats;
 ghost use Rattle.geom.specs.Tensors as Tensors;
 ghost use Rattle.geom.specs.Answers as Answers;
 ghost use Rattle.export_leaves.specs.Outcomes as Outcomes;
+ghost use Rattle.export_leaves.specs.Outcomes.{Answered, ofQuat};
 ghost use Rattle.export_leaves.specs.Packed as Packed;
 use super::pack::four;
 use super::pack::quat;
@@ -136,8 +137,7 @@ pub extern "C" fn slew_body_euler_torque(
 
 // A refusal's number, or 0, and then the answer is put into `out`.
 fn put_normal(n: Normal, out: &mut [f64; 4]) -> usize
-    ensures { λ r. ⌜ r ≡ Outcomes.number (Answers.ofNormal n) ⌝ }
-    ensures { λ _. ⌜ now (out .exit) ≡ Outcomes.fourOr (Answers.ofNormal n) (now (out .entry)) ⌝ }
+    ensures { λ r. ⌜ Answered (ofQuat (Answers.ofNormal n)) r (now (out .entry)) (now (out .exit)) ⌝ }
 {
     match n {
         Normal::Is(q) => {
@@ -150,8 +150,7 @@ fn put_normal(n: Normal, out: &mut [f64; 4]) -> usize
 
 // A refusal's number, or 0, and then the answer is put into `out`.
 pub fn put_turned(t: Turned, out: &mut [f64; 4]) -> usize
-    ensures { λ r. ⌜ r ≡ Outcomes.number (Answers.ofTurned t) ⌝ }
-    ensures { λ _. ⌜ now (out .exit) ≡ Outcomes.fourOr (Answers.ofTurned t) (now (out .entry)) ⌝ }
+    ensures { λ r. ⌜ Answered (ofQuat (Answers.ofTurned t)) r (now (out .entry)) (now (out .exit)) ⌝ }
 {
     match t {
         Turned::Is(q) => {
@@ -164,8 +163,7 @@ pub fn put_turned(t: Turned, out: &mut [f64; 4]) -> usize
 
 // A refusal's number, or 0, and then the answer is put into `out`.
 fn put_rotation(t: Rotation, out: &mut [f64; 3]) -> usize
-    ensures { λ r. ⌜ r ≡ Outcomes.number (Answers.ofRotation t) ⌝ }
-    ensures { λ _. ⌜ now (out .exit) ≡ Outcomes.listOr (Answers.ofRotation t) (now (out .entry)) ⌝ }
+    ensures { λ r. ⌜ Answered (Answers.ofRotation t) r (now (out .entry)) (now (out .exit)) ⌝ }
 {
     match t {
         Rotation::By(x, y, z) => {
@@ -178,8 +176,7 @@ fn put_rotation(t: Rotation, out: &mut [f64; 3]) -> usize
 
 // A refusal's number, or 0, and then the answer is put into `out`.
 fn put_axis(a: Axis, out: &mut [f64; 3]) -> usize
-    ensures { λ r. ⌜ r ≡ Outcomes.number (Answers.ofAxis a) ⌝ }
-    ensures { λ _. ⌜ now (out .exit) ≡ Outcomes.listOr (Answers.ofAxis a) (now (out .entry)) ⌝ }
+    ensures { λ r. ⌜ Answered (Answers.ofAxis a) r (now (out .entry)) (now (out .exit)) ⌝ }
 {
     match a {
         Axis::Is(x, y, z) => {
@@ -192,8 +189,7 @@ fn put_axis(a: Axis, out: &mut [f64; 3]) -> usize
 
 // A refusal's number, or 0, and then the answer is put into `out`.
 fn put_inverse(i: Inverse, out: &mut [f64; 9]) -> usize
-    ensures { λ r. ⌜ r ≡ Outcomes.number (Answers.ofInverse i) ⌝ }
-    ensures { λ _. ⌜ now (out .exit) ≡ Outcomes.listOr (Answers.ofInverse i) (now (out .entry)) ⌝ }
+    ensures { λ r. ⌜ Answered (Answers.ofInverse i) r (now (out .entry)) (now (out .exit)) ⌝ }
 {
     let fate = i.fate;
     let m = i.m;
@@ -208,48 +204,42 @@ fn put_inverse(i: Inverse, out: &mut [f64; 9]) -> usize
 
 #[no_mangle]
 pub extern "C" fn slew_quat_normalized(q: &[f64; 4], tolerance: f64, out: &mut [f64; 4]) -> usize
-    ensures { λ r. ⌜ r ≡ Outcomes.number (Answers.ofNormal (Quats.normalized tolerance (Packed.quat (now (q .entry))))) ⌝ }
-    ensures { λ _. ⌜ now (out .exit) ≡ Outcomes.fourOr (Answers.ofNormal (Quats.normalized tolerance (Packed.quat (now (q .entry))))) (now (out .entry)) ⌝ }
+    ensures { λ r. ⌜ Answered (ofQuat (Answers.ofNormal (Quats.normalized tolerance (Packed.quat (now (q .entry)))))) r (now (out .entry)) (now (out .exit)) ⌝ }
 {
     put_normal(quat(q).normalized(tolerance), out)
 }
 
 #[no_mangle]
 pub extern "C" fn slew_exp_so3(phi: &[f64; 3], out: &mut [f64; 4]) -> usize
-    ensures { λ r. ⌜ r ≡ Outcomes.number (Answers.ofTurned (Quats.expSo3 (now (phi .entry)))) ⌝ }
-    ensures { λ _. ⌜ now (out .exit) ≡ Outcomes.fourOr (Answers.ofTurned (Quats.expSo3 (now (phi .entry)))) (now (out .entry)) ⌝ }
+    ensures { λ r. ⌜ Answered (ofQuat (Answers.ofTurned (Quats.expSo3 (now (phi .entry))))) r (now (out .entry)) (now (out .exit)) ⌝ }
 {
     put_turned(geom::exp_so3(*phi), out)
 }
 
 #[no_mangle]
 pub extern "C" fn slew_log_so3(q: &[f64; 4], out: &mut [f64; 3]) -> usize
-    ensures { λ r. ⌜ r ≡ Outcomes.number (Answers.ofRotation (Quats.logSo3 (Packed.quat (now (q .entry))))) ⌝ }
-    ensures { λ _. ⌜ now (out .exit) ≡ Outcomes.listOr (Answers.ofRotation (Quats.logSo3 (Packed.quat (now (q .entry))))) (now (out .entry)) ⌝ }
+    ensures { λ r. ⌜ Answered (Answers.ofRotation (Quats.logSo3 (Packed.quat (now (q .entry))))) r (now (out .entry)) (now (out .exit)) ⌝ }
 {
     put_rotation(geom::log_so3(quat(q)), out)
 }
 
 #[no_mangle]
 pub extern "C" fn slew_unit3(v: &[f64; 3], out: &mut [f64; 3]) -> usize
-    ensures { λ r. ⌜ r ≡ Outcomes.number (Answers.ofAxis (Quats.unit3 (now (v .entry)))) ⌝ }
-    ensures { λ _. ⌜ now (out .exit) ≡ Outcomes.listOr (Answers.ofAxis (Quats.unit3 (now (v .entry)))) (now (out .entry)) ⌝ }
+    ensures { λ r. ⌜ Answered (Answers.ofAxis (Quats.unit3 (now (v .entry)))) r (now (out .entry)) (now (out .exit)) ⌝ }
 {
     put_axis(geom::unit3(*v), out)
 }
 
 #[no_mangle]
 pub extern "C" fn slew_invert3(j: &[f64; 9], out: &mut [f64; 9]) -> usize
-    ensures { λ r. ⌜ r ≡ Outcomes.number (Answers.ofInverse (Tensors.invert3 (Vec.tensor (now (j .entry))))) ⌝ }
-    ensures { λ _. ⌜ now (out .exit) ≡ Outcomes.listOr (Answers.ofInverse (Tensors.invert3 (Vec.tensor (now (j .entry))))) (now (out .entry)) ⌝ }
+    ensures { λ r. ⌜ Answered (Answers.ofInverse (Tensors.invert3 (Vec.tensor (now (j .entry))))) r (now (out .entry)) (now (out .exit)) ⌝ }
 {
     put_inverse(geom::invert3(geom::tensor(*j)), out)
 }
 
 #[no_mangle]
 pub extern "C" fn slew_invert_spd(j: &[f64; 9], out: &mut [f64; 9]) -> usize
-    ensures { λ r. ⌜ r ≡ Outcomes.number (Answers.ofInverse (Tensors.invertSpd (Vec.tensor (now (j .entry))))) ⌝ }
-    ensures { λ _. ⌜ now (out .exit) ≡ Outcomes.listOr (Answers.ofInverse (Tensors.invertSpd (Vec.tensor (now (j .entry))))) (now (out .entry)) ⌝ }
+    ensures { λ r. ⌜ Answered (Answers.ofInverse (Tensors.invertSpd (Vec.tensor (now (j .entry))))) r (now (out .entry)) (now (out .exit)) ⌝ }
 {
     put_inverse(geom::invert_spd(geom::tensor(*j)), out)
 }

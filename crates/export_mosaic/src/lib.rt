@@ -1,23 +1,18 @@
 // The C interface of a whole mosaic, thin over the proved libraries. `rt staticlib export_mosaic` makes the archive.
 //
-// The problem is declared as for a plan; its attitudes are not read. A cursor is five counts (legs answered, their runs; a refusal's number, else 0, its place and its
-// runs) and nine numbers (the answered legs' duration, and the momenta of eight wheels that the next leg starts with). The way to plan is a number: 0 the search, 1 about
-// one axis, 2 about one axis gently.
+// The problem is declared as for a plan; its attitudes are not read. A cursor is five counts (legs answered, their runs; a refusal's number, else 0, its place
+// and its runs) and nine numbers (the answered legs' duration, and the momenta of eight wheels that the next leg starts with). The way to plan is a number:
+// 0 the search, 1 about one axis, 2 about one axis gently.
 ghost use mathlib.Core.Path.{_≡_};
 ghost use lib.ListN.{length};
 ghost use Rattle.planner.specs.Plans as Plans;
-ghost use Rattle.samples.specs.Rows as Rows;
-ghost use Rattle.mosaic.specs.Mosaics as Mosaics;
-ghost use Rattle.whole_mosaic.specs.Layout as Layout;
-ghost use Rattle.export.specs.Entries as Entries;
-ghost use Rattle.export_leaves.specs.Outcomes as Outcomes;
+ghost use Rattle.problem_numbers.specs.Declared as Declared;
 ghost use Rattle.export_mosaic.specs.Cursors as Cursors;
 use common::Fate;
 use eigenaxis_seed::Shape;
 use export::plans::put_planned;
-use export_problem::problem_of;
-use export_runs::paths::number_of;
-use export_runs::paths::place_of;
+use export_leaves::pack::number_of;
+use export_leaves::pack::place_of;
 use geom::Quat;
 use mosaic::Advanced;
 use mosaic::Cursor;
@@ -28,6 +23,7 @@ use mosaic::ways::Way;
 use planner::refused;
 use problem::Momenta;
 use problem::Problem;
+use problem_numbers::problem_of;
 use whole_mosaic::plan_mosaic;
 use whole_mosaic::quat_of;
 
@@ -84,9 +80,7 @@ fn cursor_of(wheels: usize, n: [usize; 5], s: [f64; 9]) -> Cursor
 
 // A cursor's counts and numbers, put into what is lent for them; a refusal's number, or 0.
 fn put_cursor(c: Cursor, counts: &mut [usize; 5], sums: &mut [f64; 9]) -> usize
-    ensures { λ r. ⌜ r ≡ Cursors.number c ⌝ }
-    ensures { λ _. ⌜ now (counts .exit) ≡ Cursors.counts c ⌝ }
-    ensures { λ _. ⌜ now (sums .exit) ≡ Cursors.sums c ⌝ }
+    ensures { λ r. ⌜ Cursors.CursorTold c r (now (counts .exit)) (now (sums .exit)) ⌝ }
 {
     let fate = c.fate;
     let momenta = c.momenta;
@@ -124,7 +118,10 @@ fn fill(
     nodes: &mut [[[f64; 22]; 17]],
     ws: &mut [f64],
 ) -> Cursor
-    ensures { λ r. ⌜ Cursors.Fills (Cursors.wholeBy (Cursors.asked way) p (now (tiles .entry)) (length (now (counts .entry))) (length (now (times .entry))) (length (now (decisions .entry))) (length (now (nodes .entry))) (length (now (ws .entry)))) r (now (counts .entry)) (now (counts .exit)) (now (times .entry)) (now (times .exit)) (now (decisions .entry)) (now (decisions .exit)) (now (nodes .entry)) (now (nodes .exit)) (now (ws .entry)) (now (ws .exit)) ⌝ }
+    ensures { λ r. ⌜ Cursors.Fills
+        (Cursors.whole way p (now (tiles .entry)) (now (counts .entry)) (now (times .entry)) (now (decisions .entry)) (now (nodes .entry)) (now (ws .entry)))
+        r (now (counts .entry)) (now (counts .exit)) (now (times .entry)) (now (times .exit)) (now (decisions .entry)) (now (decisions .exit))
+        (now (nodes .entry)) (now (nodes .exit)) (now (ws .entry)) (now (ws .exit)) ⌝ }
 {
     let m = p.momenta;
     let asked = asked_of(way);
@@ -134,8 +131,8 @@ fn fill(
     }
 }
 
-// One leg, from one attitude to another: the cursor moves on, and the leg's answer is put into what is lent for it, as `slew_plan_numbers` does; the leg's refusal, or
-// 0. After a refusal the cursor stays, and that refusal's number is answered again, with 0 runs.
+// One leg, from one attitude to another: the cursor moves on, and the leg's answer is put into what is lent for it, as `slew_plan_numbers` does; the leg's
+// refusal, or 0. After a refusal the cursor stays, and that refusal's number is answered again, with 0 runs.
 #[no_mangle]
 pub extern "C" fn slew_mosaic_next(
     c: &[usize; 11],
@@ -155,16 +152,11 @@ pub extern "C" fn slew_mosaic_next(
     nodes: &mut [[f64; 22]; 17],
     held: &mut [usize; 12],
 ) -> usize
-    ensures { λ _. ⌜ now (cursor .exit) ≡ Cursors.counts ((Cursors.turn way (now (c .entry)) (now (v .entry)) (now (b .entry)) limited (now (from .entry)) (now (to .entry)) (now (cursor .entry)) (now (sums .entry)) (length (now (ws .entry)))) .cursor) ⌝ }
-    ensures { λ _. ⌜ now (sums .exit) ≡ Cursors.sums ((Cursors.turn way (now (c .entry)) (now (v .entry)) (now (b .entry)) limited (now (from .entry)) (now (to .entry)) (now (cursor .entry)) (now (sums .entry)) (length (now (ws .entry)))) .cursor) ⌝ }
-    ensures { λ _. ⌜ now (ws .exit) ≡ Plans.leaves ((Cursors.turn way (now (c .entry)) (now (v .entry)) (now (b .entry)) limited (now (from .entry)) (now (to .entry)) (now (cursor .entry)) (now (sums .entry)) (length (now (ws .entry)))) .planned .runs) (now (ws .entry)) ⌝ }
-    ensures { λ r. ⌜ r ≡ Outcomes.number (Plans.answer (Cursors.turn way (now (c .entry)) (now (v .entry)) (now (b .entry)) limited (now (from .entry)) (now (to .entry)) (now (cursor .entry)) (now (sums .entry)) (length (now (ws .entry))) .planned)) ⌝ }
-    ensures { λ _. ⌜ now (counts .exit) ≡ Entries.counts (Cursors.turn way (now (c .entry)) (now (v .entry)) (now (b .entry)) limited (now (from .entry)) (now (to .entry)) (now (cursor .entry)) (now (sums .entry)) (length (now (ws .entry))) .planned) ⌝ }
-    ensures { λ _. ⌜ now (duration .exit) ≡ Cursors.turn way (now (c .entry)) (now (v .entry)) (now (b .entry)) limited (now (from .entry)) (now (to .entry)) (now (cursor .entry)) (now (sums .entry)) (length (now (ws .entry))) .planned .path .duration ⌝ }
-    ensures { λ _. ⌜ now («max_defect» .exit) ≡ Cursors.turn way (now (c .entry)) (now (v .entry)) (now (b .entry)) limited (now (from .entry)) (now (to .entry)) (now (cursor .entry)) (now (sums .entry)) (length (now (ws .entry))) .planned .path .«max_defect» ⌝ }
-    ensures { λ _. ⌜ now (z .exit) ≡ Cursors.turn way (now (c .entry)) (now (v .entry)) (now (b .entry)) limited (now (from .entry)) (now (to .entry)) (now (cursor .entry)) (now (sums .entry)) (length (now (ws .entry))) .planned .path .z ⌝ }
-    ensures { λ _. ⌜ now (nodes .exit) ≡ Rows.rows (Cursors.turn way (now (c .entry)) (now (v .entry)) (now (b .entry)) limited (now (from .entry)) (now (to .entry)) (now (cursor .entry)) (now (sums .entry)) (length (now (ws .entry))) .planned .path .nodes) ⌝ }
-    ensures { λ _. ⌜ now (held .exit) ≡ Cursors.turn way (now (c .entry)) (now (v .entry)) (now (b .entry)) limited (now (from .entry)) (now (to .entry)) (now (cursor .entry)) (now (sums .entry)) (length (now (ws .entry))) .planned .path .held ⌝ }
+    ensures { λ r. ⌜ Cursors.TurnTold
+        (Cursors.turn way (now (c .entry)) (now (v .entry)) (now (b .entry)) limited (now (from .entry)) (now (to .entry))
+        (now (cursor .entry)) (now (sums .entry)) (length (now (ws .entry))))
+        (now (cursor .exit)) (now (sums .exit)) (now (ws .entry)) (now (ws .exit)) r
+        (now (counts .exit)) (now (duration .exit)) (now («max_defect» .exit)) (now (z .exit)) (now (nodes .exit)) (now (held .exit)) ⌝ }
 {
     let p = problem_of(c, v, b, limited);
     let at = cursor_of(c[0], *cursor, *sums);
@@ -192,14 +184,12 @@ pub extern "C" fn slew_mosaic(
     cursor: &mut [usize; 5],
     sums: &mut [f64; 9],
 ) -> usize
-    ensures { λ r. ⌜ r ≡ Cursors.number (Cursors.whole way (now (c .entry)) (now (v .entry)) (now (b .entry)) limited (now (tiles .entry)) (length (now (counts .entry))) (length (now (times .entry))) (length (now (decisions .entry))) (length (now (nodes .entry))) (length (now (ws .entry))) .cursor) ⌝ }
-    ensures { λ _. ⌜ now (cursor .exit) ≡ Cursors.counts (Cursors.whole way (now (c .entry)) (now (v .entry)) (now (b .entry)) limited (now (tiles .entry)) (length (now (counts .entry))) (length (now (times .entry))) (length (now (decisions .entry))) (length (now (nodes .entry))) (length (now (ws .entry))) .cursor) ⌝ }
-    ensures { λ _. ⌜ now (sums .exit) ≡ Cursors.sums (Cursors.whole way (now (c .entry)) (now (v .entry)) (now (b .entry)) limited (now (tiles .entry)) (length (now (counts .entry))) (length (now (times .entry))) (length (now (decisions .entry))) (length (now (nodes .entry))) (length (now (ws .entry))) .cursor) ⌝ }
-    ensures { λ _. ⌜ now (counts .exit) ≡ Layout.over Layout.counts (Cursors.whole way (now (c .entry)) (now (v .entry)) (now (b .entry)) limited (now (tiles .entry)) (length (now (counts .entry))) (length (now (times .entry))) (length (now (decisions .entry))) (length (now (nodes .entry))) (length (now (ws .entry))) .legs) (now (counts .entry)) ⌝ }
-    ensures { λ _. ⌜ now (times .exit) ≡ Layout.over Layout.times (Cursors.whole way (now (c .entry)) (now (v .entry)) (now (b .entry)) limited (now (tiles .entry)) (length (now (counts .entry))) (length (now (times .entry))) (length (now (decisions .entry))) (length (now (nodes .entry))) (length (now (ws .entry))) .legs) (now (times .entry)) ⌝ }
-    ensures { λ _. ⌜ now (decisions .exit) ≡ Layout.over Layout.decision (Cursors.whole way (now (c .entry)) (now (v .entry)) (now (b .entry)) limited (now (tiles .entry)) (length (now (counts .entry))) (length (now (times .entry))) (length (now (decisions .entry))) (length (now (nodes .entry))) (length (now (ws .entry))) .legs) (now (decisions .entry)) ⌝ }
-    ensures { λ _. ⌜ now (nodes .exit) ≡ Layout.over Layout.nodes (Cursors.whole way (now (c .entry)) (now (v .entry)) (now (b .entry)) limited (now (tiles .entry)) (length (now (counts .entry))) (length (now (times .entry))) (length (now (decisions .entry))) (length (now (nodes .entry))) (length (now (ws .entry))) .legs) (now (nodes .entry)) ⌝ }
-    ensures { λ _. ⌜ now (ws .exit) ≡ Cursors.leaves (Cursors.whole way (now (c .entry)) (now (v .entry)) (now (b .entry)) limited (now (tiles .entry)) (length (now (counts .entry))) (length (now (times .entry))) (length (now (decisions .entry))) (length (now (nodes .entry))) (length (now (ws .entry))) .cursor) (now (ws .entry)) ⌝ }
+    ensures { λ r. ⌜ Cursors.WholeTold
+        (Cursors.whole way (Declared.problem (now (c .entry)) (now (v .entry)) (now (b .entry)) limited) (now (tiles .entry))
+        (now (counts .entry)) (now (times .entry)) (now (decisions .entry)) (now (nodes .entry)) (now (ws .entry)))
+        r (now (cursor .exit)) (now (sums .exit))
+        (now (counts .entry)) (now (counts .exit)) (now (times .entry)) (now (times .exit)) (now (decisions .entry)) (now (decisions .exit))
+        (now (nodes .entry)) (now (nodes .exit)) (now (ws .entry)) (now (ws .exit)) ⌝ }
 {
     let p = problem_of(c, v, b, limited);
     let made = fill(p, way, tiles, counts, times, decisions, nodes, ws);

@@ -44,7 +44,9 @@ pub record Agree (s t : Started) : Type 0 where
 -- a start by its numbers, of a preview that has a path, is the start of that preview
 module _ (m : Momenta) (v : Previewed) where
   abbrev byNumbers : Started
-  byNumbers = Numbers.start (m .count) (m .at) (Outcomes.number (Plans.answer (v .planned))) (v .began .count) (v .began .at) (v .planned .path .wheels) (rows (v .planned .path .nodes))
+  byNumbers =
+      Numbers.start (m .count) (m .at) (Outcomes.number (Plans.answer (v .planned)))
+      (v .began .count) (v .began .at) (v .planned .path .wheels) (rows (v .planned .path .nodes))
 
   pub start-by-numbers : v .planned .fate ≡ Going → Agree byNumbers (Previews.start m v)
   unfolding commit
@@ -53,6 +55,9 @@ module _ (m : Momenta) (v : Previewed) where
       path : Path
       path = v .planned .path
 
-      by : (b : Bool) → Agree (cond b (started (Numbers.last (path .wheels) (rows (path .nodes)))) (notStarted m (leadingSame m (v .began)))) (cond b (started (lastMomenta path)) (notStarted m (leadingSame m (v .began))))
+      not : Started
+      not = notStarted m (leadingSame m (v .began))
+
+      by : (b : Bool) → Agree (cond b (started (Numbers.last (path .wheels) (rows (path .nodes)))) not) (cond b (started (lastMomenta path)) not)
       by true = record { fate = refl; count = refl; each = λ i h. last-is (path .wheels) (path .nodes) i h }
       by false = record { fate = refl; count = refl; each = λ i h. refl }

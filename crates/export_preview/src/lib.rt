@@ -1,21 +1,17 @@
 // The C interface of previews and starts, thin over the proved library. `rt staticlib export_preview` makes the archive.
 //
-// The momenta on record are a count of wheels and eight numbers, which the caller keeps. A preview is what the caller holds of it: the number that it answered, the momenta that it began from, and its path's
-// wheels and nodes.
+// The momenta on record are a count of wheels and eight numbers, which the caller keeps. A preview is what the caller holds of it: the number that it answered,
+// the momenta that it began from, and its path's wheels and nodes.
 ghost use mathlib.Core.Path.{_≡_};
 ghost use lib.ListN.{length};
-ghost use Rattle.planner.specs.Plans as Plans;
-ghost use Rattle.samples.specs.Rows as Rows;
-ghost use Rattle.export_leaves.specs.Outcomes as Outcomes;
-ghost use Rattle.export_runs.specs.Paths as Paths;
-ghost use Rattle.export.specs.Entries as Entries;
+ghost use Rattle.export.specs.Entries.{EntryTold};
 ghost use Rattle.export_preview.specs.Numbers as Numbers;
 use export::plans::put_planned;
-use export_problem::problem_of;
-use export_runs::paths::number_of;
-use export_runs::paths::place_of;
+use export_leaves::pack::number_of;
+use export_leaves::pack::place_of;
 use preview::Previewed;
 use problem::Momenta;
+use problem_numbers::problem_of;
 use wheel_record::commit;
 
 // The momenta of so many wheels.
@@ -52,7 +48,8 @@ fn put_began(r: Previewed, began_wheels: &mut usize, began: &mut [f64; 8])
     *began = at;
 }
 
-// A preview from the momenta on record, with our own seed. What is answered and put is as in `slew_plan_numbers`, and besides the momenta that the preview began from.
+// A preview from the momenta on record, with our own seed. What is answered and put is as in `slew_plan_numbers`, and besides the momenta that the preview
+// began from.
 #[no_mangle]
 pub extern "C" fn slew_preview_numbers(
     c: &[usize; 11],
@@ -71,14 +68,10 @@ pub extern "C" fn slew_preview_numbers(
     began_wheels: &mut usize,
     began: &mut [f64; 8],
 ) -> usize
-    ensures { λ r. ⌜ r ≡ Outcomes.number (Plans.answer (Numbers.own (now (c .entry)) (now (v .entry)) (now (b .entry)) limited wheels (now («on_record» .entry)) (length (now (ws .entry))) .planned)) ⌝ }
-    ensures { λ _. ⌜ now (counts .exit) ≡ Entries.counts (Numbers.own (now (c .entry)) (now (v .entry)) (now (b .entry)) limited wheels (now («on_record» .entry)) (length (now (ws .entry))) .planned) ⌝ }
-    ensures { λ _. ⌜ now (duration .exit) ≡ Numbers.own (now (c .entry)) (now (v .entry)) (now (b .entry)) limited wheels (now («on_record» .entry)) (length (now (ws .entry))) .planned .path .duration ⌝ }
-    ensures { λ _. ⌜ now («max_defect» .exit) ≡ Numbers.own (now (c .entry)) (now (v .entry)) (now (b .entry)) limited wheels (now («on_record» .entry)) (length (now (ws .entry))) .planned .path .«max_defect» ⌝ }
-    ensures { λ _. ⌜ now (z .exit) ≡ Numbers.own (now (c .entry)) (now (v .entry)) (now (b .entry)) limited wheels (now («on_record» .entry)) (length (now (ws .entry))) .planned .path .z ⌝ }
-    ensures { λ _. ⌜ now (nodes .exit) ≡ Rows.rows (Numbers.own (now (c .entry)) (now (v .entry)) (now (b .entry)) limited wheels (now («on_record» .entry)) (length (now (ws .entry))) .planned .path .nodes) ⌝ }
-    ensures { λ _. ⌜ now (held .exit) ≡ Numbers.own (now (c .entry)) (now (v .entry)) (now (b .entry)) limited wheels (now («on_record» .entry)) (length (now (ws .entry))) .planned .path .held ⌝ }
-    ensures { λ _. ⌜ now (ws .exit) ≡ Plans.leaves (Numbers.own (now (c .entry)) (now (v .entry)) (now (b .entry)) limited wheels (now («on_record» .entry)) (length (now (ws .entry))) .planned .runs) (now (ws .entry)) ⌝ }
+    ensures { λ r. ⌜ EntryTold
+        (Numbers.own (now (c .entry)) (now (v .entry)) (now (b .entry)) limited wheels (now («on_record» .entry)) (length (now (ws .entry))) .planned)
+        (now (ws .entry)) (now (ws .exit)) r
+        (now (counts .exit)) (now (duration .exit)) (now («max_defect» .exit)) (now (z .exit)) (now (nodes .exit)) (now (held .exit)) ⌝ }
     ensures { λ _. ⌜ now («began_wheels» .exit) ≡ wheels ⌝ }
     ensures { λ _. ⌜ now (began .exit) ≡ now («on_record» .entry) ⌝ }
 {
@@ -112,14 +105,11 @@ pub extern "C" fn slew_preview_from_numbers(
     began_wheels: &mut usize,
     began: &mut [f64; 8],
 ) -> usize
-    ensures { λ r. ⌜ r ≡ Outcomes.number (Plans.answer (Numbers.seeded (now (c .entry)) (now (v .entry)) (now (b .entry)) limited wheels (now («on_record» .entry)) «seed_duration» (now (rates .entry)) (now (torques .entry)) (length (now (ws .entry))) .planned)) ⌝ }
-    ensures { λ _. ⌜ now (counts .exit) ≡ Entries.counts (Numbers.seeded (now (c .entry)) (now (v .entry)) (now (b .entry)) limited wheels (now («on_record» .entry)) «seed_duration» (now (rates .entry)) (now (torques .entry)) (length (now (ws .entry))) .planned) ⌝ }
-    ensures { λ _. ⌜ now (duration .exit) ≡ Numbers.seeded (now (c .entry)) (now (v .entry)) (now (b .entry)) limited wheels (now («on_record» .entry)) «seed_duration» (now (rates .entry)) (now (torques .entry)) (length (now (ws .entry))) .planned .path .duration ⌝ }
-    ensures { λ _. ⌜ now («max_defect» .exit) ≡ Numbers.seeded (now (c .entry)) (now (v .entry)) (now (b .entry)) limited wheels (now («on_record» .entry)) «seed_duration» (now (rates .entry)) (now (torques .entry)) (length (now (ws .entry))) .planned .path .«max_defect» ⌝ }
-    ensures { λ _. ⌜ now (z .exit) ≡ Numbers.seeded (now (c .entry)) (now (v .entry)) (now (b .entry)) limited wheels (now («on_record» .entry)) «seed_duration» (now (rates .entry)) (now (torques .entry)) (length (now (ws .entry))) .planned .path .z ⌝ }
-    ensures { λ _. ⌜ now (nodes .exit) ≡ Rows.rows (Numbers.seeded (now (c .entry)) (now (v .entry)) (now (b .entry)) limited wheels (now («on_record» .entry)) «seed_duration» (now (rates .entry)) (now (torques .entry)) (length (now (ws .entry))) .planned .path .nodes) ⌝ }
-    ensures { λ _. ⌜ now (held .exit) ≡ Numbers.seeded (now (c .entry)) (now (v .entry)) (now (b .entry)) limited wheels (now («on_record» .entry)) «seed_duration» (now (rates .entry)) (now (torques .entry)) (length (now (ws .entry))) .planned .path .held ⌝ }
-    ensures { λ _. ⌜ now (ws .exit) ≡ Plans.leaves (Numbers.seeded (now (c .entry)) (now (v .entry)) (now (b .entry)) limited wheels (now («on_record» .entry)) «seed_duration» (now (rates .entry)) (now (torques .entry)) (length (now (ws .entry))) .planned .runs) (now (ws .entry)) ⌝ }
+    ensures { λ r. ⌜ EntryTold
+        (Numbers.seeded (now (c .entry)) (now (v .entry)) (now (b .entry)) limited wheels (now («on_record» .entry))
+        «seed_duration» (now (rates .entry)) (now (torques .entry)) (length (now (ws .entry))) .planned)
+        (now (ws .entry)) (now (ws .exit)) r
+        (now (counts .exit)) (now (duration .exit)) (now («max_defect» .exit)) (now (z .exit)) (now (nodes .exit)) (now (held .exit)) ⌝ }
     ensures { λ _. ⌜ now («began_wheels» .exit) ≡ wheels ⌝ }
     ensures { λ _. ⌜ now (began .exit) ≡ now («on_record» .entry) ⌝ }
 {
@@ -143,10 +133,9 @@ pub extern "C" fn slew_start(
     nodes: &[[f64; 22]; 17],
     place: &mut usize,
 ) -> usize
-    ensures { λ r. ⌜ r ≡ Paths.number (Numbers.start (now (wheels .entry)) (now («on_record» .entry)) refusal «began_wheels» (now (began .entry)) «path_wheels» (now (nodes .entry)) .fate) ⌝ }
-    ensures { λ _. ⌜ now (wheels .exit) ≡ Numbers.start (now (wheels .entry)) (now («on_record» .entry)) refusal «began_wheels» (now (began .entry)) «path_wheels» (now (nodes .entry)) .«on_record» .count ⌝ }
-    ensures { λ _. ⌜ now («on_record» .exit) ≡ Numbers.start (now (wheels .entry)) (now («on_record» .entry)) refusal «began_wheels» (now (began .entry)) «path_wheels» (now (nodes .entry)) .«on_record» .at ⌝ }
-    ensures { λ _. ⌜ now (place .exit) ≡ Paths.place (Numbers.start (now (wheels .entry)) (now («on_record» .entry)) refusal «began_wheels» (now (began .entry)) «path_wheels» (now (nodes .entry)) .fate) ⌝ }
+    ensures { λ r. ⌜ Numbers.StartTold
+        (Numbers.start (now (wheels .entry)) (now («on_record» .entry)) refusal «began_wheels» (now (began .entry)) «path_wheels» (now (nodes .entry)))
+        r (now (place .exit)) (now (wheels .exit)) (now («on_record» .exit)) ⌝ }
 {
     let held = *on_record;
     let m = Momenta {

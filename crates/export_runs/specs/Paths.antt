@@ -1,24 +1,33 @@
--- How a stage ended, as the numbers that the C interface gives; the residuals of a problem as declared. Definitions only.
+-- Forward runs and residuals of a problem as declared, and what a call tells of them. Definitions only.
 use Prim.Native.Nat.{ℕ}
+use mathlib.Core.Path.{_≡_}
 use mathlib.Core.Bool.{Bool}
 use mathlib.Core.List.{List}
 use lib.Ieee.{Float}
-use Rattle.common.specs.declared.Fate.{Fate}
-use Rattle.common.specs.declared.Fate.the-variants as Fate
+use Rattle.forward.specs.Operations as Forward
+use Rattle.forward.specs.declared.Reconstructed.{Reconstructed}
 use Rattle.residuals.specs.Operations as Residuals
 use Rattle.residuals.specs.declared.Measured.{Measured}
-use Rattle.export_problem.specs.Declared.{problem}
+use Rattle.samples.specs.Rows.{rows}
+use Rattle.export_leaves.specs.Outcomes.{Counted}
+use Rattle.problem_numbers.specs.Declared.{problem}
 
--- a refusal's number, or 0
-abbrev pub number : Fate → ℕ
-number Fate.Going = 0
-number (Fate.Refused n k) = n
+-- what `reconstruct` answers to such a problem and a packed decision
+abbrev pub reconstructed : List ℕ → List Float → List Float → Bool → List Float → Reconstructed
+reconstructed c v b limited z = Forward.reconstruct (problem c v b limited) z
 
--- a refusal's place, or 0
-abbrev pub place : Fate → ℕ
-place Fate.Going = 0
-place (Fate.Refused n k) = k
-
--- what `residuals` answers to such a problem and a packed decision
+-- what `residuals` answers
 abbrev pub measured : List ℕ → List Float → List Float → Bool → List Float → Measured
 measured c v b limited z = Residuals.residuals (problem c v b limited) z
+
+-- a call answers n and puts place, runs, the rows of the nodes and the defect: those of the run m
+pub record RunTold (m : Reconstructed) (n place runs : ℕ) (nodes : List (List Float)) (defect : Float) : Type 0 where
+  pub counted : Counted (Forward.answer m) (m .runs) n place runs
+  pub nodes-are : nodes ≡ rows (m .run .nodes)
+  pub defect-is : defect ≡ m .run .defect
+
+-- a call answers n and puts place, runs, the residuals, zeros past them, and their count: those of m
+pub record ResidualsTold (m : Measured) (n place runs : ℕ) (out : List Float) (count : ℕ) : Type 0 where
+  pub counted : Counted (Residuals.answer m) (m .runs) n place runs
+  pub out-is : out ≡ m .residuals .r
+  pub count-is : count ≡ m .residuals .count

@@ -1,20 +1,19 @@
-// actuators, controls: what is declared, prepared; rows of controls. Each takes what a user declares (see export_problem); the map is that of `prepare`, which is
-// blank where it refuses.
+// actuators, controls: what is declared, prepared; rows of controls. Each takes what a user declares (see problem_numbers); the map is that of `prepare`,
+// which is blank where it refuses.
 ghost use mathlib.Core.Path.{_≡_};
 ghost use Rattle.actuators.specs.Maps as Maps;
 ghost use Rattle.actuators.specs.Prepare as Prepare;
-ghost use Rattle.actuators.specs.Allocate as Allocate;
 ghost use Rattle.actuators.specs.Pyramid as Pyramid;
 ghost use Rattle.actuators.specs.Answers as Answers;
-ghost use Rattle.controls.specs.Answers.{ofTorque};
 ghost use Rattle.controls.specs.Controls as Controls;
-ghost use Rattle.export_problem.specs.Declared as Declared;
-ghost use Rattle.export_leaves.specs.Outcomes as Outcomes;
-use super::paths::number_of;
-use super::paths::place_of;
+ghost use Rattle.problem_numbers.specs.Declared as Declared;
+ghost use Rattle.export_leaves.specs.Outcomes.{number, Answered, Placed};
+ghost use Rattle.export_runs.specs.Rigs as Rigs;
 use actuators::Measure;
-use export_problem::actuators_of;
-use export_problem::map_of;
+use export_leaves::pack::number_of;
+use export_leaves::pack::place_of;
+use problem_numbers::actuators_of;
+use problem_numbers::map_of;
 
 // The unit axes, a refusal's number and place.
 #[no_mangle]
@@ -25,10 +24,9 @@ pub extern "C" fn slew_prepare(
     thruster_axes: &mut [f64; 36],
     place: &mut usize,
 ) -> usize
-    ensures { λ r. ⌜ r ≡ Outcomes.number (Answers.ofPrepared (Prepare.prepare (Declared.actuators (now (c .entry)) (now (v .entry))))) ⌝ }
+    ensures { λ r. ⌜ Placed (Answers.ofPrepared (Prepare.prepare (Declared.actuators (now (c .entry)) (now (v .entry))))) r (now (place .exit)) ⌝ }
     ensures { λ _. ⌜ now («wheel_axes» .exit) ≡ Declared.map (now (c .entry)) (now (v .entry)) .«wheel_axes» ⌝ }
     ensures { λ _. ⌜ now («thruster_axes» .exit) ≡ Declared.map (now (c .entry)) (now (v .entry)) .«thruster_axes» ⌝ }
-    ensures { λ _. ⌜ now (place .exit) ≡ Outcomes.place (Answers.ofPrepared (Prepare.prepare (Declared.actuators (now (c .entry)) (now (v .entry))))) ⌝ }
 {
     let prepared = actuators::prepare(actuators_of(c, v));
     let fate = prepared.fate;
@@ -53,7 +51,7 @@ pub extern "C" fn slew_control_dim(c: &[usize; 11], v: &[f64; 100]) -> usize
 // A pyramid's Jacobian by rows; zeros where an angle is outside.
 #[no_mangle]
 pub extern "C" fn slew_pyramid_a(skew: f64, delta: &[f64; 4], out: &mut [f64; 12]) -> usize
-    ensures { λ r. ⌜ r ≡ Outcomes.number (Answers.ofJacobian (Pyramid.pyramidA skew (now (delta .entry)))) ⌝ }
+    ensures { λ r. ⌜ r ≡ number (Answers.ofJacobian (Pyramid.pyramidA skew (now (delta .entry)))) ⌝ }
     ensures { λ _. ⌜ now (out .exit) ≡ Pyramid.pyramidA skew (now (delta .entry)) .a ⌝ }
 {
     let made = actuators::pyramid::pyramid_a(skew, *delta);
@@ -74,8 +72,9 @@ pub extern "C" fn slew_body_torque(
     delta: &[f64; 4],
     out: &mut [f64; 3],
 ) -> usize
-    ensures { λ r. ⌜ r ≡ Outcomes.number (ofTorque (Controls.bodyTorque (Declared.map (now (c .entry)) (now (v .entry))) (now (u .entry)) (now (omega .entry)) (now (h .entry)) (now (delta .entry)))) ⌝ }
-    ensures { λ _. ⌜ now (out .exit) ≡ Controls.bodyTorque (Declared.map (now (c .entry)) (now (v .entry))) (now (u .entry)) (now (omega .entry)) (now (h .entry)) (now (delta .entry)) .tau ⌝ }
+    ensures { λ r. ⌜ Rigs.TorqueTold
+        (Controls.bodyTorque (Declared.map (now (c .entry)) (now (v .entry))) (now (u .entry)) (now (omega .entry)) (now (h .entry)) (now (delta .entry)))
+        r (now (out .exit)) ⌝ }
 {
     let map = map_of(c, v);
     let t = controls::body_torque(map, u, *omega, *h, *delta);
@@ -108,9 +107,7 @@ pub extern "C" fn slew_allocate_body_torque(
     out: &mut [f64; 20],
     place: &mut usize,
 ) -> usize
-    ensures { λ r. ⌜ r ≡ Outcomes.number (Answers.ofAllocated (Declared.map (now (c .entry)) (now (v .entry))) (Allocate.allocate (Declared.map (now (c .entry)) (now (v .entry))) (now (tau .entry)))) ⌝ }
-    ensures { λ _. ⌜ now (out .exit) ≡ Allocate.allocate (Declared.map (now (c .entry)) (now (v .entry))) (now (tau .entry)) .u ⌝ }
-    ensures { λ _. ⌜ now (place .exit) ≡ Outcomes.place (Answers.ofAllocated (Declared.map (now (c .entry)) (now (v .entry))) (Allocate.allocate (Declared.map (now (c .entry)) (now (v .entry))) (now (tau .entry)))) ⌝ }
+    ensures { λ r. ⌜ Rigs.RowTold (Declared.map (now (c .entry)) (now (v .entry))) (now (tau .entry)) r (now (place .exit)) (now (out .exit)) ⌝ }
 {
     let map = map_of(c, v);
     let row = actuators::allocate_body_torque(map, *tau);
@@ -123,8 +120,7 @@ pub extern "C" fn slew_allocate_body_torque(
 
 // A refusal's number, or 0, and then the measure is put into `out`.
 fn put_measure(m: Measure, out: &mut f64) -> usize
-    ensures { λ r. ⌜ r ≡ Outcomes.number (Answers.ofMeasure m) ⌝ }
-    ensures { λ _. ⌜ now (out .exit) ≡ Outcomes.numberOr (Answers.ofMeasure m) (now (out .entry)) ⌝ }
+    ensures { λ r. ⌜ Answered (Answers.ofMeasure m) r (now (out .entry)) (now (out .exit)) ⌝ }
 {
     match m {
         Measure::Is(x) => {
@@ -143,8 +139,8 @@ pub extern "C" fn slew_singularity(
     delta: &[f64; 4],
     out: &mut f64,
 ) -> usize
-    ensures { λ r. ⌜ r ≡ Outcomes.number (Answers.ofMeasure (Pyramid.singularity (Declared.map (now (c .entry)) (now (v .entry))) (now (delta .entry)))) ⌝ }
-    ensures { λ _. ⌜ now (out .exit) ≡ Outcomes.numberOr (Answers.ofMeasure (Pyramid.singularity (Declared.map (now (c .entry)) (now (v .entry))) (now (delta .entry)))) (now (out .entry)) ⌝ }
+    ensures { λ r. ⌜ Answered (Answers.ofMeasure (Pyramid.singularity (Declared.map (now (c .entry)) (now (v .entry))) (now (delta .entry)))) r
+        (now (out .entry)) (now (out .exit)) ⌝ }
 {
     let map = map_of(c, v);
     put_measure(actuators::singularity(map, *delta), out)

@@ -1,4 +1,5 @@
-// elimination: systems of equations, and the step of a Levenberg-Marquardt iteration. Where the lengths do not fit the answer is false, as for a singular system.
+// elimination: systems of equations, and the step of a Levenberg-Marquardt iteration. Where the lengths do not fit the answer is false, as for a singular
+// system.
 ghost use mathlib.Core.Path.{_≡_};
 ghost use Rattle.elimination.specs.Elimination as Elimination;
 ghost use Rattle.export_runs.specs.Systems as Systems;

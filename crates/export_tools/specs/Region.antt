@@ -1,20 +1,13 @@
--- What an answer of reach_avoid leaves in the numbers lent for it: the answer, or what stood there. Definitions only.
+-- What a call of drive against draught tells, and leaves in the numbers lent for it: the answer, or what stood there. Definitions only.
 use Prim.Native.Nat.{ℕ}
+use mathlib.Core.Path.{_≡_}
 use lib.IntN.{ℤ}
-use Rattle.common.specs.Answer.{Answer, Given, Refused}
+use Rattle.common.specs.Answer.{Answer}
 use Rattle.reach_avoid.specs.Answers.{Prospect}
+use Rattle.export_leaves.specs.Outcomes.{number, valueOr, map}
 
--- the turns given, or what stood there
-abbrev pub turnsOr : Answer Prospect → ℕ → ℕ
-turnsOr (Given p) old = p .turns
-turnsOr (Refused n k runs) old = old
-
--- the first choice given, or what stood there
-abbrev pub choiceOr : Answer Prospect → ℤ → ℤ
-choiceOr (Given p) old = p .choice
-choiceOr (Refused n k runs) old = old
-
--- the whole number given, or what stood there
-abbrev pub wholeOr : Answer ℤ → ℤ → ℤ
-wholeOr (Given z) old = z
-wholeOr (Refused n k runs) old = old
+-- of a start's answer a: a refusal's number, or 0, the turns and the first choice
+pub record StartTold (a : Answer Prospect) (n turns turns′ : ℕ) (choice choice′ : ℤ) : Type 0 where
+  pub number-is : n ≡ number a
+  pub turns-are : turns′ ≡ valueOr (map (λ (p : Prospect). p .turns) a) turns
+  pub choice-is : choice′ ≡ valueOr (map (λ (p : Prospect). p .choice) a) choice

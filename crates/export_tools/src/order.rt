@@ -2,18 +2,9 @@
 ghost use mathlib.Core.Path.{_≡_};
 ghost use mathlib.Core.Bool.{cond};
 ghost use Rattle.tile_order.specs.Answers as Answers;
+ghost use Rattle.export_leaves.specs.Outcomes.{fateNumber};
 ghost use Rattle.export_tools.specs.OrderEntries as OrderEntries;
-use common::Fate;
-
-// A refusal's number, or 0.
-pub fn number_of(f: Fate) -> usize
-    ensures { λ r. ⌜ r ≡ OrderEntries.number f ⌝ }
-{
-    match f {
-        Fate::Going => 0,
-        Fate::Refused(number, _) => number,
-    }
-}
+use export_leaves::pack::number_of;
 
 fn flag(b: bool) -> u64
     ensures { λ r. ⌜ r ≡ cond b 1 0 ⌝ }
@@ -30,7 +21,7 @@ pub extern "C" fn slew_order(
     order: &mut [usize; 10],
     told: &mut [u64; 4],
 ) -> usize
-    ensures { λ r. ⌜ r ≡ OrderEntries.number (Answers.answer tiles (now (times .entry)) budget .fate) ⌝ }
+    ensures { λ r. ⌜ r ≡ fateNumber (Answers.answer tiles (now (times .entry)) budget .fate) ⌝ }
     ensures { λ _. ⌜ now (order .exit) ≡ Answers.answer tiles (now (times .entry)) budget .found .order ⌝ }
     ensures { λ _. ⌜ now (told .exit) ≡ OrderEntries.told (Answers.answer tiles (now (times .entry)) budget .found) ⌝ }
 {

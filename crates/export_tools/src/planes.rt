@@ -1,5 +1,5 @@
-// byte_planes: a column of up to 4,096 words, for the recorder the bits of doubles, as byte planes, and back. What stands in the output past the answer stays. The
-// caller knows how much is written: 8 bytes for each word, a word for each 8 bytes.
+// byte_planes: a column of up to 4,096 words, for the recorder the bits of doubles, as byte planes, and back. What stands in the output past the answer
+// stays. The caller knows how much is written: 8 bytes for each word, a word for each 8 bytes.
 ghost use mathlib.Core.Path.{_≡_};
 ghost use Rattle.byte_planes.specs.Answers.{ofStored};
 ghost use Rattle.byte_planes.specs.Calls.{encoded, encodedOut, decoded, decodedOut};

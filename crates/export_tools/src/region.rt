@@ -3,16 +3,14 @@
 ghost use mathlib.Core.Path.{_≡_};
 ghost use Rattle.reach_avoid.specs.Room as Room;
 ghost use Rattle.reach_avoid.specs.Answers as Answers;
-ghost use Rattle.export_leaves.specs.Outcomes as Outcomes;
+ghost use Rattle.export_leaves.specs.Outcomes.{Answered};
 ghost use Rattle.export_tools.specs.Region as Region;
 use reach_avoid::DraughtReply;
 use reach_avoid::StartOutcome;
 
 // A refusal's number, or 0, and then the turns and the first choice are put into what is lent for them.
 fn put_start(s: StartOutcome, turns: &mut usize, choice: &mut i64) -> usize
-    ensures { λ r. ⌜ r ≡ Outcomes.number (Answers.ofStart s) ⌝ }
-    ensures { λ _. ⌜ now (turns .exit) ≡ Region.turnsOr (Answers.ofStart s) (now (turns .entry)) ⌝ }
-    ensures { λ _. ⌜ now (choice .exit) ≡ Region.choiceOr (Answers.ofStart s) (now (choice .entry)) ⌝ }
+    ensures { λ r. ⌜ Region.StartTold (Answers.ofStart s) r (now (turns .entry)) (now (turns .exit)) (now (choice .entry)) (now (choice .exit)) ⌝ }
 {
     match s {
         StartOutcome::Home => {
@@ -37,17 +35,15 @@ fn put_start(s: StartOutcome, turns: &mut usize, choice: &mut i64) -> usize
 // The fewest turns in which the drive forces home, and its first choice.
 #[no_mangle]
 pub extern "C" fn slew_outcome(angle: i64, rate: i64, turns: &mut usize, choice: &mut i64) -> usize
-    ensures { λ r. ⌜ r ≡ Outcomes.number (Answers.ofStart (Room.outcome (record { angle = angle; rate = rate }))) ⌝ }
-    ensures { λ _. ⌜ now (turns .exit) ≡ Region.turnsOr (Answers.ofStart (Room.outcome (record { angle = angle; rate = rate }))) (now (turns .entry)) ⌝ }
-    ensures { λ _. ⌜ now (choice .exit) ≡ Region.choiceOr (Answers.ofStart (Room.outcome (record { angle = angle; rate = rate }))) (now (choice .entry)) ⌝ }
+    ensures { λ r. ⌜ Region.StartTold (Answers.ofStart (Room.outcome (record { angle = angle; rate = rate }))) r
+        (now (turns .entry)) (now (turns .exit)) (now (choice .entry)) (now (choice .exit)) ⌝ }
 {
     put_start(reach_avoid::outcome(angle, rate), turns, choice)
 }
 
 // A refusal's number, or 0, and then the reply is put into `out`.
 fn put_reply(d: DraughtReply, out: &mut i64) -> usize
-    ensures { λ r. ⌜ r ≡ Outcomes.number (Answers.ofReply d) ⌝ }
-    ensures { λ _. ⌜ now (out .exit) ≡ Region.wholeOr (Answers.ofReply d) (now (out .entry)) ⌝ }
+    ensures { λ r. ⌜ Answered (Answers.ofReply d) r (now (out .entry)) (now (out .exit)) ⌝ }
 {
     match d {
         DraughtReply::With(x) => {
@@ -71,8 +67,7 @@ pub extern "C" fn slew_reply(
     choice: i64,
     out: &mut i64,
 ) -> usize
-    ensures { λ r. ⌜ r ≡ Outcomes.number (Answers.ofReply (Room.reply (record { angle = angle; rate = rate }) left choice)) ⌝ }
-    ensures { λ _. ⌜ now (out .exit) ≡ Region.wholeOr (Answers.ofReply (Room.reply (record { angle = angle; rate = rate }) left choice)) (now (out .entry)) ⌝ }
+    ensures { λ r. ⌜ Answered (Answers.ofReply (Room.reply (record { angle = angle; rate = rate }) left choice)) r (now (out .entry)) (now (out .exit)) ⌝ }
 {
     put_reply(reach_avoid::reply(angle, rate, left, choice), out)
 }

@@ -1,21 +1,11 @@
-// canonical: one text for one problem. Answers 0, or 21 or 1 with its place, or 99 where less than 4,096 bytes are lent; beside a refusal the buffer is as it was.
+// canonical: one text for one problem. Answers 0, or 21 or 1 with its place, or 99 where less than 4,096 bytes are lent; beside a refusal the buffer is as it
+// was.
 ghost use mathlib.Core.Path.{_≡_};
 ghost use Rattle.canonical.specs.CanonicalTexts as CanonicalTexts;
-ghost use Rattle.export_tools.specs.OrderEntries as OrderEntries;
-ghost use Rattle.export_tools.specs.TextEntries as TextEntries;
-use crate::order::number_of;
+ghost use Rattle.export_leaves.specs.Outcomes.{fateNumber, fatePlace};
 use canonical::canonical_text;
-use common::Fate;
-
-// A refusal's place, or 0.
-fn place_of(f: Fate) -> usize
-    ensures { λ r. ⌜ r ≡ TextEntries.place f ⌝ }
-{
-    match f {
-        Fate::Going => 0,
-        Fate::Refused(_, place) => place,
-    }
-}
+use export_leaves::pack::number_of;
+use export_leaves::pack::place_of;
 
 // The canonical text of a text into `out`, how many bytes it has, and the place of a refusal. What stands behind it stays.
 #[no_mangle]
@@ -25,10 +15,10 @@ pub extern "C" fn slew_canonical(
     bytes: &mut usize,
     place: &mut usize,
 ) -> usize
-    ensures { λ r. ⌜ r ≡ OrderEntries.number (CanonicalTexts.told (now (text .entry)) (now (out .entry)) .fate) ⌝ }
+    ensures { λ r. ⌜ r ≡ fateNumber (CanonicalTexts.told (now (text .entry)) (now (out .entry)) .fate) ⌝ }
     ensures { λ _. ⌜ now (out .exit) ≡ CanonicalTexts.left (now (text .entry)) (now (out .entry)) ⌝ }
     ensures { λ _. ⌜ now (bytes .exit) ≡ CanonicalTexts.told (now (text .entry)) (now (out .entry)) .bytes ⌝ }
-    ensures { λ _. ⌜ now (place .exit) ≡ TextEntries.place (CanonicalTexts.told (now (text .entry)) (now (out .entry)) .fate) ⌝ }
+    ensures { λ _. ⌜ now (place .exit) ≡ fatePlace (CanonicalTexts.told (now (text .entry)) (now (out .entry)) .fate) ⌝ }
 {
     let told = canonical_text(text, out);
     let fate = told.fate;

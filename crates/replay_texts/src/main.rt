@@ -18,8 +18,8 @@ fn group(kind: u64) -> u64 {
     }
 }
 
-// A case with its head h and its words v. After a head that is wrong nothing of the block can be read: it counts as a case that differs. 16 added to a kind marks
-// an answer that is stored wrong on purpose.
+// A case with its head h and its words v. After a head that is wrong nothing of the block can be read: it counts as a case that differs. 16 added to a kind
+// marks an answer that is stored wrong on purpose.
 fn run_case(s: &[u8], h: Head, v: &[u64; 1024], t: Tally) -> Tally
     requires { ⌜ Heads.Ordered (length (now s)) h ⌝ }
 {

@@ -1,4 +1,4 @@
--- `export_board::put_part` meets its contract. Assumes nothing.
+-- `export_board::put_part` meets its contract: each arm is the definition's, and a number that is given fits its type. Assumes nothing.
 use mathlib.Core.Path.{refl}
 use mir.Facts.{toZ-ofZ}
 use mir.Syntax.{w32}

@@ -3,17 +3,8 @@ use borrow.Author.Needs.{needs}
 use Rattle.export_counts.proofs.slew_sine_series.Statement.{statement}
 use Rattle.export_counts.proofs.slew_sine_series.Tie as tie
 
-sine-series-requires : tie.Need-sine-series-requires
-sine-series-requires c κs = search needs
-
-put-series-requires : tie.Need-put-series-requires
-put-series-requires c κs = search needs
-
 returns : tie.Need-returns
-returns c = (
-  rw (c .put-series .ensures .0, c .before .before .sine-series .ensures),
-  rw (c .put-series .ensures .1, c .before .before .sine-series .ensures),
-)
+returns c = let is = c .before .before .sine-series .ensures in (rw (c .put-series .ensures .0, is), rw (c .put-series .ensures .1, is))
 
 pub slew-sine-series-spec : {M : Type 1} → statement M
-slew-sine-series-spec = tie.close (tie.spec sine-series-requires put-series-requires returns)
+slew-sine-series-spec = tie.close (tie.spec (λ c κs. search needs) (λ c κs. search needs) returns)

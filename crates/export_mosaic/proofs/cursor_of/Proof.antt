@@ -1,4 +1,4 @@
--- `export_mosaic::cursor_of` meets its contract. Assumes nothing.
+-- `export_mosaic::cursor_of` meets its contract: the same counts and numbers in the same order. Assumes nothing.
 use borrow.Author.Needs.{needs}
 use Rattle.export_mosaic.proofs.cursor_of.Statement.{statement}
 use Rattle.export_mosaic.proofs.cursor_of.Tie as tie

@@ -1,4 +1,4 @@
--- `export_mosaic::fill` meets its contract. Assumes nothing.
+-- `export_mosaic::fill` meets its contract: it goes by the way that is asked for, as the definition does. Assumes nothing.
 use mathlib.Core.Path.{sym, _∙_}
 use Rattle.export_mosaic.specs.Told.{fills-by, fills-not}
 use borrow.Author.Needs.{needs}

@@ -1,4 +1,4 @@
--- `export_mosaic::put_cursor` meets its contract. Assumes nothing.
+-- `export_mosaic::put_cursor` meets its contract: the same counts and numbers in the same order. Assumes nothing.
 use mathlib.Core.Path.{refl}
 use borrow.Author.Needs.{needs}
 use Rattle.export_mosaic.proofs.put_cursor.Statement.{statement}
@@ -7,7 +7,11 @@ use Rattle.export_mosaic.proofs.put_cursor.Tie as tie
 returns : tie.Need-returns
 returns c =
     let number = c .before .before .before in
-    (number .number-of .ensures, (rw (number .number-of .ensures, c .before .before .place-of .ensures), refl))
+    record {
+      number-is = number .number-of .ensures;
+      counts-are = rw (number .number-of .ensures, c .before .before .place-of .ensures);
+      sums-are = refl;
+    }
 
 pub put-cursor-spec : {M : Type 1} → statement M
 put-cursor-spec =

@@ -1,12 +1,4 @@
 -- `export_mosaic::slew_mosaic_next` meets its contract, by the contracts of what it calls. Assumes nothing.
-use mathlib.Core.Path.{ap, _∙_}
-use Rattle.planner.specs.Plans as Plans
-use Rattle.samples.specs.Rows as Rows
-use Rattle.mosaic.specs.declared.Advanced.{Advanced}
-use Rattle.export.specs.Entries as Entries
-use Rattle.export_leaves.specs.Outcomes as Outcomes
-use Rattle.export_mosaic.specs.Cursors as Cursors
-use Rattle.export_mosaic.specs.Told.{turn-is}
 use borrow.Author.Needs.{needs}
 use Rattle.export_mosaic.proofs.slew_mosaic_next.Statement.{statement}
 use Rattle.export_mosaic.proofs.slew_mosaic_next.Tie as tie
@@ -19,36 +11,12 @@ returns c =
     let from = to .before .before in
     let at = from .before .before in
     let p = at .before .before .before .before in
-    let a = p .before .before .args in
-    let e = turn-is (a .way) (a .c .now) (a .v .now) (a .b .now) (a .limited) (a .from .now) (a .to .now) (a .cursor .now) (a .sums .now) _ (p .problem-of .ensures) (at .cursor-of .ensures) (from .quat-of .ensures) (to .quat-of2 .ensures) (made .turn .ensures .0) in
-    let o = c .put-planned .ensures in (
-      put .put-cursor .ensures .1 .0 ∙ ap (λ (x : Advanced). Cursors.counts (x .cursor)) e,
-      (
-        put .put-cursor .ensures .1 .1 ∙ ap (λ (x : Advanced). Cursors.sums (x .cursor)) e,
-        (
-          made .turn .ensures .1 ∙ ap (λ (x : Advanced). Plans.leaves (x .planned .runs) (a .ws .now)) e,
-          (
-            o .0 ∙ ap (λ (x : Advanced). Outcomes.number (Plans.answer (x .planned))) e,
-            (
-              o .1 .0 ∙ ap (λ (x : Advanced). Entries.counts (x .planned)) e,
-              (
-                o .1 .1 .0 ∙ ap (λ (x : Advanced). x .planned .path .duration) e,
-                (
-                  o .1 .1 .1 .0 ∙ ap (λ (x : Advanced). x .planned .path .«max_defect») e,
-                  (
-                    o .1 .1 .1 .1 .0 ∙ ap (λ (x : Advanced). x .planned .path .z) e,
-                    (
-                      o .1 .1 .1 .1 .1 .0 ∙ ap (λ (x : Advanced). Rows.rows (x .planned .path .nodes)) e,
-                      o .1 .1 .1 .1 .1 .1 ∙ ap (λ (x : Advanced). x .planned .path .held) e,
-                    ),
-                  ),
-                ),
-              ),
-            ),
-          ),
-        ),
-      ),
-    )
+    let e = rw (p .problem-of .ensures, at .cursor-of .ensures, from .quat-of .ensures, to .quat-of2 .ensures) at (made .turn .ensures .0) in
+    record {
+      counts-are = rw e at (put .put-cursor .ensures .counts-are);
+      sums-are = rw e at (put .put-cursor .ensures .sums-are);
+      leg-told = record { plan-told = rw e at (c .put-planned .ensures); left = rw e at (made .turn .ensures .1) };
+    }
 
 pub slew-mosaic-next-spec : {M : Type 1} → statement M
 slew-mosaic-next-spec =

@@ -1,4 +1,4 @@
--- `export_mosaic::turn` meets its contract. Assumes nothing.
+-- `export_mosaic::turn` meets its contract: it goes by the way that is asked for, as the definition does. Assumes nothing.
 use mathlib.Core.Path.{sym, _∙_}
 use Rattle.export_mosaic.specs.Told.{turn-by, turn-none}
 use borrow.Author.Needs.{needs}

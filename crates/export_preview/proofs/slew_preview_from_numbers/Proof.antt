@@ -5,14 +5,17 @@ use Rattle.export_preview.proofs.slew_preview_from_numbers.Tie as tie
 
 returns : tie.Need-returns
 returns c =
-    let put = c .put-planned .ensures in
-    let began = c .before .before .before .before .before .before .before .before .put-began .ensures in
-    let made = c .before .before .before .before .before .before .before .before .before .before .before .before .before .preview-from .ensures in
-    let momenta = c .before .before .before .before .before .before .before .before .before .before .before .before .before .before .before .momenta-of .ensures in
-    let problem = c .before .before .before .before .before .before .before .before .before .before .before .before .before .before .before .before .problem-of .ensures in
-    let is = rw (problem, momenta) at (made .0) in
-    (rw (put .0, is), (rw (put .1 .0, is), (rw (put .1 .1 .0, is), (rw (put .1 .1 .1 .0, is), (rw (put .1 .1 .1 .1 .0, is), (rw (put .1 .1 .1 .1 .1 .0, is), (rw (put .1 .1 .1 .1 .1 .1, is), (rw (made .1 .0, is), (rw (began .0, is), rw (began .1, is))))))))))
+    let put = c .before .before .before .before .before .before .before .before in
+    let made = put .before .before .before .before .before in
+    let momenta = made .before .before in
+    let is = rw (momenta .before .problem-of .ensures, momenta .momenta-of .ensures) at (made .preview-from .ensures .0) in (
+      record { plan-told = rw is at (c .put-planned .ensures); left = rw (made .preview-from .ensures .1 .0, is) },
+      (rw (put .put-began .ensures .0, is), rw (put .put-began .ensures .1, is)),
+    )
 
 pub slew-preview-from-numbers-spec : {M : Type 1} → statement M
 slew-preview-from-numbers-spec =
-    tie.close (tie.spec (λ c κs. search needs) (λ c κs. search needs) (λ c κs. search needs) (λ c κs. search needs) (λ c κs. search needs) (λ c. search needs) returns)
+    tie.close
+    (tie.spec
+    (λ c κs. search needs) (λ c κs. search needs) (λ c κs. search needs) (λ c κs. search needs) (λ c κs. search needs)
+    (λ c. search needs) returns)

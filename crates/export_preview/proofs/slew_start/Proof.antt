@@ -5,10 +5,16 @@ use Rattle.export_preview.proofs.slew_start.Tie as tie
 
 returns : tie.Need-returns
 returns c =
-    let made = c .before .before .before .before .commit .ensures in
-    let last = c .before .before .before .before .before .last-of .ensures in
-    let began = c .before .before .before .before .before .before .momenta-of .ensures in
-    (rw (c .number-of .ensures, made, last, began), (rw (made, last, began), (rw (made, last, began), rw (c .before .place-of .ensures, made, last, began))))
+    let made = c .before .before .before .before in
+    let last = made .before in
+    let is = rw (last .last-of .ensures, last .before .momenta-of .ensures) at (made .commit .ensures) in
+    record {
+      number-is = rw (c .number-of .ensures, is);
+      place-is = rw (c .before .place-of .ensures, is);
+      wheels-are = rw is;
+      momenta-are = rw is;
+    }
 
 pub slew-start-spec : {M : Type 1} → statement M
-slew-start-spec = tie.close (tie.spec (λ c κs. search needs) (λ c κs. search needs) (λ c κs. search needs) (λ c κs. search needs) (λ c κs. search needs) returns)
+slew-start-spec =
+    tie.close (tie.spec (λ c κs. search needs) (λ c κs. search needs) (λ c κs. search needs) (λ c κs. search needs) (λ c κs. search needs) returns)

@@ -1,4 +1,4 @@
--- `sentences::main` is safe and ends. Assumes nothing.
+-- `sentences::main` is safe and ends: the table lies within the buffer. Assumes nothing.
 use native.Mathlib.Omega.{arith}
 use lib.Seq.{length-take-le}
 use borrow.Author.Needs.{needs}
@@ -12,4 +12,7 @@ slice-aggregate-write-all : tie.Need-slice-aggregate-write-all
 slice-aggregate-write-all c = let within = array-share-prefix-out (c .before) in search (needs, within, length-take-le)
 
 pub main-spec : {M : Type 1} → statement M
-main-spec = tie.close (tie.spec (λ c. search needs) (λ c κs. search needs) array-share-prefix-out slice-aggregate-write-all (λ c κs. search needs) (λ c. search needs))
+main-spec =
+    tie.close
+    (tie.spec
+    (λ c. search needs) (λ c κs. search needs) array-share-prefix-out slice-aggregate-write-all (λ c κs. search needs) (λ c. search needs))

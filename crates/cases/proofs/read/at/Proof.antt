@@ -1,14 +1,8 @@
--- `cases::read::at` meets its contract. Assumes nothing.
+-- `cases::read::at` meets its contract: its test is the definition's. Assumes nothing.
 use borrow.Author.Needs.{needs}
 use borrow.Author.Tests.{lt-ltb, le-ltb}
 use Rattle.cases.proofs.read.at.Statement.{statement}
 use Rattle.cases.proofs.read.at.Tie as tie
-
-mul-result : tie.Need-mul-result
-mul-result c = search needs
-
-element-copy-out-result : tie.Need-element-copy-out-result
-element-copy-out-result c = search needs
 
 returns : tie.Need-returns
 returns c = simp (lt-ltb _ _ (c .before .if1 .taken))
@@ -17,4 +11,4 @@ returns-2 : tie.Need-returns-2
 returns-2 c = simp (le-ltb _ _ (c .if1 .left))
 
 pub at-spec : {M : Type 1} → statement M
-at-spec = tie.close (tie.spec mul-result element-copy-out-result returns returns-2)
+at-spec = tie.close (tie.spec (λ c. search needs) (λ c. search needs) returns returns-2)

@@ -7,18 +7,6 @@ use Rattle.cases.proofs.Digits.{digit-low, digit-decimal, digit-between
 use Rattle.cases.proofs.read.digit.Statement.{statement}
 use Rattle.cases.proofs.read.digit.Tie as tie
 
-wide-requires : tie.Need-wide-requires
-wide-requires c κs = search needs
-
-sub-result : tie.Need-sub-result
-sub-result c = search needs
-
-wide-requires-2 : tie.Need-wide-requires-2
-wide-requires-2 c κs = search needs
-
-sub-result-2 : tie.Need-sub-result-2
-sub-result-2 c = search needs
-
 returns : tie.Need-returns
 returns c = ap (λ x. x - 48) (c .wide .ensures) ∙ sym (digit-decimal _ (omega arith) (omega arith))
 
@@ -35,4 +23,8 @@ returns-5 : tie.Need-returns-5
 returns-5 c = sym (digit-high _ (omega arith))
 
 pub digit-spec : {M : Type 1} → statement M
-digit-spec = tie.close (tie.spec wide-requires sub-result wide-requires-2 sub-result-2 returns returns-2 returns-3 returns-4 returns-5)
+digit-spec =
+    tie.close
+    (tie.spec
+    (λ c κs. search needs) (λ c. search needs) (λ c κs. search needs) (λ c. search needs) returns returns-2 returns-3 returns-4
+    returns-5)

@@ -1,4 +1,4 @@
--- `cases::read::real` meets its contract. Assumes nothing.
+-- `cases::read::real` meets its contract: the word at that place is the float's pattern. Assumes nothing.
 use mathlib.Core.Path.{ap, _∙_}
 use lib.Ieee.{binary64, ofBits}
 use borrow.Author.Needs.{needs}

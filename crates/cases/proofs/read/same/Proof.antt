@@ -4,20 +4,14 @@ use Rattle.cases.proofs.Floats.{equals-itself, by-bits, by-nan}
 use Rattle.cases.proofs.read.same.Statement.{statement}
 use Rattle.cases.proofs.read.same.Tie as tie
 
-at-requires : tie.Need-at-requires
-at-requires c κs = search needs
-
 float-to-bits-result : tie.Need-float-to-bits-result
 float-to-bits-result c = equals-itself _ (c .if1 .taken)
 
 returns : tie.Need-returns
 returns c = by-bits _ _ _ (c .before .at .ensures) (c .if1 .taken)
 
-real-of-requires : tie.Need-real-of-requires
-real-of-requires c κs = search needs
-
 returns-2 : tie.Need-returns-2
 returns-2 c = by-nan _ _ _ (c .before .before .at .ensures) (c .before .if1 .left) _ (c .real-of .ensures)
 
 pub same-spec : {M : Type 1} → statement M
-same-spec = tie.close (tie.spec at-requires float-to-bits-result returns real-of-requires returns-2)
+same-spec = tie.close (tie.spec (λ c κs. search needs) float-to-bits-result returns (λ c κs. search needs) returns-2)

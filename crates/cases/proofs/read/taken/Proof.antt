@@ -1,4 +1,4 @@
--- `cases::read::taken` meets its contract. Assumes nothing.
+-- `cases::read::taken` meets its contract: its tests are the definition's, and a digit that is read is the byte's. Assumes nothing.
 use mathlib.Core.Path.{ap, _∙_}
 use borrow.Author.Needs.{needs}
 use Rattle.cases.specs.Words.{digit}
@@ -12,29 +12,21 @@ returns c = shut _ _ (c .if1 .taken)
 returns-2 : tie.Need-returns-2
 returns-2 c = past _ _ (c .before .if1 .left) (c .if2 .taken)
 
-byte-requires : tie.Need-byte-requires
-byte-requires c κs = search needs
-
-digit-requires : tie.Need-digit-requires
-digit-requires c κs = search needs
-
-mul-t9 : tie.Need-mul-t9
-mul-t9 c = search needs
-
-add-t10 : tie.Need-add-t10
-add-t10 c = search needs
-
-add-t11 : tie.Need-add-t11
-add-t11 c = search needs
-
 returns-3 : tie.Need-returns-3
-returns-3 c = by-digit _ _ (c .before .before .before .before .before .if1 .left) (c .before .before .before .before .if2 .left) _ (c .before .before .digit .ensures ∙ ap digit (c .before .before .before .byte .ensures)) (c .before .if3 .taken)
-
-add-t6 : tie.Need-add-t6
-add-t6 c = search needs
+returns-3 c =
+    let read = c .before .before .before in
+    let is = c .before .before .digit .ensures ∙ ap digit (read .byte .ensures) in
+    by-digit _ _ (read .before .before .if1 .left) (read .before .if2 .left) _ is (c .before .if3 .taken)
 
 returns-4 : tie.Need-returns-4
-returns-4 c = by-other _ _ (c .before .before .before .before .if1 .left) (c .before .before .before .if2 .left) _ (c .before .digit .ensures ∙ ap digit (c .before .before .byte .ensures)) (c .if3 .left)
+returns-4 c =
+    let read = c .before .before in
+    let is = c .before .digit .ensures ∙ ap digit (read .byte .ensures) in
+    by-other _ _ (read .before .before .if1 .left) (read .before .if2 .left) _ is (c .if3 .left)
 
 pub taken-spec : {M : Type 1} → statement M
-taken-spec = tie.close (tie.spec returns returns-2 byte-requires digit-requires mul-t9 add-t10 add-t11 returns-3 add-t6 returns-4)
+taken-spec =
+    tie.close
+    (tie.spec
+    returns returns-2 (λ c κs. search needs) (λ c κs. search needs) (λ c. search needs) (λ c. search needs) (λ c. search needs)
+    returns-3 (λ c. search needs) returns-4)

@@ -18,15 +18,6 @@ abbrev μ-loop : tie.MeasureT-loop
 loop-holds : tie.Need-loop-holds Inv-loop μ-loop
 loop-holds c = (omega arith, iter-none _ _)
 
-taken-requires : tie.Need-taken-requires Inv-loop μ-loop
-taken-requires c κs = search needs
-
-add-k : tie.Need-add-k Inv-loop μ-loop
-add-k c = search needs
-
-loop-less : tie.Need-loop-less Inv-loop μ-loop
-loop-less c = search needs
-
 loop-again : tie.Need-loop-again Inv-loop μ-loop
 loop-again c = (omega arith, iter-next _ _ _ (c .before .before .loop .inv .1) (c .taken .ensures))
 
@@ -35,4 +26,7 @@ unfolding wordAt
 returns c = let l = c .before .loop in let e : l .k ≡ 17 = omega arith in l .inv .1 ∙ ap (iter _ _) e
 
 pub word-at-spec : {M : Type 1} → statement M
-word-at-spec = tie.close (tie.spec Inv-loop μ-loop loop-holds taken-requires add-k loop-less loop-again returns)
+word-at-spec =
+    tie.close
+    (tie.spec
+    Inv-loop μ-loop loop-holds (λ c κs. search needs) (λ c. search needs) (λ c. search needs) loop-again returns)

@@ -1,40 +1,23 @@
--- `export::plans::put_planned` meets its contract, by the contracts of what it calls. Assumes nothing.
+-- `export::plans::put_planned` meets its contract: what it reads from the plan's fate is the plan's answer. Assumes nothing.
 use mathlib.Core.Path.{_∙_}
 use Rattle.export.specs.Told.{of-plan}
 use borrow.Author.Needs.{needs}
 use Rattle.export.proofs.plans.put_planned.Statement.{statement}
 use Rattle.export.proofs.plans.put_planned.Tie as tie
 
-place-of-requires : tie.Need-place-of-requires
-place-of-requires c κs = search needs
-
-rows-requires : tie.Need-rows-requires
-rows-requires c κs = search needs
-
-number-of-requires : tie.Need-number-of-requires
-number-of-requires c κs = search needs
-
 returns : tie.Need-returns
 returns c =
-    let t = of-plan (c .before .before .before .before .before .before .before .before .args .r) in (
-      c .number-of .ensures ∙ t .number,
-      (
-        rw (c .before .before .before .place-of .ensures, t .place, ← t .runs),
-        (
-          search needs,
-          (
-            search needs,
-            (
-              search needs,
-              (
-                rw (c .before .rows .ensures),
-                search needs,
-              ),
-            ),
-          ),
-        ),
-      ),
-    )
+    let placed = c .before .before .before in
+    let told = of-plan (placed .before .before .before .before .before .args .r) in
+    record {
+      number-is = c .number-of .ensures ∙ told .number;
+      counts-are = rw (placed .place-of .ensures, told .place, ← told .runs);
+      duration-is = search needs;
+      defect-is = search needs;
+      decision-is = search needs;
+      nodes-are = rw (c .before .rows .ensures);
+      held-are = search needs;
+    }
 
 pub put-planned-spec : {M : Type 1} → statement M
-put-planned-spec = tie.close (tie.spec place-of-requires rows-requires number-of-requires returns)
+put-planned-spec = tie.close (tie.spec (λ c κs. search needs) (λ c κs. search needs) (λ c κs. search needs) returns)

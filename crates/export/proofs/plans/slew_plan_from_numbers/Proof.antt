@@ -3,41 +3,14 @@ use borrow.Author.Needs.{needs}
 use Rattle.export.proofs.plans.slew_plan_from_numbers.Statement.{statement}
 use Rattle.export.proofs.plans.slew_plan_from_numbers.Tie as tie
 
-problem-of-requires : tie.Need-problem-of-requires
-problem-of-requires c κs = search needs
-
-plan-from-requires : tie.Need-plan-from-requires
-plan-from-requires c κs = search needs
-
-put-planned-requires : tie.Need-put-planned-requires
-put-planned-requires c κs = search needs
-
-same-length : tie.Need-same-length
-same-length c = search needs
-
 returns : tie.Need-returns
-returns c = (
-  rw (c .put-planned .ensures .0, c .before .before .before .before .before .before .before .before .before .plan-from .ensures .0, c .before .before .before .before .before .before .before .before .before .before .before .problem-of .ensures),
-  (
-    rw (c .put-planned .ensures .1 .0, c .before .before .before .before .before .before .before .before .before .plan-from .ensures .0, c .before .before .before .before .before .before .before .before .before .before .before .problem-of .ensures),
-    (
-      rw (c .put-planned .ensures .1 .1 .0, c .before .before .before .before .before .before .before .before .before .plan-from .ensures .0, c .before .before .before .before .before .before .before .before .before .before .before .problem-of .ensures),
-      (
-        rw (c .put-planned .ensures .1 .1 .1 .0, c .before .before .before .before .before .before .before .before .before .plan-from .ensures .0, c .before .before .before .before .before .before .before .before .before .before .before .problem-of .ensures),
-        (
-          rw (c .put-planned .ensures .1 .1 .1 .1 .0, c .before .before .before .before .before .before .before .before .before .plan-from .ensures .0, c .before .before .before .before .before .before .before .before .before .before .before .problem-of .ensures),
-          (
-            rw (c .put-planned .ensures .1 .1 .1 .1 .1 .0, c .before .before .before .before .before .before .before .before .before .plan-from .ensures .0, c .before .before .before .before .before .before .before .before .before .before .before .problem-of .ensures),
-            (
-              rw (c .put-planned .ensures .1 .1 .1 .1 .1 .1, c .before .before .before .before .before .before .before .before .before .plan-from .ensures .0, c .before .before .before .before .before .before .before .before .before .before .before .problem-of .ensures),
-              rw (c .before .before .before .before .before .before .before .before .before .plan-from .ensures .1 .0, c .before .before .before .before .before .before .before .before .before .plan-from .ensures .0, c .before .before .before .before .before .before .before .before .before .before .before .problem-of .ensures),
-            ),
-          ),
-        ),
-      ),
-    ),
-  ),
-)
+returns c =
+    let made = c .before .before .before .before .before .before .before .before .before in
+    let is = rw (made .before .before .problem-of .ensures) at (made .plan-from .ensures .0) in
+    record { plan-told = rw is at (c .put-planned .ensures); left = rw (made .plan-from .ensures .1 .0, is) }
 
 pub slew-plan-from-numbers-spec : {M : Type 1} → statement M
-slew-plan-from-numbers-spec = tie.close (tie.spec problem-of-requires plan-from-requires put-planned-requires same-length returns)
+slew-plan-from-numbers-spec =
+    tie.close
+    (tie.spec
+    (λ c κs. search needs) (λ c κs. search needs) (λ c κs. search needs) (λ c. search needs) returns)

@@ -1,34 +1,18 @@
--- `export::sampled::slew_sample_path` meets its contract, by the contracts of what it calls. Assumes nothing.
-use mathlib.Core.Path.{_∙_}
-use Rattle.export_runs.specs.Told.{of-fate}
+-- `export::sampled::slew_sample_path` meets its contract: what it reads from the sample's fate is the sample's answer. Assumes nothing.
+use Rattle.export_leaves.specs.OutcomeLaws.{of-fate, placed}
 use borrow.Author.Needs.{needs}
 use Rattle.export.proofs.sampled.slew_sample_path.Statement.{statement}
 use Rattle.export.proofs.sampled.slew_sample_path.Tie as tie
 
-tensor-requires : tie.Need-tensor-requires
-tensor-requires c κs = search needs
-
-sample-requires : tie.Need-sample-requires
-sample-requires c κs = search needs
-
-numbers-of-requires : tie.Need-numbers-of-requires
-numbers-of-requires c κs = search needs
-
-place-of-requires : tie.Need-place-of-requires
-place-of-requires c κs = search needs
-
-number-of-requires : tie.Need-number-of-requires
-number-of-requires c κs = search needs
-
 returns : tie.Need-returns
 returns c =
-    let t = of-fate (c .before .before .before .before .sample .result .sample) (c .before .before .before .before .sample .result .fate) in (
-      c .number-of .ensures ∙ t .number ∙ rw (c .before .before .before .before .sample .ensures, c .before .before .before .before .before .tensor .ensures),
-      (
-        rw (c .before .before .numbers-of .ensures, c .before .before .before .before .sample .ensures, c .before .before .before .before .before .tensor .ensures),
-        c .before .place-of .ensures ∙ t .place ∙ rw (c .before .before .before .before .sample .ensures, c .before .before .before .before .before .tensor .ensures),
-      ),
-    )
+    let made = c .before .before .before .before in
+    let is = rw (made .before .tensor .ensures) at (made .sample .ensures) in
+    let told = placed (of-fate (made .sample .result .sample) (made .sample .result .fate)) (c .before .place-of .ensures) (c .number-of .ensures) in
+    record { placed = rw is at told; numbers-are = rw (c .before .before .numbers-of .ensures, is) }
 
 pub slew-sample-path-spec : {M : Type 1} → statement M
-slew-sample-path-spec = tie.close (tie.spec tensor-requires sample-requires numbers-of-requires place-of-requires number-of-requires returns)
+slew-sample-path-spec =
+    tie.close
+    (tie.spec
+    (λ c κs. search needs) (λ c κs. search needs) (λ c κs. search needs) (λ c κs. search needs) (λ c κs. search needs) returns)

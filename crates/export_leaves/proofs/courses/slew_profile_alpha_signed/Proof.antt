@@ -3,14 +3,8 @@ use borrow.Author.Needs.{needs}
 use Rattle.export_leaves.proofs.courses.slew_profile_alpha_signed.Statement.{statement}
 use Rattle.export_leaves.proofs.courses.slew_profile_alpha_signed.Tie as tie
 
-profile-of-requires : tie.Need-profile-of-requires
-profile-of-requires c κs = search needs
-
-alpha-signed-requires : tie.Need-alpha-signed-requires
-alpha-signed-requires c κs = search needs
-
 returns : tie.Need-returns
 returns c = rw (c .alpha-signed .ensures, c .before .profile-of .ensures)
 
 pub slew-profile-alpha-signed-spec : {M : Type 1} → statement M
-slew-profile-alpha-signed-spec = tie.close (tie.spec profile-of-requires alpha-signed-requires returns)
+slew-profile-alpha-signed-spec = tie.close (tie.spec (λ c κs. search needs) (λ c κs. search needs) returns)

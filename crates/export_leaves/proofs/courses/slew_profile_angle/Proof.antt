@@ -3,14 +3,8 @@ use borrow.Author.Needs.{needs}
 use Rattle.export_leaves.proofs.courses.slew_profile_angle.Statement.{statement}
 use Rattle.export_leaves.proofs.courses.slew_profile_angle.Tie as tie
 
-profile-of-requires : tie.Need-profile-of-requires
-profile-of-requires c κs = search needs
-
-angle-requires : tie.Need-angle-requires
-angle-requires c κs = search needs
-
 returns : tie.Need-returns
 returns c = rw (c .angle .ensures, c .before .profile-of .ensures)
 
 pub slew-profile-angle-spec : {M : Type 1} → statement M
-slew-profile-angle-spec = tie.close (tie.spec profile-of-requires angle-requires returns)
+slew-profile-angle-spec = tie.close (tie.spec (λ c κs. search needs) (λ c κs. search needs) returns)

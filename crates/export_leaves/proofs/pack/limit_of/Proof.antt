@@ -6,8 +6,5 @@ use Rattle.export_leaves.proofs.pack.limit_of.Tie as tie
 returns : tie.Need-returns
 returns c = rw (c .if1 .taken)
 
-returns-2 : tie.Need-returns-2
-returns-2 c = search needs
-
 pub limit-of-spec : {M : Type 1} → statement M
-limit-of-spec = tie.close (tie.spec returns returns-2)
+limit-of-spec = tie.close (tie.spec returns (λ c. search needs))

@@ -3,14 +3,8 @@ use borrow.Author.Needs.{needs}
 use Rattle.export_leaves.proofs.shapes.slew_apply_tensor.Statement.{statement}
 use Rattle.export_leaves.proofs.shapes.slew_apply_tensor.Tie as tie
 
-tensor-requires : tie.Need-tensor-requires
-tensor-requires c κs = search needs
-
-apply-tensor-requires : tie.Need-apply-tensor-requires
-apply-tensor-requires c κs = search needs
-
 returns : tie.Need-returns
 returns c = rw (c .apply-tensor .ensures, c .before .tensor .ensures)
 
 pub slew-apply-tensor-spec : {M : Type 1} → statement M
-slew-apply-tensor-spec = tie.close (tie.spec tensor-requires apply-tensor-requires returns)
+slew-apply-tensor-spec = tie.close (tie.spec (λ c κs. search needs) (λ c κs. search needs) returns)

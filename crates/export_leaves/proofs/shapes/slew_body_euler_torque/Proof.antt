@@ -3,14 +3,8 @@ use borrow.Author.Needs.{needs}
 use Rattle.export_leaves.proofs.shapes.slew_body_euler_torque.Statement.{statement}
 use Rattle.export_leaves.proofs.shapes.slew_body_euler_torque.Tie as tie
 
-tensor-requires : tie.Need-tensor-requires
-tensor-requires c κs = search needs
-
-body-euler-torque-requires : tie.Need-body-euler-torque-requires
-body-euler-torque-requires c κs = search needs
-
 returns : tie.Need-returns
 returns c = rw (c .body-euler-torque .ensures, c .before .tensor .ensures)
 
 pub slew-body-euler-torque-spec : {M : Type 1} → statement M
-slew-body-euler-torque-spec = tie.close (tie.spec tensor-requires body-euler-torque-requires returns)
+slew-body-euler-torque-spec = tie.close (tie.spec (λ c κs. search needs) (λ c κs. search needs) returns)

@@ -3,14 +3,8 @@ use borrow.Author.Needs.{needs}
 use Rattle.export_leaves.proofs.shapes.slew_det3.Statement.{statement}
 use Rattle.export_leaves.proofs.shapes.slew_det3.Tie as tie
 
-tensor-requires : tie.Need-tensor-requires
-tensor-requires c κs = search needs
-
-det3-requires : tie.Need-det3-requires
-det3-requires c κs = search needs
-
 returns : tie.Need-returns
 returns c = rw (c .det3 .ensures, c .before .tensor .ensures)
 
 pub slew-det3-spec : {M : Type 1} → statement M
-slew-det3-spec = tie.close (tie.spec tensor-requires det3-requires returns)
+slew-det3-spec = tie.close (tie.spec (λ c κs. search needs) (λ c κs. search needs) returns)

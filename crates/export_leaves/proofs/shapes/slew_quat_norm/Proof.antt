@@ -3,14 +3,8 @@ use borrow.Author.Needs.{needs}
 use Rattle.export_leaves.proofs.shapes.slew_quat_norm.Statement.{statement}
 use Rattle.export_leaves.proofs.shapes.slew_quat_norm.Tie as tie
 
-quat-requires : tie.Need-quat-requires
-quat-requires c κs = search needs
-
-norm-requires : tie.Need-norm-requires
-norm-requires c κs = search needs
-
 returns : tie.Need-returns
 returns c = rw (c .norm .ensures, c .before .quat .ensures)
 
 pub slew-quat-norm-spec : {M : Type 1} → statement M
-slew-quat-norm-spec = tie.close (tie.spec quat-requires norm-requires returns)
+slew-quat-norm-spec = tie.close (tie.spec (λ c κs. search needs) (λ c κs. search needs) returns)

@@ -3,17 +3,8 @@ use borrow.Author.Needs.{needs}
 use Rattle.export_leaves.proofs.shapes.slew_quat_scale.Statement.{statement}
 use Rattle.export_leaves.proofs.shapes.slew_quat_scale.Tie as tie
 
-quat-requires : tie.Need-quat-requires
-quat-requires c κs = search needs
-
-scale-requires : tie.Need-scale-requires
-scale-requires c κs = search needs
-
-four-requires : tie.Need-four-requires
-four-requires c κs = search needs
-
 returns : tie.Need-returns
 returns c = rw (c .four .ensures, c .before .scale .ensures, c .before .before .quat .ensures)
 
 pub slew-quat-scale-spec : {M : Type 1} → statement M
-slew-quat-scale-spec = tie.close (tie.spec quat-requires scale-requires four-requires returns)
+slew-quat-scale-spec = tie.close (tie.spec (λ c κs. search needs) (λ c κs. search needs) (λ c κs. search needs) returns)

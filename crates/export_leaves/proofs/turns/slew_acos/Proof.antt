@@ -3,17 +3,11 @@ use borrow.Author.Needs.{needs}
 use Rattle.export_leaves.proofs.turns.slew_acos.Statement.{statement}
 use Rattle.export_leaves.proofs.turns.slew_acos.Tie as tie
 
-acos-requires : tie.Need-acos-requires
-acos-requires c κs = search needs
-
-put-angle-requires : tie.Need-put-angle-requires
-put-angle-requires c κs = search needs
-
 returns : tie.Need-returns
 returns c = (
-  rw (c .put-angle .ensures .0, c .before .before .acos .ensures),
-  rw (c .put-angle .ensures .1, c .before .before .acos .ensures),
+  rw (c .put-angle .ensures .number-is, c .before .before .acos .ensures),
+  rw (c .put-angle .ensures .value-is, c .before .before .acos .ensures),
 )
 
 pub slew-acos-spec : {M : Type 1} → statement M
-slew-acos-spec = tie.close (tie.spec acos-requires put-angle-requires returns)
+slew-acos-spec = tie.close (tie.spec (λ c κs. search needs) (λ c κs. search needs) returns)

@@ -1,33 +1,24 @@
--- `export_runs::rigs::slew_allocate_body_torque` meets its contract, by the contracts of what it calls. Assumes nothing.
-use mathlib.Core.Path.{_∙_}
+-- `export_runs::rigs::slew_allocate_body_torque` meets its contract: what it reads from the row's fate is the row's answer. Assumes nothing.
 use lib.ListN.{take}
 use Rattle.actuators.specs.Maps.{controlDim}
-use Rattle.export_runs.specs.Told.{of-fate}
+use Rattle.export_leaves.specs.OutcomeLaws.{of-fate, placed}
 use borrow.Author.Needs.{needs}
 use Rattle.export_runs.proofs.rigs.slew_allocate_body_torque.Statement.{statement}
 use Rattle.export_runs.proofs.rigs.slew_allocate_body_torque.Tie as tie
 
-map-of-requires : tie.Need-map-of-requires
-map-of-requires c κs = search needs
-
-allocate-body-torque-requires : tie.Need-allocate-body-torque-requires
-allocate-body-torque-requires c κs = search needs
-
-place-of-requires : tie.Need-place-of-requires
-place-of-requires c κs = search needs
-
-number-of-requires : tie.Need-number-of-requires
-number-of-requires c κs = search needs
-
 returns : tie.Need-returns
 returns c =
-    let t = of-fate (take (controlDim (c .before .before .before .before .before .map-of .result)) (c .before .before .before .allocate-body-torque .result .u)) (c .before .before .before .allocate-body-torque .result .fate) in (
-      c .number-of .ensures ∙ t .number ∙ rw (c .before .before .before .allocate-body-torque .ensures, c .before .before .before .before .before .map-of .ensures),
-      (
-        rw (c .before .before .before .allocate-body-torque .ensures, c .before .before .before .before .before .map-of .ensures),
-        c .before .place-of .ensures ∙ t .place ∙ rw (c .before .before .before .allocate-body-torque .ensures, c .before .before .before .before .before .map-of .ensures),
-      ),
-    )
+    let made = c .before .before .before in
+    let map = made .before .before .map-of in
+    let row = made .allocate-body-torque .result in
+    let told = placed (of-fate (take (controlDim (map .result)) (row .u)) (row .fate)) (c .before .place-of .ensures) (c .number-of .ensures) in
+    record {
+      placed = rw (made .allocate-body-torque .ensures, map .ensures) at told;
+      out-is = rw (made .allocate-body-torque .ensures, map .ensures);
+    }
 
 pub slew-allocate-body-torque-spec : {M : Type 1} → statement M
-slew-allocate-body-torque-spec = tie.close (tie.spec map-of-requires allocate-body-torque-requires place-of-requires number-of-requires returns)
+slew-allocate-body-torque-spec =
+    tie.close
+    (tie.spec
+    (λ c κs. search needs) (λ c κs. search needs) (λ c κs. search needs) (λ c κs. search needs) returns)

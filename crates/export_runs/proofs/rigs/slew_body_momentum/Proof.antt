@@ -3,14 +3,8 @@ use borrow.Author.Needs.{needs}
 use Rattle.export_runs.proofs.rigs.slew_body_momentum.Statement.{statement}
 use Rattle.export_runs.proofs.rigs.slew_body_momentum.Tie as tie
 
-map-of-requires : tie.Need-map-of-requires
-map-of-requires c κs = search needs
-
-body-momentum-requires : tie.Need-body-momentum-requires
-body-momentum-requires c κs = search needs
-
 returns : tie.Need-returns
 returns c = rw (c .body-momentum .ensures, c .before .map-of .ensures)
 
 pub slew-body-momentum-spec : {M : Type 1} → statement M
-slew-body-momentum-spec = tie.close (tie.spec map-of-requires body-momentum-requires returns)
+slew-body-momentum-spec = tie.close (tie.spec (λ c κs. search needs) (λ c κs. search needs) returns)

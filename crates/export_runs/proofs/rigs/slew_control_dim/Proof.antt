@@ -3,14 +3,8 @@ use borrow.Author.Needs.{needs}
 use Rattle.export_runs.proofs.rigs.slew_control_dim.Statement.{statement}
 use Rattle.export_runs.proofs.rigs.slew_control_dim.Tie as tie
 
-map-of-requires : tie.Need-map-of-requires
-map-of-requires c κs = search needs
-
-control-dim-requires : tie.Need-control-dim-requires
-control-dim-requires c κs = search needs
-
 returns : tie.Need-returns
 returns c = rw (c .control-dim .ensures, c .before .map-of .ensures)
 
 pub slew-control-dim-spec : {M : Type 1} → statement M
-slew-control-dim-spec = tie.close (tie.spec map-of-requires control-dim-requires returns)
+slew-control-dim-spec = tie.close (tie.spec (λ c κs. search needs) (λ c κs. search needs) returns)

@@ -3,14 +3,8 @@ use borrow.Author.Needs.{needs}
 use Rattle.export_runs.proofs.rigs.slew_momentum_excess.Statement.{statement}
 use Rattle.export_runs.proofs.rigs.slew_momentum_excess.Tie as tie
 
-map-of-requires : tie.Need-map-of-requires
-map-of-requires c κs = search needs
-
-momentum-excess-requires : tie.Need-momentum-excess-requires
-momentum-excess-requires c κs = search needs
-
 returns : tie.Need-returns
 returns c = rw (c .momentum-excess .ensures, c .before .map-of .ensures)
 
 pub slew-momentum-excess-spec : {M : Type 1} → statement M
-slew-momentum-excess-spec = tie.close (tie.spec map-of-requires momentum-excess-requires returns)
+slew-momentum-excess-spec = tie.close (tie.spec (λ c κs. search needs) (λ c κs. search needs) returns)

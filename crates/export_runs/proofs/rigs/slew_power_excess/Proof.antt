@@ -3,14 +3,8 @@ use borrow.Author.Needs.{needs}
 use Rattle.export_runs.proofs.rigs.slew_power_excess.Statement.{statement}
 use Rattle.export_runs.proofs.rigs.slew_power_excess.Tie as tie
 
-map-of-requires : tie.Need-map-of-requires
-map-of-requires c κs = search needs
-
-power-excess-requires : tie.Need-power-excess-requires
-power-excess-requires c κs = search needs
-
 returns : tie.Need-returns
 returns c = rw (c .power-excess .ensures, c .before .before .map-of .ensures)
 
 pub slew-power-excess-spec : {M : Type 1} → statement M
-slew-power-excess-spec = tie.close (tie.spec map-of-requires power-excess-requires returns)
+slew-power-excess-spec = tie.close (tie.spec (λ c κs. search needs) (λ c κs. search needs) returns)

@@ -3,14 +3,8 @@ use borrow.Author.Needs.{needs}
 use Rattle.export_runs.proofs.rigs.slew_wheel_momentum_rates.Statement.{statement}
 use Rattle.export_runs.proofs.rigs.slew_wheel_momentum_rates.Tie as tie
 
-map-of-requires : tie.Need-map-of-requires
-map-of-requires c κs = search needs
-
-wheel-momentum-rates-requires : tie.Need-wheel-momentum-rates-requires
-wheel-momentum-rates-requires c κs = search needs
-
 returns : tie.Need-returns
 returns c = rw (c .wheel-momentum-rates .ensures, c .before .map-of .ensures)
 
 pub slew-wheel-momentum-rates-spec : {M : Type 1} → statement M
-slew-wheel-momentum-rates-spec = tie.close (tie.spec map-of-requires wheel-momentum-rates-requires returns)
+slew-wheel-momentum-rates-spec = tie.close (tie.spec (λ c κs. search needs) (λ c κs. search needs) returns)

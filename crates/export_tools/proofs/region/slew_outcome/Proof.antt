@@ -1,4 +1,4 @@
--- `export_tools::region::slew_outcome` meets its contract. Assumes nothing.
+-- `export_tools::region::slew_outcome` meets its contract: a number that is passed is the number that was given. Assumes nothing.
 use mir.Facts.{toZ-ofZ}
 use borrow.Author.Needs.{needs}
 use Rattle.export_tools.proofs.region.slew_outcome.Statement.{statement}

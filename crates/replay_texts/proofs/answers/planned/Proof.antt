@@ -1,4 +1,4 @@
--- `replay_texts::answers::planned` is safe and ends. Assumes nothing.
+-- `replay_texts::answers::planned` is safe and ends: the bytes that are told lie within the buffer. Assumes nothing.
 use lib.Seq.{length-take-le}
 use borrow.Author.Needs.{needs}
 use Rattle.replay_texts.proofs.answers.planned.Statement.{statement}

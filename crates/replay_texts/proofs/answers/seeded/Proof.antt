@@ -1,4 +1,4 @@
--- `replay_texts::answers::seeded` is safe and ends. Assumes nothing.
+-- `replay_texts::answers::seeded` is safe and ends: as many words as are asked for lie within the seed. Assumes nothing.
 use lib.Seq.{length-take-le}
 use borrow.Author.Needs.{needs}
 use Rattle.replay_texts.proofs.answers.seeded.Statement.{statement}

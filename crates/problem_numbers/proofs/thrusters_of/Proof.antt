@@ -1,4 +1,4 @@
--- `export_problem::thrusters_of` meets its contract: the places passed are filled. Assumes nothing.
+-- `problem_numbers::thrusters_of` meets its contract: the places passed are filled. Assumes nothing.
 use Prim.Native.Nat.{_-_, _≤_}
 use mathlib.Core.Path.{_≡_, refl}
 use native.Mathlib.Omega.{arith}
@@ -6,9 +6,9 @@ use lib.ListN.{set, replicate}
 use borrow.Author.Needs.{needs}
 use Rattle.common.specs.Iter.{iter, iter-none, iter-next}
 use Rattle.actuators.specs.Maps.{blankThruster}
-use Rattle.export_problem.specs.Declared.{thrusterAt, thrusters}
-use Rattle.export_problem.proofs.thrusters_of.Statement.{statement}
-use Rattle.export_problem.proofs.thrusters_of.Tie as tie
+use Rattle.problem_numbers.specs.Declared.{thrusterAt, thrusters}
+use Rattle.problem_numbers.proofs.thrusters_of.Statement.{statement}
+use Rattle.problem_numbers.proofs.thrusters_of.Tie as tie
 
 abbrev Inv-loop : tie.InvT-loop
 Inv-loop v out₀ k₀ out k = (k ≤ 12) × (out ≡ iter (λ j l. set l j (thrusterAt v j)) (replicate 12 blankThruster) k)

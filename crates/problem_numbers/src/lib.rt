@@ -2,10 +2,11 @@
 //
 // Counts: wheels, thrusters, a pyramid (1, else none), and for each of eight wheels whether it has a power limit (1, else none).
 // Numbers: eight wheel axes, their torques, momenta, powers; twelve thruster axes, their torques; the pyramid's skew, momentum, rate, smallest measure.
-// A body's numbers: q0, qf, the inertia by rows, the torque limits, the slew limit, six weights, the norm tolerance, the tie tolerance, eight wheels' start momenta.
+// A body's numbers: q0, qf, the inertia by rows, the torque limits, the slew limit, six weights, the norm tolerance, the tie tolerance, eight wheels' start
+// momenta.
 ghost use mathlib.Core.Path.{_≡_};
 ghost use Prim.Native.Nat.{_<_};
-ghost use Rattle.export_problem.specs.Declared as Declared;
+ghost use Rattle.problem_numbers.specs.Declared as Declared;
 use actuators::ActuatorMap;
 use actuators::Actuators;
 use actuators::CmgPyramid;
@@ -138,12 +139,35 @@ pub fn map_of(c: &[usize; 11], v: &[f64; 100]) -> ActuatorMap
     map
 }
 
-// A whole problem; with a slew limit or without. As many momenta count as there are wheels.
+// The six weights of a body's numbers.
+fn weights_of(b: &[f64; 37]) -> Weights
+    ensures { λ r. ⌜ r ≡ Declared.weights (now (b .entry)) ⌝ }
+{
+    Weights {
+        time: b[21],
+        control: b[22],
+        energy: b[23],
+        pointing: b[24],
+        smoothness: b[25],
+        momentum: b[26],
+    }
+}
+
+// The wheels' start momenta: as many count as there are wheels.
+fn momenta_of(c: &[usize; 11], b: &[f64; 37]) -> Momenta
+    ensures { λ r. ⌜ r ≡ Declared.momenta (now (c .entry)) (now (b .entry)) ⌝ }
+{
+    let at = [b[29], b[30], b[31], b[32], b[33], b[34], b[35], b[36]];
+    Momenta {
+        count: c[0],
+        at: at,
+    }
+}
+
+// A whole problem; with a slew limit or without.
 pub fn problem_of(c: &[usize; 11], v: &[f64; 100], b: &[f64; 37], limited: bool) -> Problem
     ensures { λ r. ⌜ r ≡ Declared.problem (now (c .entry)) (now (v .entry)) (now (b .entry)) limited ⌝ }
 {
-    let actuators = actuators_of(c, v);
-    let slew = limit_of(limited, b[20]);
     let q0 = Quat {
         w: b[0],
         x: b[1],
@@ -158,18 +182,10 @@ pub fn problem_of(c: &[usize; 11], v: &[f64; 100], b: &[f64; 37], limited: bool)
     };
     let inertia = [b[8], b[9], b[10], b[11], b[12], b[13], b[14], b[15], b[16]];
     let torque_limit = [b[17], b[18], b[19]];
-    let weights = Weights {
-        time: b[21],
-        control: b[22],
-        energy: b[23],
-        pointing: b[24],
-        smoothness: b[25],
-        momentum: b[26],
-    };
-    let momenta = Momenta {
-        count: c[0],
-        at: [b[29], b[30], b[31], b[32], b[33], b[34], b[35], b[36]],
-    };
+    let slew = limit_of(limited, b[20]);
+    let weights = weights_of(b);
+    let actuators = actuators_of(c, v);
+    let momenta = momenta_of(c, b);
     Problem {
         q0: q0,
         qf: qf,

@@ -19,7 +19,9 @@ use Rattle.actuators.specs.declared.Cmgs.{Cmgs}
 use Rattle.actuators.specs.declared.Cmgs.the-variants.{Without, With}
 use Rattle.actuators.specs.declared.Actuators.{Actuators}
 use Rattle.actuators.specs.declared.ActuatorMap.{ActuatorMap}
+use Rattle.problem.specs.declared.Momenta.{Momenta}
 use Rattle.problem.specs.declared.Problem.{Problem}
+use Rattle.problem.specs.declared.Weights.{Weights}
 use Rattle.export_leaves.specs.Packed.{limit}
 
 -- count k
@@ -76,7 +78,18 @@ actuators c v = record {
 abbrev pub map : List ℕ → List Float → ActuatorMap
 map c v = Prepare.prepare (actuators c v) .map
 
--- a whole problem; with a slew limit or without; as many momenta count as there are wheels
+-- the six weights
+abbrev pub weights : List Float → Weights
+weights b = record { time = at b 21; control = at b 22; energy = at b 23; pointing = at b 24; smoothness = at b 25; momentum = at b 26 }
+
+-- the wheels' start momenta: as many count as there are wheels
+abbrev pub momenta : List ℕ → List Float → Momenta
+momenta c b = record {
+  count = count c 0;
+  at = at b 29 ∷ at b 30 ∷ at b 31 ∷ at b 32 ∷ at b 33 ∷ at b 34 ∷ at b 35 ∷ at b 36 ∷ [];
+}
+
+-- a whole problem; with a slew limit or without
 unfoldable pub problem : List ℕ → List Float → List Float → Bool → Problem
 problem c v b limited = record {
   q0 = Quats.quat (at b 0) (at b 1) (at b 2) (at b 3);
@@ -84,9 +97,9 @@ problem c v b limited = record {
   inertia = at b 8 ∷ at b 9 ∷ at b 10 ∷ at b 11 ∷ at b 12 ∷ at b 13 ∷ at b 14 ∷ at b 15 ∷ at b 16 ∷ [];
   «torque_limit» = at b 17 ∷ at b 18 ∷ at b 19 ∷ [];
   slew = limit limited (at b 20);
-  weights = record { time = at b 21; control = at b 22; energy = at b 23; pointing = at b 24; smoothness = at b 25; momentum = at b 26 };
+  weights = weights b;
   «norm_tolerance» = at b 27;
   «tie_tolerance» = at b 28;
   actuators = actuators c v;
-  momenta = record { count = count c 0; at = at b 29 ∷ at b 30 ∷ at b 31 ∷ at b 32 ∷ at b 33 ∷ at b 34 ∷ at b 35 ∷ at b 36 ∷ [] };
+  momenta = momenta c b;
 }
