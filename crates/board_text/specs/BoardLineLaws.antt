@@ -16,10 +16,8 @@ use Rattle.geom.specs.Vec.{tensor}
 use Rattle.samples.specs.Rows.{rows}
 use Rattle.drive_numbers.specs.Drive.{driveSample}
 use Rattle.text_writer.specs.Puts.{Puts}
-use Rattle.text_writer.specs.Texts as Texts
-use Rattle.refusal_text.specs.Sentences as Sentences
 use Rattle.sample_text.specs.SampleTexts.{sampleOf, sampleCourse}
-use Rattle.sample_text.specs.SampleLines.{isLast, isPlanned, Prints}
+use Rattle.sample_text.specs.SampleLines.{isLast, isPlanned, Refuses}
 use Rattle.sample_text.specs.SampleLineLaws.{step-refused, step-given}
 use Rattle.sample_text.specs.declared.Course.{Course}
 use Rattle.sample_text.specs.declared.lines.Line.{Line}
@@ -72,7 +70,7 @@ sum-back z h = let c = counted z h in rw (c .sum) (c .back)
 
 -- ---- what is printed
 module _ (c : Course) (requested : ℕ) (alpha : Float) (index : ℕ) {b : Board} {out said out′ : List ℕ} (e : b ≡ boardCourse c requested alpha index) where
-  pub steps-refused : {n k : ℕ} {sampled : Bool} {said′ : List ℕ} {r : Line} → sampled ≡ isPlanned (c .fate) → b .driven .fate ≡ Refused n k → Prints (Texts.refused n k (b .runs)) 100 (Sentences.explain n k (b .runs) sampled) false out said r out′ said′ → StepsAt c requested alpha index out said r out′ said′
+  pub steps-refused : {n k : ℕ} {sampled : Bool} {said′ : List ℕ} {r : Line} → sampled ≡ isPlanned (c .fate) → b .driven .fate ≡ Refused n k → Refuses sampled n k (b .runs) out said r out′ said′ → StepsAt c requested alpha index out said r out′ said′
   unfolding answer
   steps-refused {sampled = sampled} g f s = rw (← e, ← g) (step-refused (boardLine index (isLast (c .duration) requested alpha index)) sampled _ (b .driven .numbers) (b .runs) (omega arith) f s)
 

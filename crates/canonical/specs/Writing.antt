@@ -14,6 +14,7 @@ use Rattle.actuators.specs.declared.Cmgs.the-variants.{Without, With}
 use Rattle.problem.specs.declared.Weights.{Weights}
 use Rattle.problem.specs.declared.Problem.{Problem}
 use Rattle.text.specs.Bytes.{bytes}
+use Rattle.text_writer.specs.Puts.{Puts}
 use Rattle.text_writer.specs.Texts.{times}
 use Rattle.canonical_laws.specs.Pieces.{Piece, lit, Entry, wheel, thruster, pyramid, flat, floats, limit, line, quat, weights, entry, noWheel, noThruster, actuators, print}
 
@@ -28,6 +29,10 @@ close = bytes ")\n"
 -- the bytes of a line of n floats, at most
 abbrev pub room : List ℕ → ℕ → List ℕ → ℕ
 room head n tail = length head + 17 * n + length tail
+
+-- a line of n floats is put into a buffer
+abbrev pub PutsLine : List ℕ → ℕ → List ℕ → ℕ → List Float → List ℕ → List ℕ → ℕ → Type 0
+PutsLine before at head n v tail = Puts before at (flat (line head v tail)) (room head n tail)
 
 -- an actuator, with the line feed that ends the line before it
 abbrev pub entryText : Entry → List ℕ

@@ -49,7 +49,8 @@ fn rewrite(fate: Fate, p: Problem, out: &mut [u8]) -> Told
     }
 }
 
-// The canonical text of an accepted text; of one that is refused with 21 or 1 that refusal, and nothing is written. A buffer of less than 4,096 bytes gets nothing: 99.
+// The canonical text of an accepted text; of one that is refused with 21 or 1 that refusal, and nothing is written. A buffer of less than 4,096 bytes gets
+// nothing: 99.
 pub fn canonical_text(text: &[u8], out: &mut [u8]) -> Told
     ensures { λ r. ⌜ Tells (now (text .entry)) (now (out .entry)) r (now (out .exit)) ⌝ }
 {

@@ -6,6 +6,7 @@ ghost use lib.ListN.{length};
 ghost use Rattle.text_writer.specs.Puts.{Puts};
 ghost use Rattle.canonical_laws.specs.Pieces as Pieces;
 ghost use Rattle.canonical.specs.Writing as Writing;
+ghost use Rattle.canonical.specs.Writing.{PutsLine};
 use actuators::Actuators;
 use actuators::CmgPyramid;
 use actuators::Cmgs;
@@ -22,7 +23,7 @@ use text_writer::put::put_words;
 // A line: what it begins with, n floats, what it ends with.
 fn put_line(b: &mut [u8], at: usize, head: &[u8], v: &[f64], n: usize, tail: &[u8]) -> usize
     requires { ⌜ (at < 2 ^ 29) × ((length (now head) ≤ 64) × ((length (now tail) ≤ 64) × ((n ≤ 9) × (n ≤ length (now v))))) ⌝ }
-    ensures { λ r. ⌜ Puts (now (b .entry)) at (Pieces.flat (Pieces.line (now (head .entry)) (Pieces.floats n (now (v .entry))) (now (tail .entry)))) (Writing.room (now (head .entry)) n (now (tail .entry))) (now (b .exit)) r ⌝ }
+    ensures { λ r. ⌜ PutsLine (now (b .entry)) at (now (head .entry)) n (Pieces.floats n (now (v .entry))) (now (tail .entry)) (now (b .exit)) r ⌝ }
 {
     let i = put_all(b, at, head);
     let j = put_words(b, i, v, 0, n);
@@ -142,7 +143,7 @@ fn put_actuators(b: &mut [u8], at: usize, a: Actuators) -> usize
 // Four floats, scalar first.
 fn put_quat(b: &mut [u8], at: usize, head: &[u8], q: Quat) -> usize
     requires { ⌜ (at < 2 ^ 28) × (length (now head) ≤ 64) ⌝ }
-    ensures { λ r. ⌜ Puts (now (b .entry)) at (Pieces.flat (Pieces.line (now (head .entry)) (Pieces.quat q) Writing.close)) (Writing.room (now (head .entry)) 4 Writing.close) (now (b .exit)) r ⌝ }
+    ensures { λ r. ⌜ PutsLine (now (b .entry)) at (now (head .entry)) 4 (Pieces.quat q) Writing.close (now (b .exit)) r ⌝ }
 {
     let v = [q.w, q.x, q.y, q.z];
     put_line(b, at, head, &v, 4, b")\n")
@@ -242,7 +243,8 @@ fn put_fields(b: &mut [u8], p: Problem) -> usize
     put_tolerances(b, k, p.norm_tolerance, p.tie_tolerance)
 }
 
-// The canonical text of a problem; nothing of one with more than 8 wheels or 12 thrusters, or with another count of momenta than of wheels, which no text holds.
+// The canonical text of a problem; nothing of one with more than 8 wheels or 12 thrusters, or with another count of momenta than of wheels, which no text
+// holds.
 pub fn write_problem(out: &mut [u8], p: Problem) -> usize
     ensures { λ r. ⌜ Puts (now (out .entry)) 0 (Writing.written p) 4096 (now (out .exit)) r ⌝ }
 {

@@ -5,12 +5,12 @@ use lib.Ieee.{Float, binary64, div}
 use Rattle.common.specs.Iter.{iter}
 use Rattle.float.specs.Ops.{max}
 use Rattle.geom.specs.Vec.{plusZero}
-use Rattle.problem.specs.declared.Problem.{Problem}
 use Rattle.forward.specs.Decisions.{sixteen}
 use Rattle.forward.specs.declared.Node.{Node}
 use Rattle.residuals.specs.Sums.{nodeAt, change}
 use Rattle.planner.specs.declared.Planned.{Planned}
 use Rattle.problem_text.specs.Reader.{readProblem}
+use Rattle.sample_text.specs.SampleTexts.{courseOf}
 use Rattle.sample_text.specs.declared.Course.{Course}
 use Rattle.eigenaxis_seed.specs.declared.Shape.{Shape}
 use Rattle.eigenaxis_text.specs.EigenaxisTexts.{planned}
@@ -26,19 +26,10 @@ steepTurn ns dt k a = steeper (nodeAt ns k .w) (nodeAt ns (k + 1) .w) dt a
 unfoldable pub steepest : List Node → Float → Float
 steepest ns dt = iter (steepTurn ns dt) plusZero 16
 
--- What an eigenaxis plan is to its samples. They are asked for with the path's own largest acceleration: the profile knows nothing of actuators, and a half turn
--- has none.
-unfoldable pub courseOf : Problem → Planned → Course
-courseOf p a = record {
-  fate = a .fate;
-  runs = a .runs;
-  inertia = p .inertia;
-  tolerance = p .«norm_tolerance»;
-  alpha = steepest (a .path .nodes) (div binary64 (a .path .duration) sixteen);
-  duration = a .path .duration;
-  nodes = a .path .nodes;
-}
+-- Samples of an eigenaxis plan are asked for with the path's own largest acceleration: the profile knows nothing of actuators, and a half turn has none.
+unfoldable pub alphaOf : Planned → Float
+alphaOf a = steepest (a .path .nodes) (div binary64 (a .path .duration) sixteen)
 
 -- the eigenaxis plan of a text, in a workspace of `size` numbers; 21 comes before every other refusal
 unfoldable pub eigenaxisCourse : List ℕ → Shape → ℕ → Course
-eigenaxisCourse text shape size = courseOf (readProblem text .problem) (planned text shape size)
+eigenaxisCourse text shape size = let a = planned text shape size in courseOf (readProblem text .problem) a (alphaOf a)

@@ -2,4 +2,4 @@
 -- ---- meaning
 pub mod Courses  -- what the samples are taken of, and the acceleration that they are asked for with
 -- ---- laws
-pub mod CourseLaws  -- a text that is refused, and one that is planned
+pub mod CourseLaws  -- the plan of a text, in the code's steps

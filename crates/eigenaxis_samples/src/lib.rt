@@ -3,14 +3,12 @@ ghost use mathlib.Core.Path.{_≡_};
 ghost use lib.ListN.{length};
 ghost use Rattle.planner.specs.Plans as Plans;
 ghost use Rattle.eigenaxis_samples.specs.Courses as Courses;
-use common::Fate;
-use eigenaxis::plan_counted;
 use eigenaxis_seed::Shape;
+use eigenaxis_text::plan_eigenaxis_read;
 use forward::Node;
 use planner::Planned;
-use planner::refused;
-use problem::Problem;
 use sample_text::Course;
+use sample_text::course_of;
 
 // The larger of a and the length of the rate's change from w to w2 over a time dt.
 fn steeper(w: [f64; 3], w2: [f64; 3], dt: f64, a: f64) -> f64
@@ -37,40 +35,22 @@ pub fn steepest(nodes: [Node; 17], dt: f64) -> f64
     a
 }
 
-// What an eigenaxis plan is to its samples.
-fn course_of(p: Problem, a: Planned) -> Course
-    ensures { λ r. ⌜ r ≡ Courses.courseOf p a ⌝ }
+// The acceleration that dense samples of an eigenaxis plan are asked for with.
+fn alpha_of(a: Planned) -> f64
+    ensures { λ r. ⌜ r ≡ Courses.alphaOf a ⌝ }
 {
     let path = a.path;
-    let fate = a.fate;
-    let inertia = p.inertia;
     let nodes = path.nodes;
-    Course {
-        fate: fate,
-        runs: a.runs,
-        inertia: inertia,
-        tolerance: p.norm_tolerance,
-        alpha: steepest(nodes, path.duration / 16.0),
-        duration: path.duration,
-        nodes: nodes,
-    }
+    steepest(nodes, path.duration / 16.0)
 }
 
 // The eigenaxis plan of a text, to take samples of.
 pub fn plan_eigenaxis_course(text: &[u8], shape: Shape, ws: &mut [f64]) -> Course
-    ensures { λ r. ⌜ (r ≡ Courses.eigenaxisCourse (now (text .entry)) shape (length (now (ws .entry)))) × (now (ws .exit) ≡ Plans.leaves (r .runs) (now (ws .entry))) ⌝ }
+    ensures { λ r. ⌜ r ≡ Courses.eigenaxisCourse (now (text .entry)) shape (length (now (ws .entry))) ⌝ }
+    ensures { λ r. ⌜ now (ws .exit) ≡ Plans.leaves (r .runs) (now (ws .entry)) ⌝ }
 {
     let read = text_reader::read(text);
-    let fate = read.fate;
     let p = read.problem;
-    match fate {
-        Fate::Refused(number, place) => {
-            let a = refused(number, place, 0);
-            course_of(p, a)
-        }
-        Fate::Going => {
-            let a = plan_counted(p, shape, ws);
-            course_of(p, a)
-        }
-    }
+    let a = plan_eigenaxis_read(read, shape, ws);
+    course_of(p, a, alpha_of(a))
 }

@@ -1,4 +1,5 @@
-// A mosaic's text: the line `(mosaic`, one problem's text as it stands in a file of its own, a line for each tile, and the line `)`. Read into the problem and its tiles.
+// A mosaic's text: the line `(mosaic`, one problem's text as it stands in a file of its own, a line for each tile, and the line `)`. Read into the problem and
+// its tiles.
 ghost use mathlib.Core.Path.{_≡_};
 ghost use Prim.Native.Nat.{_≤_};
 ghost use lib.ListN.{length};

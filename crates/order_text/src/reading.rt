@@ -1,5 +1,5 @@
-// Reads a table of times: `(tiles`, ` (budget N)`, and ` (from T T ..)` for each tile, decimal numbers, the last line closed by two brackets. The first row says
-// how many tiles there are.
+// Reads a table of times: `(tiles`, ` (budget N)`, and ` (from T T ..)` for each tile, decimal numbers, the last line closed by two brackets. The first row
+// says how many tiles there are.
 ghost use mathlib.Core.Path.{_≡_};
 ghost use Prim.Native.Nat.{_+_, _≤_, _<_, _^_};
 ghost use lib.ListN.{length, set};

@@ -12,27 +12,21 @@ use Rattle.common.specs.declared.Fate.the-variants.{Going, Refused}
 use Rattle.geom.specs.Vec.{plusZero}
 use Rattle.problem.specs.declared.Problem.{Problem}
 use Rattle.planner.specs.Plans as Plans
-use Rattle.planner.specs.PlanLaws.{leaves-none}
 use Rattle.planner.specs.declared.Planned.{Planned}
 use Rattle.problem_text.specs.Reader.{readProblem}
 use Rattle.problem_text.specs.declared.Read.{Read}
 use Rattle.text_writer.specs.Puts.{Puts}
 use Rattle.text_writer.specs.PutLaws.{puts-most, puts-whole}
 use Rattle.text_writer.specs.Texts as Texts
-use Rattle.plan_text.specs.PlanTexts.{ofText, fromSeed, pathText, printed, noRoom, told, written, leaves, Prints, Tells}
+use Rattle.plan_text.specs.PlanTexts.{ofRead, ofText, fromSeed, pathText, printed, noRoom, told, written, leaves, Prints, Tells}
 use Rattle.plan_text.specs.declared.Told.{Told}
 
 -- ---- reading
-module _ (text : List ℕ) (plan : Problem → Planned) {read : Read} (e : read ≡ readProblem text) where
-  -- a text that is refused
-  pub text-refused : {n k : ℕ} → read .fate ≡ Refused n k → Plans.refused n k 0 ≡ ofText text plan
-  unfolding ofText
-  text-refused f = rw (← e, f) refl
 
-  -- a text that is a problem
-  pub text-read : read .fate ≡ Going → plan (read .problem) ≡ ofText text plan
-  unfolding ofText
-  text-read f = rw (← e, f) refl
+-- the plan of what was read of a text is the text's
+pub text-planned : (text : List ℕ) (plan : Problem → Planned) {read : Read} {a : Planned} → read ≡ readProblem text → a ≡ ofRead read plan → a ≡ ofText text plan
+unfolding ofText
+text-planned text plan e h = h ∙ rw e
 
 -- ---- a caller's seed
 module _ (p : Problem) (seed : List Float) (size : ℕ) where
@@ -65,27 +59,19 @@ unfolding printed
 prints-refused {n} {k} {runs} {i} p = prints {a = Plans.refused n k runs} {i = i} refl (puts-most (omega arith) p)
 
 -- ---- telling
-module _ (a : Planned) (ws : List Float) {out : List ℕ} {r : Told} where
-  pub tells-short : r ≡ noRoom → length out < 16384 → Tells a ws out r ws out
+module _ (plan : ℕ → Planned) (ws : List Float) {out : List ℕ} {r : Told} where
+  pub tells-short : r ≡ noRoom → length out < 16384 → Tells plan ws out r ws out
   unfolding told written leaves
   tells-short e h =
       let l = lt-ltb (length out) 16384 h in
       let z : r .bytes ≡ 0 = rw e in
       record { is = e ∙ rw l; left = rw l; bytes = rw l; within = omega arith }
 
-  pub tells : {ws′ : List Float} {out′ : List ℕ} → 16384 ≤ length out → Prints a out r out′ → ws′ ≡ Plans.leaves (a .runs) ws → Tells a ws out r ws′ out′
+  pub tells : {a : Planned} {ws′ : List Float} {out′ : List ℕ} → 16384 ≤ length out → a ≡ plan (length ws) → ws′ ≡ Plans.leaves (a .runs) ws → Prints a out r out′ → Tells plan ws out r ws′ out′
   unfolding told written leaves
-  tells {ws′} {out′} h p e =
+  tells {a} {ws′} {out′} h g e p =
       let l = le-ltb (length out) 16384 h in
       let b : r .bytes ≡ length (printed a) = rw (p .is) in
       let w : out′ ≡ printed a ++ drop (r .bytes) out = puts-whole (p .puts) (omega arith) in
       let n : length out′ ≡ length out = rw (p .puts .is) (length-sets out 0 (printed a)) in
-      record { is = p .is ∙ rw l; left = e ∙ rw l; bytes = (rw b at w) ∙ rw l; within = omega (arith, p .puts .short) }
-
--- a text that is refused, and one that is planned
-module _ (text : List ℕ) (plan : Problem → Planned) (ws : List Float) {out : List ℕ} {r : Told} {out′ : List ℕ} {read : Read} (e : read ≡ readProblem text) (h : 16384 ≤ length out) where
-  pub tells-unread : {n k : ℕ} → read .fate ≡ Refused n k → Prints (Plans.refused n k 0) out r out′ → Tells (ofText text plan) ws out r ws out′
-  tells-unread {n} {k} f p = rw (← text-refused text plan e f) (tells (Plans.refused n k 0) ws h p (leaves-none ws))
-
-  pub tells-planned : {a : Planned} {ws′ : List Float} → read .fate ≡ Going → a ≡ plan (read .problem) → ws′ ≡ Plans.leaves (a .runs) ws → Prints a out r out′ → Tells (ofText text plan) ws out r ws′ out′
-  tells-planned {a} f g l p = rw (← text-read text plan e f, ← g) (tells a ws h p l)
+      record { is = p .is ∙ rw (← g, l); left = e ∙ rw (← g, l); bytes = (rw b at w) ∙ rw (← g, l); within = omega (arith, p .puts .short) }

@@ -15,6 +15,7 @@ use Rattle.planner.specs.Plans as Plans
 use Rattle.planner.specs.declared.Path.{Path}
 use Rattle.planner.specs.declared.Planned.{Planned}
 use Rattle.problem_text.specs.Reader.{readProblem}
+use Rattle.problem_text.specs.declared.Read.{Read}
 use Rattle.text_writer.specs.Puts.{Puts}
 use Rattle.text_writer.specs.Texts as Texts
 use Rattle.plan_text.specs.declared.Told.{Told}
@@ -26,8 +27,12 @@ abbrev pub readBy : Fate → Problem → (Problem → Planned) → Planned
 readBy (Refused number line) p plan = Plans.refused number line 0
 readBy Going p plan = plan p
 
+-- the plan of what was read
+abbrev pub ofRead : Read → (Problem → Planned) → Planned
+ofRead read plan = readBy (read .fate) (read .problem) plan
+
 unfoldable pub ofText : List ℕ → (Problem → Planned) → Planned
-ofText text plan = readBy (readProblem text .fate) (readProblem text .problem) plan
+ofText text plan = ofRead (readProblem text) plan
 
 -- with our own seed, in a workspace of `size` numbers
 abbrev pub planned : List ℕ → ℕ → Planned
@@ -82,9 +87,9 @@ pub record Prints (a : Planned) (out : List ℕ) (r : Told) (out′ : List ℕ) 
   pub is : r ≡ wholly a
   pub puts : Puts out 0 (printed a) 9970 out′ (r .bytes)
 
--- the answer a is told; the bytes written lie within the buffer
-pub record Tells (a : Planned) (ws : List Float) (out : List ℕ) (r : Told) (ws′ : List Float) (out′ : List ℕ) : Type 0 where
-  pub is : r ≡ told a out
-  pub left : ws′ ≡ leaves a out ws
-  pub bytes : out′ ≡ written a out
+-- the plan for as many numbers as are lent is told; the bytes written lie within the buffer
+pub record Tells (plan : ℕ → Planned) (ws : List Float) (out : List ℕ) (r : Told) (ws′ : List Float) (out′ : List ℕ) : Type 0 where
+  pub is : r ≡ told (plan (length ws)) out
+  pub left : ws′ ≡ leaves (plan (length ws)) out ws
+  pub bytes : out′ ≡ written (plan (length ws)) out
   pub within : r .bytes ≤ length out′

@@ -5,13 +5,15 @@ ghost use lib.ListN.{length};
 ghost use Rattle.planner.specs.Plans as Plans;
 ghost use Rattle.text_writer.specs.Puts.{Puts};
 ghost use Rattle.plan_text.specs.PlanTexts as PlanTexts;
-ghost use Rattle.plan_text.specs.PlanTexts.{Prints, Tells};
+ghost use Rattle.plan_text.specs.PlanTexts.{Prints, Tells, planned, plannedFrom};
 use common::Fate;
 use planner::Path;
 use planner::Planned;
 use planner::plan;
 use planner::plan_from;
+use planner::refused;
 use problem::Problem;
+use problem_text::Read;
 use text_writer::write_path;
 use text_writer::write_refused;
 
@@ -71,7 +73,7 @@ pub fn tell(a: Planned, out: &mut [u8]) -> Told
 }
 
 // Nothing is written to a buffer that is too short, and no run begins.
-fn no_room() -> Told
+pub fn no_room() -> Told
     ensures { λ r. ⌜ r ≡ PlanTexts.noRoom ⌝ }
 {
     Told {
@@ -81,23 +83,30 @@ fn no_room() -> Told
     }
 }
 
+// The plan of what was read, from our own seed. A text that is refused is refused before any run.
+pub fn plan_read(read: Read, ws: &mut [f64]) -> Planned
+    ensures { λ r. ⌜ r ≡ PlanTexts.ofRead read (λ p. Plans.plan p (length (now (ws .entry)))) ⌝ }
+    ensures { λ r. ⌜ now (ws .exit) ≡ Plans.leaves (r .runs) (now (ws .entry)) ⌝ }
+{
+    let fate = read.fate;
+    match fate {
+        Fate::Refused(number, line) => refused(number, line, 0),
+        Fate::Going => {
+            let p = read.problem;
+            plan(p, ws)
+        }
+    }
+}
+
 // The plan of a text from our own seed: what `slew` prints.
 pub fn plan_text(text: &[u8], ws: &mut [f64], out: &mut [u8]) -> Told
-    ensures { λ r. ⌜ Tells (PlanTexts.planned (now (text .entry)) (length (now (ws .entry)))) (now (ws .entry)) (now (out .entry)) r (now (ws .exit)) (now (out .exit)) ⌝ }
+    ensures { λ r. ⌜ Tells (planned (now (text .entry))) (now (ws .entry)) (now (out .entry)) r (now (ws .exit)) (now (out .exit)) ⌝ }
 {
     if out.len() < 16384 {
         return no_room();
     }
-    let read = text_reader::read(text);
-    let fate = read.fate;
-    match fate {
-        Fate::Refused(number, place) => tell_refused(number, place, 0, out),
-        Fate::Going => {
-            let p = read.problem;
-            let a = plan(p, ws);
-            tell(a, out)
-        }
-    }
+    let a = plan_read(text_reader::read(text), ws);
+    tell(a, out)
 }
 
 // The plan of a problem from a caller's seed: a duration, 17 rates and 17 torques, 103 numbers. Another count is handed on as a seed of no nodes.
@@ -110,21 +119,28 @@ pub fn plan_seeded(p: Problem, seed: &[f64], ws: &mut [f64]) -> Planned
     plan_from(p, seed[0], &seed[1..52], &seed[52..103], ws)
 }
 
+// The plan of what was read, from a caller's seed.
+fn plan_read_from(read: Read, seed: &[f64], ws: &mut [f64]) -> Planned
+    ensures { λ r. ⌜ r ≡ PlanTexts.ofRead read (λ p. PlanTexts.fromSeed p (now (seed .entry)) (length (now (ws .entry)))) ⌝ }
+    ensures { λ r. ⌜ now (ws .exit) ≡ Plans.leaves (r .runs) (now (ws .entry)) ⌝ }
+{
+    let fate = read.fate;
+    match fate {
+        Fate::Refused(number, line) => refused(number, line, 0),
+        Fate::Going => {
+            let p = read.problem;
+            plan_seeded(p, seed, ws)
+        }
+    }
+}
+
 // The plan of a text from a caller's seed.
 pub fn plan_text_from(text: &[u8], seed: &[f64], ws: &mut [f64], out: &mut [u8]) -> Told
-    ensures { λ r. ⌜ Tells (PlanTexts.plannedFrom (now (text .entry)) (now (seed .entry)) (length (now (ws .entry)))) (now (ws .entry)) (now (out .entry)) r (now (ws .exit)) (now (out .exit)) ⌝ }
+    ensures { λ r. ⌜ Tells (plannedFrom (now (text .entry)) (now (seed .entry))) (now (ws .entry)) (now (out .entry)) r (now (ws .exit)) (now (out .exit)) ⌝ }
 {
     if out.len() < 16384 {
         return no_room();
     }
-    let read = text_reader::read(text);
-    let fate = read.fate;
-    match fate {
-        Fate::Refused(number, place) => tell_refused(number, place, 0, out),
-        Fate::Going => {
-            let p = read.problem;
-            let a = plan_seeded(p, seed, ws);
-            tell(a, out)
-        }
-    }
+    let a = plan_read_from(text_reader::read(text), seed, ws);
+    tell(a, out)
 }

@@ -21,7 +21,8 @@ use text::lines::Words;
 use text::lines::line_at;
 use text::lines::wrong_row;
 
-// What was found in a text so far: how the reading goes, the position after it, the rows of the first nine lines, the actuators. Beside a refusal there is nothing.
+// What was found in a text so far: how the reading goes, the position after it, the rows of the first nine lines, the actuators. Beside a refusal there is
+// nothing.
 pub struct Found {
     pub fate: Fate,
     pub at: usize,

@@ -1,20 +1,19 @@
-// Program `slew_eigenaxis`: plans the problem whose text stands on standard input about one axis. The answer goes to standard output and, where it is refused, a sentence to
-// standard error. The word `gentle` as its argument asks for the gentle shape. A program of this language has no exit status: another argument shows by its
-// sentence, and by nothing on standard output.
-ghost use Rattle.programs.specs.Programs as Programs;
-ghost use Rattle.programs.specs.Programs.{AnswersBy};
+// Program `slew_eigenaxis`: plans the problem whose text stands on standard input about one axis. The answer goes to standard output and, where it is refused,
+// a sentence to standard error. The word `gentle` as its argument asks for the gentle shape. A program of this language has no exit status: another argument
+// shows by its sentence, and by nothing on standard output.
+ghost use Rattle.programs.specs.Programs.{AnswersBy, slewEigenaxis};
+use super::output::show;
 use super::plans::Answered;
 use super::words::asks;
 use eigenaxis_seed::Shape;
 use eigenaxis_text::plan_eigenaxis_text;
 use libc::STDERR_FILENO;
 use libc::STDIN_FILENO;
-use libc::STDOUT_FILENO;
 use refusal_text::explain_plan;
 
 // The answer to a text: its eigenaxis plan in 8,000 numbers, printed, and the sentence of a refusal.
 pub fn answer(text: &[u8], shape: Shape, out: &mut [u8], said: &mut [u8]) -> Answered
-    ensures { λ r. ⌜ AnswersBy (Programs.slewEigenaxis (now (text .entry)) shape) (now (out .entry)) (now (said .entry)) r (now (out .exit)) (now (said .exit)) ⌝ }
+    ensures { λ r. ⌜ AnswersBy (slewEigenaxis (now (text .entry)) shape) (now (out .entry)) (now (said .entry)) r (now (out .exit)) (now (said .exit)) ⌝ }
 {
     let mut ws = [0.0; 8000];
     let told = plan_eigenaxis_text(text, shape, &mut ws, out);
@@ -33,10 +32,7 @@ fn print_plan(shape: Shape) {
     let mut out = [0u8; 16384];
     let mut said = [0u8; 256];
     let answered = answer(&text[..length], shape, &mut out, &mut said);
-    let bytes = answered.bytes;
-    io::write_all(STDOUT_FILENO, &out[..bytes]);
-    let sentence = answered.said;
-    io::write_all(STDERR_FILENO, &said[..sentence]);
+    show(&out, answered.bytes, &said, answered.said);
 }
 
 pub fn run() {

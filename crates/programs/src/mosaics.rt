@@ -1,13 +1,13 @@
-// Program `slew_mosaic`: plans the mosaic whose text stands on standard input, leg by leg, and prints each leg when it is planned: a heading, then the path as `slew` prints
-// one. A refused leg is printed in the path's place, with a sentence on standard error, and is the last. Then come the sums of the legs that stand. A text that is refused is
-// answered as `slew` answers one. The word `eigenaxis` asks for legs about one axis, and behind it `gentle` for the gentle shape. A program of this language has no exit
-// status: other arguments show by their sentence, and by nothing on standard output.
+// Program `slew_mosaic`: plans the mosaic whose text stands on standard input, leg by leg, and prints each leg when it is planned: a heading, then the path as
+// `slew` prints one. A refused leg is printed in the path's place, with a sentence on standard error, and is the last. Then come the sums of the legs that
+// stand. A text that is refused is answered as `slew` answers one. The word `eigenaxis` asks for legs about one axis, and behind it `gentle` for the gentle
+// shape. A program of this language has no exit status: other arguments show by their sentence, and by nothing on standard output.
 ghost use mathlib.Core.Path.{_≡_};
 ghost use Prim.Native.Nat.{_-_, _≤_};
 ghost use lib.ListN.{length};
 ghost use Rattle.mosaic.specs.Ways as Ways;
 ghost use Rattle.mosaic_answer.specs.MosaicAnswers as MosaicAnswers;
-use crate::samples::show;
+use crate::output::show;
 use crate::words::asks;
 use common::Fate;
 use eigenaxis_seed::Shape;

@@ -1,9 +1,9 @@
-// Program `slew`: plans the problem whose text stands on standard input. The answer goes to standard output and, where it is refused, a sentence to standard error.
+// Program `slew`: plans the problem whose text stands on standard input. The answer goes to standard output and, where it is refused, a sentence to standard
+// error.
 ghost use Rattle.programs.specs.Programs as Programs;
 ghost use Rattle.programs.specs.Programs.{Answers};
-use libc::STDERR_FILENO;
+use crate::output::show;
 use libc::STDIN_FILENO;
-use libc::STDOUT_FILENO;
 use plan_text::plan_text;
 use refusal_text::explain_plan;
 
@@ -34,8 +34,5 @@ pub fn run() {
     let mut out = [0u8; 16384];
     let mut said = [0u8; 256];
     let answered = answer(&text[..length], &mut out, &mut said);
-    let bytes = answered.bytes;
-    io::write_all(STDOUT_FILENO, &out[..bytes]);
-    let sentence = answered.said;
-    io::write_all(STDERR_FILENO, &said[..sentence]);
+    show(&out, answered.bytes, &said, answered.said);
 }

@@ -1,13 +1,13 @@
-// Program `slew_samples`: prints the dense samples of the problem whose text stands on standard input, one a line. The first argument is the number of samples asked for, 17
-// where there is none; a path has more where its rate asks for more. Behind it the word `board` asks for the drive board's whole numbers, then `eigenaxis` for a slew about one
-// axis, then `gentle` for the gentle shape. A refusal is printed in the place of the samples that are left, with a sentence on standard error. A program of this language has
-// no exit status: bad arguments show by their sentence, and by nothing on standard output.
+// Program `slew_samples`: prints the dense samples of the problem whose text stands on standard input, one a line. The first argument is the number of samples
+// asked for, 17 where there is none; a path has more where its rate asks for more. Behind it the word `board` asks for the drive board's whole numbers, then
+// `eigenaxis` for a slew about one axis, then `gentle` for the gentle shape. A refusal is printed in the place of the samples that are left, with a sentence on
+// standard error. A program of this language has no exit status: bad arguments show by their sentence, and by nothing on standard output.
 ghost use mathlib.Core.Path.{_≡_};
 ghost use Prim.Native.Nat.{_≤_};
-ghost use lib.ListN.{length};
 ghost use Rattle.sample_text.specs.SampleTexts.{planCourse};
 ghost use Rattle.eigenaxis_samples.specs.Courses.{eigenaxisCourse};
 ghost use Rattle.programs.specs.Programs as Programs;
+use crate::output::show;
 use crate::words::asks;
 use arguments::Requested;
 use arguments::read_requested;
@@ -16,13 +16,13 @@ use eigenaxis_samples::plan_eigenaxis_course;
 use eigenaxis_seed::Shape;
 use libc::STDERR_FILENO;
 use libc::STDIN_FILENO;
-use libc::STDOUT_FILENO;
 use mosaic::ways::Way;
 use sample_text::Course;
 use sample_text::lines::write_step;
 use sample_text::plan_course;
 
-// What is asked for behind the number of samples: the drive board's numbers or not, the way that the slew is planned by, and the number of the argument behind these words.
+// What is asked for behind the number of samples: the drive board's numbers or not, the way that the slew is planned by, and the number of the argument behind
+// these words.
 pub struct Wanted {
     pub board: bool,
     pub way: Way,
@@ -53,14 +53,6 @@ pub fn course(text: &[u8], way: Way) -> Course
         Way::Search => search_course(text),
         Way::Eigenaxis(shape) => eigenaxis_course(text, shape),
     }
-}
-
-// A step's first bytes to standard output, its sentence's to standard error.
-pub fn show(out: &[u8], bytes: usize, said: &[u8], told: usize)
-    requires { ⌜ (bytes ≤ length (now out)) × (told ≤ length (now said)) ⌝ }
-{
-    io::write_all(STDOUT_FILENO, &out[..bytes]);
-    io::write_all(STDERR_FILENO, &said[..told]);
 }
 
 // Prints one sample, and answers whether another follows.

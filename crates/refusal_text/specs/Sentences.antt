@@ -98,6 +98,10 @@ told count (b ∷ t) = cond (eqb b 10) (10 ∷ []) (marked count b ++ told count
 unfoldable pub sentence : List ℕ → ℕ → ℕ → List ℕ
 sentence t place k = told (place - numberAt t (k + 9)) (drop (k + 12) t)
 
+-- the sentence of a table for refusal n at a place, met at a stage
+abbrev pub sentenceFor : List ℕ → ℕ → ℕ → ℕ → List ℕ
+sentenceFor t n place when = sentence t place (lineFor t n place when)
+
 -- a text is put at the start of a buffer
 abbrev pub Tells : List ℕ → List ℕ → List ℕ → ℕ → Type 0
 Tells before t after next = Puts before 0 t (length t) after next
@@ -106,7 +110,7 @@ Tells before t after next = Puts before 0 t (length t) after next
 
 -- what refusal n at a place means: what was wrong, with which item, and what to change
 unfoldable pub explain : ℕ → ℕ → ℕ → Bool → List ℕ
-explain n place runs sampled = sentence table place (lineFor table n place (met runs sampled))
+explain n place runs sampled = sentenceFor table n place (met runs sampled)
 
 -- what a plan's refusal means; of a path nothing
 abbrev pub explainPlan : Fate → ℕ → List ℕ

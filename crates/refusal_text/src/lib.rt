@@ -185,14 +185,15 @@ fn above(place: usize, least: usize) -> usize
 // The sentence for a refusal in a table.
 fn put_sentence(out: &mut [u8], t: &[u8], n: usize, place: usize, when: usize) -> usize
     requires { ⌜ length (now t) < 2 ^ 16 ⌝ }
-    ensures { λ r. ⌜ Tells (now (out .entry)) (Sentences.sentence (now (t .entry)) place (Sentences.lineFor (now (t .entry)) n place when)) (now (out .exit)) r ⌝ }
+    ensures { λ r. ⌜ Tells (now (out .entry)) (Sentences.sentenceFor (now (t .entry)) n place when) (now (out .exit)) r ⌝ }
 {
     let k = line_for(t, n, place, when);
     let least = number_at(t, k + 9);
     put_line(out, t, k + 12, above(place, least))
 }
 
-// What a refusal means: what was wrong, with which item, and what to change. `runs` are the forward runs begun; `sampled` is whether a dense sample was refused and not the plan.
+// What a refusal means: what was wrong, with which item, and what to change. `runs` are the forward runs begun; `sampled` is whether a dense sample was refused
+// and not the plan.
 pub fn explain(number: usize, place: usize, runs: usize, sampled: bool, out: &mut [u8]) -> usize
     ensures { λ r. ⌜ Puts (now (out .entry)) 0 (Sentences.explain number place runs sampled) 212 (now (out .exit)) r ⌝ }
 {

@@ -10,6 +10,7 @@ use Rattle.text_writer.specs.Puts.{Puts}
 use Rattle.text_writer.specs.Texts.{times, digits, whole, counted, refused}
 use Rattle.refusal_text.specs.Sentences.{explain}
 use Rattle.reach_avoid.specs.Answers.{ofStart, ofReply}
+use Rattle.reach_avoid.specs.Room.{outcome, reply}
 use Rattle.reach_avoid.specs.declared.StartOutcome.{StartOutcome}
 use Rattle.reach_avoid.specs.declared.StartOutcome.the-variants as StartOutcome
 use Rattle.reach_avoid.specs.declared.DraughtReply.{DraughtReply}
@@ -50,11 +51,13 @@ pub record Prints (t u out said : List ℕ) (r : Printed) (out′ said′ : List
   pub told : Puts out 0 t 100 out′ (r .bytes)
   pub says : Puts said 0 u 212 said′ (r .said)
 
-abbrev pub PrintsStart : StartOutcome → List ℕ → List ℕ → Printed → List ℕ → List ℕ → Type 0
-PrintsStart s = Prints (printed (ofStart s) (startForm s)) (sentence (ofStart s))
+-- what is told of the start at an angle and a rate, and of the draught's reply there
+abbrev pub PrintsStart : ℤ → ℤ → List ℕ → List ℕ → Printed → List ℕ → List ℕ → Type 0
+PrintsStart angle rate = let s = outcome (record { angle = angle; rate = rate }) in Prints (printed (ofStart s) (startForm s)) (sentence (ofStart s))
 
-abbrev pub PrintsReply : DraughtReply → List ℕ → List ℕ → Printed → List ℕ → List ℕ → Type 0
-PrintsReply d = Prints (printed (ofReply d) (replyForm d)) (sentence (ofReply d))
+abbrev pub PrintsReply : ℤ → ℤ → ℕ → ℤ → List ℕ → List ℕ → Printed → List ℕ → List ℕ → Type 0
+PrintsReply angle rate left choice =
+    let d = reply (record { angle = angle; rate = rate }) left choice in Prints (printed (ofReply d) (replyForm d)) (sentence (ofReply d))
 
 -- ---- the region
 

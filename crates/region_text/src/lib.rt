@@ -72,7 +72,7 @@ fn refuse(out: &mut [u8], said: &mut [u8]) -> Printed
 
 // What is told of a start.
 pub fn write_start(angle: i64, rate: i64, out: &mut [u8], said: &mut [u8]) -> Printed
-    ensures { λ r. ⌜ RegionTexts.PrintsStart (Room.outcome (record { angle = angle; rate = rate })) (now (out .entry)) (now (said .entry)) r (now (out .exit)) (now (said .exit)) ⌝ }
+    ensures { λ r. ⌜ RegionTexts.PrintsStart angle rate (now (out .entry)) (now (said .entry)) r (now (out .exit)) (now (said .exit)) ⌝ }
 {
     let s = outcome(angle, rate);
     match s {
@@ -110,7 +110,7 @@ pub fn write_reply(
     out: &mut [u8],
     said: &mut [u8],
 ) -> Printed
-    ensures { λ r. ⌜ RegionTexts.PrintsReply (Room.reply (record { angle = angle; rate = rate }) left choice) (now (out .entry)) (now (said .entry)) r (now (out .exit)) (now (said .exit)) ⌝ }
+    ensures { λ r. ⌜ RegionTexts.PrintsReply angle rate left choice (now (out .entry)) (now (said .entry)) r (now (out .exit)) (now (said .exit)) ⌝ }
 {
     let d = reply(angle, rate, left, choice);
     match d {

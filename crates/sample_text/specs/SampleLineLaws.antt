@@ -13,9 +13,8 @@ use Rattle.samples.specs.declared.PathSample.{PathSample}
 use Rattle.text_writer.specs.Puts.{Puts}
 use Rattle.text_writer.specs.PutLaws.{puts-none, puts-most}
 use Rattle.text_writer.specs.Texts as Texts
-use Rattle.refusal_text.specs.Sentences as Sentences
 use Rattle.sample_text.specs.SampleTexts.{answerBy, answer, sampleCourse}
-use Rattle.sample_text.specs.SampleLines.{isLast, isPlanned, sampleLine, opening, closing, Prints, Steps, StepsAt}
+use Rattle.sample_text.specs.SampleLines.{isLast, isPlanned, sampleLine, opening, closing, Refuses, Steps, StepsAt}
 use Rattle.sample_text.specs.declared.Course.{Course}
 use Rattle.sample_text.specs.declared.Dense.{Dense}
 use Rattle.sample_text.specs.declared.lines.Line.{Line}
@@ -30,7 +29,7 @@ not-last {index} {count} h = sym (ne-eqb (index + 1) count (λ e. omega arith))
 
 -- ---- a step of any list: refused, and given
 module _ {A : Type 0} (form : A → List ℕ) (sampled last : Bool) (x : A) (runs : ℕ) {f : Fate} {most : ℕ} {out said out′ : List ℕ} where
-  pub step-refused : {n k : ℕ} {said′ : List ℕ} {r : Line} → 100 ≤ most → f ≡ Refused n k → Prints (Texts.refused n k runs) 100 (Sentences.explain n k runs sampled) false out said r out′ said′ → Steps form most sampled (answerBy f runs x) last out said r out′ said′
+  pub step-refused : {n k : ℕ} {said′ : List ℕ} {r : Line} → 100 ≤ most → f ≡ Refused n k → Refuses sampled n k runs out said r out′ said′ → Steps form most sampled (answerBy f runs x) last out said r out′ said′
   step-refused l e s = rw e (record { prints = puts-most l (s .prints); says = s .says; goes = s .goes })
 
   pub step-given : {i : ℕ} → f ≡ Going → Puts out 0 (form x) most out′ i → Steps form most sampled (answerBy f runs x) last out said (record { bytes = i; said = 0; more = not last }) out′ said
@@ -38,7 +37,7 @@ module _ {A : Type 0} (form : A → List ℕ) (sampled last : Bool) (x : A) (run
 
 -- ---- the step of sample number index
 module _ (c : Course) (requested : ℕ) (alpha : Float) (index : ℕ) {d : Dense} {out said out′ : List ℕ} (e : d ≡ sampleCourse c requested alpha index) where
-  pub steps-refused : {n k : ℕ} {sampled : Bool} {said′ : List ℕ} {r : Line} → sampled ≡ isPlanned (c .fate) → d .sampled .fate ≡ Refused n k → Prints (Texts.refused n k (d .runs)) 100 (Sentences.explain n k (d .runs) sampled) false out said r out′ said′ → StepsAt c requested alpha index out said r out′ said′
+  pub steps-refused : {n k : ℕ} {sampled : Bool} {said′ : List ℕ} {r : Line} → sampled ≡ isPlanned (c .fate) → d .sampled .fate ≡ Refused n k → Refuses sampled n k (d .runs) out said r out′ said′ → StepsAt c requested alpha index out said r out′ said′
   unfolding answer
   steps-refused {sampled = sampled} g f s = rw (← e, ← g) (step-refused (sampleLine index (isLast (c .duration) requested alpha index)) sampled _ (d .sampled .sample) (d .runs) (omega arith) f s)
 

@@ -65,6 +65,10 @@ pub record Prints (line : List ℕ) (most : ℕ) (sentence : List ℕ) (more : B
   pub says : Puts said 0 sentence 212 said′ (r .said)
   pub goes : r .more ≡ more
 
+-- a refusal and its sentence, after which no step follows
+abbrev pub Refuses : Bool → ℕ → ℕ → ℕ → List ℕ → List ℕ → Line → List ℕ → List ℕ → Type 0
+Refuses sampled number place runs = Prints (Texts.refused number place runs) 100 (Sentences.explain number place runs sampled) false
+
 abbrev pub Steps : {A : Type 0} → (A → List ℕ) → ℕ → Bool → Answer A → Bool → List ℕ → List ℕ → Line → List ℕ → List ℕ → Type 0
 Steps form most sampled a last = Prints (lineBy form a) most (sentenceBy sampled a) (moreBy a last)
 

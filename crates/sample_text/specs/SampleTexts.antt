@@ -31,21 +31,21 @@ use Rattle.sample_text.specs.declared.Dense.{Dense}
 unfoldable pub alphaOf : Problem → Float
 alphaOf p = Plans.profiled (check p .problem) .profile .alpha
 
--- what a plan is to its samples
-unfoldable pub courseOf : Problem → Planned → Course
-courseOf p a = record {
+-- what a plan is to its samples, which are asked for with an acceleration
+unfoldable pub courseOf : Problem → Planned → Float → Course
+courseOf p a alpha = record {
   fate = a .fate;
   runs = a .runs;
   inertia = p .inertia;
   tolerance = p .«norm_tolerance»;
-  alpha = alphaOf p;
+  alpha = alpha;
   duration = a .path .duration;
   nodes = a .path .nodes;
 }
 
 -- the plan of a text with our own seed, in a workspace of `size` numbers; 21 comes before every other refusal
 unfoldable pub planCourse : List ℕ → ℕ → Course
-planCourse text size = courseOf (readProblem text .problem) (planned text size)
+planCourse text size = let p = readProblem text .problem in courseOf p (planned text size) (alphaOf p)
 
 -- ---- a dense sample of it
 
@@ -104,8 +104,8 @@ written a out = cond (ltb (length out) 14) out (headed a out)
 unfoldable pub leaves : ℕ → List Float → List Float → List Float
 leaves runs out ws = cond (ltb (length out) 14) ws (Plans.leaves runs ws)
 
--- sample number index of a text's plan is given
-pub record Gives (c : Course) (requested : ℕ) (alpha : Float) (index : ℕ) (ws out : List Float) (r : ℕ) (ws′ out′ : List Float) : Type 0 where
-  pub is : r ≡ told (answer (sampleCourse c requested alpha index)) out
-  pub left : ws′ ≡ leaves (c .runs) out ws
-  pub numbers : out′ ≡ written (answer (sampleCourse c requested alpha index)) out
+-- sample number index of the plan for as many numbers as are lent is given
+pub record Gives (course : ℕ → Course) (requested : ℕ) (alpha : Float) (index : ℕ) (ws out : List Float) (r : ℕ) (ws′ out′ : List Float) : Type 0 where
+  pub is : r ≡ told (answer (sampleCourse (course (length ws)) requested alpha index)) out
+  pub left : ws′ ≡ leaves (course (length ws) .runs) out ws
+  pub numbers : out′ ≡ written (answer (sampleCourse (course (length ws)) requested alpha index)) out

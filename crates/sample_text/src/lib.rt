@@ -5,13 +5,12 @@ ghost use Prim.Native.Nat.{_≤_};
 ghost use lib.ListN.{length, drop};
 ghost use Rattle.planner.specs.Plans as Plans;
 ghost use Rattle.sample_text.specs.SampleTexts as SampleTexts;
-ghost use Rattle.sample_text.specs.SampleTexts.{Gives};
+ghost use Rattle.sample_text.specs.SampleTexts.{Gives, planCourse};
 use common::Fate;
 use forward::Node;
-use forward::runs::blank_node;
 use geom::tensor;
+use plan_text::plan_read;
 use planner::Planned;
-use planner::plan;
 use planner::profiled;
 use problem::Problem;
 use problem::check;
@@ -53,9 +52,9 @@ pub fn alpha_of(p: Problem) -> f64
     profile.alpha
 }
 
-// What a plan is to its samples.
-fn course_of(p: Problem, a: Planned) -> Course
-    ensures { λ r. ⌜ r ≡ SampleTexts.courseOf p a ⌝ }
+// What a plan is to its samples, which are asked for with an acceleration.
+pub fn course_of(p: Problem, a: Planned, alpha: f64) -> Course
+    ensures { λ r. ⌜ r ≡ SampleTexts.courseOf p a alpha ⌝ }
 {
     let path = a.path;
     let fate = a.fate;
@@ -66,44 +65,21 @@ fn course_of(p: Problem, a: Planned) -> Course
         runs: a.runs,
         inertia: inertia,
         tolerance: p.norm_tolerance,
-        alpha: alpha_of(p),
+        alpha: alpha,
         duration: path.duration,
-        nodes: nodes,
-    }
-}
-
-// A text that is refused.
-fn unread(p: Problem, number: usize, place: usize) -> Course
-    ensures { λ r. ⌜ r ≡ SampleTexts.courseOf p (Plans.refused number place 0) ⌝ }
-{
-    let inertia = p.inertia;
-    let blank = blank_node();
-    let nodes = [blank; 17];
-    Course {
-        fate: Fate::Refused(number, place),
-        runs: 0,
-        inertia: inertia,
-        tolerance: p.norm_tolerance,
-        alpha: alpha_of(p),
-        duration: 0.0,
         nodes: nodes,
     }
 }
 
 // The plan of a text from our own seed, to take samples of.
 pub fn plan_course(text: &[u8], ws: &mut [f64]) -> Course
-    ensures { λ r. ⌜ (r ≡ SampleTexts.planCourse (now (text .entry)) (length (now (ws .entry)))) × (now (ws .exit) ≡ Plans.leaves (r .runs) (now (ws .entry))) ⌝ }
+    ensures { λ r. ⌜ r ≡ SampleTexts.planCourse (now (text .entry)) (length (now (ws .entry))) ⌝ }
+    ensures { λ r. ⌜ now (ws .exit) ≡ Plans.leaves (r .runs) (now (ws .entry)) ⌝ }
 {
     let read = text_reader::read(text);
-    let fate = read.fate;
     let p = read.problem;
-    match fate {
-        Fate::Refused(number, place) => unread(p, number, place),
-        Fate::Going => {
-            let a = plan(p, ws);
-            course_of(p, a)
-        }
-    }
+    let a = plan_read(read, ws);
+    course_of(p, a, alpha_of(p))
 }
 
 // Sample number index of the path.
@@ -203,7 +179,7 @@ pub fn sample_text(
     index: usize,
     out: &mut [f64],
 ) -> u64
-    ensures { λ r. ⌜ Gives (SampleTexts.planCourse (now (text .entry)) (length (now (ws .entry)))) requested alpha index (now (ws .entry)) (now (out .entry)) r (now (ws .exit)) (now (out .exit)) ⌝ }
+    ensures { λ r. ⌜ Gives (planCourse (now (text .entry))) requested alpha index (now (ws .entry)) (now (out .entry)) r (now (ws .exit)) (now (out .exit)) ⌝ }
 {
     if out.len() < 14 {
         return 99;

@@ -1,13 +1,11 @@
 // What is printed of a text's dense samples, one step a sample: its line, or a refusal and what it means.
 ghost use mathlib.Core.Path.{_≡_};
-ghost use mathlib.Core.Bool.{false, cond};
+ghost use mathlib.Core.Bool.{cond};
 ghost use Prim.Native.Nat.{_<_, _≤_, _^_};
 ghost use lib.ListN.{length};
-ghost use Rattle.refusal_text.specs.Sentences as Sentences;
 ghost use Rattle.text_writer.specs.Puts.{Puts};
-ghost use Rattle.text_writer.specs.Texts as Texts;
 ghost use Rattle.sample_text.specs.SampleLines as SampleLines;
-ghost use Rattle.sample_text.specs.SampleLines.{Prints, StepsAt};
+ghost use Rattle.sample_text.specs.SampleLines.{Refuses, StepsAt};
 use super::Course;
 use super::numbers_of;
 use super::sample_course;
@@ -85,7 +83,7 @@ pub fn tell_refused(
     out: &mut [u8],
     said: &mut [u8],
 ) -> Line
-    ensures { λ r. ⌜ Prints (Texts.refused number place runs) 100 (Sentences.explain number place runs sampled) false (now (out .entry)) (now (said .entry)) r (now (out .exit)) (now (said .exit)) ⌝ }
+    ensures { λ r. ⌜ Refuses sampled number place runs (now (out .entry)) (now (said .entry)) r (now (out .exit)) (now (said .exit)) ⌝ }
 {
     let bytes = write_refused(out, number, place, runs);
     let told = explain(number, place, runs, sampled, said);

@@ -36,14 +36,25 @@ puts-join {b} {b′} {b″} {t} {u} {at} {i} {j} p q =
 pub puts-most : {b b′ t : List ℕ} {at i m n : ℕ} → m ≤ n → Puts b at t m b′ i → Puts b at t n b′ i
 puts-most l p = record { is = p .is; ends = p .ends; short = omega arith }
 
--- one more of several texts
-pub puts-next : {b b′ b″ : List ℕ} {at i j m n : ℕ} (f : ℕ → List ℕ) (k : ℕ) → Puts b at (times f k) m b′ i → Puts b′ i (f k) n b″ j → Puts b at (times f (k + 1)) (m + n) b″ j
-unfolding times
-puts-next f k p q = rw (add-one k) (puts-join p q)
+-- ---- several texts, one after another
 
-pub puts-first : (b : List ℕ) (at : ℕ) (f : ℕ → List ℕ) → Puts b at (times f 0) 0 b at
-unfolding times
-puts-first b at f = puts-none b at 0
+-- What a loop that puts one text a turn keeps: the first k of n texts are put, each of at most `size` bytes, and the buffer is as long as it was.
+pub record PutsFirst (f : ℕ → List ℕ) (size n : ℕ) (b : List ℕ) (at k : ℕ) (b′ : List ℕ) (i : ℕ) : Type 0 where
+  pub within : k ≤ n
+  pub puts : Puts b at (times f k) (size * k) b′ i
+  pub same : length b′ ≡ length b
+
+module _ {f : ℕ → List ℕ} {size n : ℕ} {b : List ℕ} {at : ℕ} where
+  pub first-none : PutsFirst f size n b at 0 b at
+  unfolding times
+  first-none = record { within = omega arith; puts = puts-most (omega arith) (puts-none b at 0); same = refl }
+
+  pub first-next : {b′ b″ : List ℕ} {i j k : ℕ} → PutsFirst f size n b at k b′ i → k < n → Puts b′ i (f k) size b″ j → length b″ ≡ length b′ → PutsFirst f size n b at (k + 1) b″ j
+  unfolding times
+  first-next {k = k} h l p e = record { within = omega arith; puts = rw (add-one k) (puts-most (omega arith) (puts-join (h .puts) p)); same = e ∙ h .same }
+
+  pub first-all : {b′ : List ℕ} {i k : ℕ} → PutsFirst f size n b at k b′ i → n ≤ k → Puts b at (times f n) (size * n) b′ i
+  first-all {k = k} h l = let e : k ≡ n = omega arith in rw e at (h .puts)
 
 -- where the buffer has room, it begins with the text, and what stands after it is as it was
 pub puts-whole : {b b′ t : List ℕ} {i most : ℕ} → Puts b 0 t most b′ i → most ≤ length b → b′ ≡ t ++ drop i b

@@ -1,4 +1,4 @@
--- `arguments::next` meets its contract. Assumes nothing.
+-- `arguments::next` meets its contract: each way out is its definition's, by the tests that lead there. Assumes nothing.
 use Rattle.arguments.specs.Requests.{next}
 use borrow.Author.Needs.{needs}
 use Rattle.arguments.proofs.next.Statement.{statement}
@@ -13,4 +13,4 @@ unfolding next
 returns-2 c = rw (c .with-digit .ensures, c .before .before .r .given .1)
 
 pub next-spec : {M : Type 1} → statement M
-next-spec = tie.close (tie.spec (λ c. search needs) (λ c. search needs) (λ c κs. search needs) returns returns-2)
+next-spec = tie.close (tie.spec (search needs) (search needs) (search needs) returns returns-2)

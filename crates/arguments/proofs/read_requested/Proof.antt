@@ -1,4 +1,4 @@
--- `arguments::read_requested` meets its contract. Assumes nothing.
+-- `arguments::read_requested` meets its contract: the loop keeps the number of the digits read so far. Assumes nothing.
 use Prim.Native.Nat.{_-_, _≤_}
 use native.Mathlib.Omega.{arith}
 use mathlib.Core.Path.{_≡_}
@@ -37,4 +37,4 @@ returns-2 c =
     rw (ne-eqb _ _ (c .before .before .if1 .left), ← e) (l .inv .1)
 
 pub read-requested-spec : {M : Type 1} → statement M
-read-requested-spec = tie.close (tie.spec Inv-loop μ-loop returns loop-holds (λ c. omega arith) (λ c κs. search needs) (λ c. omega arith) (λ c. omega arith) loop-again returns-2)
+read-requested-spec = tie.close (tie.spec Inv-loop μ-loop returns loop-holds (search needs) (search needs) (search needs) (search needs) loop-again returns-2)

@@ -1,4 +1,4 @@
--- `arguments::with_digit` meets its contract. Assumes nothing.
+-- `arguments::with_digit` meets its contract: each way out is its definition's, by the tests that lead there. Assumes nothing.
 use borrow.Author.Tests.{lt-ltb, le-ltb}
 use Rattle.arguments.specs.Requests.{withDigit}
 use borrow.Author.Needs.{needs}
@@ -22,4 +22,4 @@ unfolding withDigit
 returns-4 c = rw (le-ltb _ _ (c .before .before .if1 .left), le-ltb _ _ (c .before .if2 .left), le-ltb _ _ (c .if3 .left))
 
 pub with-digit-spec : {M : Type 1} → statement M
-with-digit-spec = tie.close (tie.spec returns returns-2 returns-3 (λ c. search needs) (λ c. search needs) (λ c. search needs) returns-4)
+with-digit-spec = tie.close (tie.spec returns returns-2 returns-3 (search needs) (search needs) (search needs) returns-4)

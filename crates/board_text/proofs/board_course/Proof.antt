@@ -1,4 +1,4 @@
--- `board_text::board_course` meets its contract. Assumes nothing.
+-- `board_text::board_course` meets its contract: each step is its definition's. Assumes nothing.
 use Rattle.board_text.specs.BoardLines.{boardCourse}
 use borrow.Author.Needs.{needs}
 use Rattle.board_text.proofs.board_course.Statement.{statement}
@@ -9,4 +9,4 @@ unfolding boardCourse
 returns c = rw (c .drive .ensures, c .before .before .sample-course .ensures)
 
 pub board-course-spec : {M : Type 1} → statement M
-board-course-spec = tie.close (tie.spec (λ c κs. search needs) (λ c κs. search needs) returns)
+board-course-spec = tie.close (tie.spec (search needs) (search needs) returns)

@@ -1,4 +1,4 @@
--- `board_text::put_line` meets its contract. Assumes nothing.
+-- `board_text::put_line` meets its contract: the texts that the calls put stand one after another. Assumes nothing.
 use Rattle.text_writer.specs.PutLaws.{puts-join}
 use Rattle.sample_text.specs.SampleLines.{closing}
 use Rattle.board_text.specs.BoardLines.{opening, boardLine}
@@ -14,4 +14,6 @@ returns c =
     puts-join (puts-join (row .before .before .before .before .before .put-either .ensures) (row .put-row .ensures)) (last .put-either2 .ensures)
 
 pub put-line-spec : {M : Type 1} → statement M
-put-line-spec = tie.close (tie.spec (λ c. search needs) (λ c. search needs) (λ c κs. search needs) (λ c κs. search needs) (λ c. search needs) (λ c. search needs) (λ c κs. search needs) (λ c. search needs) returns)
+put-line-spec =
+    tie.close
+    (tie.spec (search needs) (search needs) (search needs) (search needs) (search needs) (search needs) (search needs) (search needs) returns)

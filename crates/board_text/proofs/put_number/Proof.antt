@@ -1,4 +1,4 @@
--- `board_text::put_number` meets its contract. Assumes nothing.
+-- `board_text::put_number` meets its contract: a number and 2 ^ 31 make one that is not negative, of which the same is taken away in the text. Assumes nothing.
 use native.Mathlib.Omega.{arith}
 use lib.IntN.{pos, _+ℤ_}
 use lib.Signed.{natAbs-le}
@@ -33,4 +33,4 @@ returns c =
     puts-join (less .before .before .before .before .put-byte .ensures) e
 
 pub put-number-spec : {M : Type 1} → statement M
-put-number-spec = tie.close (tie.spec (λ c κs. search needs) cast-put-less add-put-less cast-put-less-2 (λ c κs. search needs) (λ c. search needs) returns)
+put-number-spec = tie.close (tie.spec (search needs) cast-put-less add-put-less cast-put-less-2 (search needs) (search needs) returns)

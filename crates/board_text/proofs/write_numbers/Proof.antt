@@ -1,4 +1,4 @@
--- `board_text::write_numbers` meets its contract. Assumes nothing.
+-- `board_text::write_numbers` meets its contract: each way out is its definition's, by the tests that lead there. Assumes nothing.
 use Rattle.board_text.specs.BoardLineLaws.{steps-refused, steps-given}
 use borrow.Author.Needs.{needs}
 use Rattle.board_text.proofs.write_numbers.Statement.{statement}
@@ -17,4 +17,7 @@ returns-2 c =
     steps-given _ _ _ _ (fate .before .before .before .board-course .ensures) (fate .enum-told .given .1) (put .before .before .is-last .ensures) (put .put-line .ensures)
 
 pub write-numbers-spec : {M : Type 1} → statement M
-write-numbers-spec = tie.close (tie.spec (λ c κs. search needs) (λ c κs. search needs) (λ c. search needs) (λ c κs. search needs) (λ c. search needs) (λ c κs. search needs) (λ c κs. search needs) (λ c. search needs) (λ c. search needs) returns (λ c. search needs) returns-2)
+write-numbers-spec =
+    tie.close
+    (tie.spec (search needs) (search needs) (search needs) (search needs) (search needs) (search needs) (search needs) (search needs) (search needs)
+    returns (search needs) returns-2)

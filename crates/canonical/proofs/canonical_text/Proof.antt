@@ -1,4 +1,4 @@
--- `canonical::canonical_text` meets its contract. Assumes nothing.
+-- `canonical::canonical_text` meets its contract: each way out is its definition's, by the tests that lead there. Assumes nothing.
 use borrow.Author.Needs.{needs}
 use Rattle.canonical.specs.CanonicalLaws.{tells-short, tells}
 use Rattle.canonical.proofs.canonical_text.Statement.{statement}
@@ -14,4 +14,4 @@ returns-2 c =
     tells _ (read .read .ensures) (read .before .if1 .left) (written .rewrite .ensures)
 
 pub canonical-text-spec : {M : Type 1} → statement M
-canonical-text-spec = tie.close (tie.spec returns (λ c κs. search needs) (λ c κs. search needs) (λ c. search needs) returns-2)
+canonical-text-spec = tie.close (tie.spec returns (search needs) (search needs) (search needs) returns-2)

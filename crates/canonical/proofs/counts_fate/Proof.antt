@@ -1,4 +1,4 @@
--- `canonical::counts_fate` meets its contract. Assumes nothing.
+-- `canonical::counts_fate` meets its contract: each way out is its definition's, by the tests that lead there. Assumes nothing.
 use borrow.Author.Tests.{lt-ltb, le-ltb}
 use Rattle.canonical.specs.CanonicalTexts.{countsFate}
 use Rattle.canonical.proofs.counts_fate.Statement.{statement}

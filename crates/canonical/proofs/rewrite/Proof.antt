@@ -1,4 +1,4 @@
--- `canonical::rewrite` meets its contract. Assumes nothing.
+-- `canonical::rewrite` meets its contract: each way out is its definition's, by the tests that lead there. Assumes nothing.
 use borrow.Author.Needs.{needs}
 use Rattle.canonical.specs.CanonicalLaws.{refused-rewrites, going-rewrites}
 use Rattle.canonical.proofs.rewrite.Statement.{statement}
@@ -13,4 +13,4 @@ returns-2 c =
     going-rewrites _ _ _ _ _ _ (written .before .before .before .enum-told .given .1) (c .counts-fate .ensures) (written .before .write-problem .ensures)
 
 pub rewrite-spec : {M : Type 1} → statement M
-rewrite-spec = tie.close (tie.spec (λ c. search needs) (λ c. search needs) (λ c κs. search needs) (λ c κs. search needs) returns (λ c. search needs) returns-2)
+rewrite-spec = tie.close (tie.spec (search needs) (search needs) (search needs) (search needs) returns (search needs) returns-2)

@@ -1,4 +1,4 @@
--- `eigenaxis_samples::steeper` meets its contract. Assumes nothing.
+-- `eigenaxis_samples::steeper` meets its contract: each step is its definition's. Assumes nothing.
 use lib.Ieee as Ieee
 use Rattle.eigenaxis_samples.specs.Courses.{steeper}
 use borrow.Author.Needs.{needs}
@@ -10,4 +10,4 @@ unfolding steeper Ieee.ofBits
 returns c = rw (c .max .ensures, c .before .norm3 .ensures, c .before .before .scale3 .ensures, c .before .before .before .sub3 .ensures)
 
 pub steeper-spec : {M : Type 1} → statement M
-steeper-spec = tie.close (tie.spec (λ c κs. search needs) (λ c κs. search needs) (λ c κs. search needs) (λ c κs. search needs) returns)
+steeper-spec = tie.close (tie.spec (search needs) (search needs) (search needs) (search needs) returns)

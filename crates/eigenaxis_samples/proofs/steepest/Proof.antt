@@ -1,4 +1,4 @@
--- `eigenaxis_samples::steepest` meets its contract. Assumes nothing.
+-- `eigenaxis_samples::steepest` meets its contract: the loop keeps the largest of the steps so far, which is `iter` of the turn. Assumes nothing.
 use Prim.Native.Nat.{_≤_, _-_}
 use native.Mathlib.Omega.{arith}
 use mathlib.Core.Path.{_≡_}
@@ -28,17 +28,5 @@ returns c = let e : c .before .loop .k ≡ 16 = omega arith in rw e at (c .befor
 pub steepest-spec : {M : Type 1} → statement M
 steepest-spec =
     tie.close
-    (tie.spec
-    Inv-loop
-    μ-loop
-    loop-holds
-    (λ c. search needs)
-    (λ c. search needs)
-    (λ c. search needs)
-    (λ c. search needs)
-    (λ c. search needs)
-    (λ c κs. search needs)
-    (λ c. search needs)
-    (λ c. search needs)
-    loop-again
-    returns)
+    (tie.spec Inv-loop μ-loop loop-holds (search needs) (search needs) (search needs) (search needs) (search needs) (search needs) (search needs)
+    (search needs) loop-again returns)

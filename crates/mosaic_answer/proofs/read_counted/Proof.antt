@@ -1,5 +1,4 @@
--- `mosaic_answer::read_counted` meets its contract. Assumes nothing.
-use mathlib.Core.Path.{_∙_}
+-- `mosaic_answer::read_counted` meets its contract: each way out is its definition's, by the tests that lead there. Assumes nothing.
 use borrow.Author.Needs.{needs}
 use Rattle.mosaic_answer.specs.MosaicAnswers.{counted}
 use Rattle.mosaic_answer.proofs.read_counted.Statement.{statement}
@@ -16,13 +15,4 @@ returns-2 c =
     rw (← e .before .before .read-mosaic .ensures, e .enum-told2 .given .1) (rw (c .before .check-count .ensures) at (c .with-fate .ensures))
 
 pub read-counted-spec : {M : Type 1} → statement M
-read-counted-spec =
-    tie.close
-    (tie.spec
-    (λ c κs. search needs)
-    (λ c. search needs)
-    (λ c. search needs)
-    (λ c κs. search needs)
-    (λ c κs. search needs)
-    returns
-    returns-2)
+read-counted-spec = tie.close (tie.spec (search needs) (search needs) (search needs) (search needs) (search needs) returns returns-2)

@@ -1,4 +1,4 @@
--- `mosaic_answer::write_leg` meets its contract. Assumes nothing.
+-- `mosaic_answer::write_leg` meets its contract: the leg that was planned and its three texts are those of the law `leg-written`. Assumes nothing.
 use borrow.Author.Needs.{needs}
 use Rattle.mosaic_answer.specs.MosaicAnswerLaws.{leg-written}
 use Rattle.mosaic_answer.proofs.write_leg.Statement.{statement}
@@ -16,15 +16,5 @@ returns c =
 pub write-leg-spec : {M : Type 1} → statement M
 write-leg-spec =
     tie.close
-    (tie.spec
-    (λ c κs. search needs)
-    (λ c κs. search needs)
-    (λ c κs. search needs)
-    (λ c κs. search needs)
-    (λ c κs. search needs)
-    (λ c κs. search needs)
-    (λ c. search needs)
-    (λ c. search needs)
-    (λ c. search needs)
-    (λ c. search needs)
-    returns)
+    (tie.spec (search needs) (search needs) (search needs) (search needs) (search needs) (search needs) (search needs) (search needs) (search needs)
+    (search needs) returns)

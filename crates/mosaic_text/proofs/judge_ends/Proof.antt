@@ -1,5 +1,4 @@
--- `mosaic_text::judge_ends` meets its contract. Assumes nothing.
-use native.Mathlib.Omega.{arith}
+-- `mosaic_text::judge_ends` meets its contract: counts that are not judged, then the first tile and the last: each way out is its definition's. Assumes nothing.
 use borrow.Author.Needs.{needs}
 use borrow.Author.Tests.{lt-ltb, le-ltb}
 use Rattle.geom.specs.Tests.{met, unmet}
@@ -41,4 +40,7 @@ returns-5 c =
     simp (le-ltb _ _ (e .before .if1 .left), le-ltb _ _ (e .if2 .left), met (a .same-attitude .ensures) (m .if3 .left), met (b .same-attitude2 .ensures) (c .if4 .left))
 
 pub judge-ends-spec : {M : Type 1} → statement M
-judge-ends-spec = tie.close (tie.spec returns returns-2 (λ c. search needs) (λ c κs. search needs) returns-3 (λ c. omega arith) (λ c. omega arith) (λ c. omega arith) (λ c κs. search needs) returns-4 returns-5)
+judge-ends-spec =
+    tie.close
+    (tie.spec returns returns-2 (search needs) (search needs) returns-3 (search needs) (search needs) (search needs) (search needs) returns-4
+    returns-5)

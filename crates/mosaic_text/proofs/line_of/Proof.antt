@@ -6,6 +6,7 @@ use lib.ListN.{length, getD}
 use Rattle.common.specs.Iter.{iter, iter-none, iter-next}
 use Rattle.mosaic_text.specs.MosaicTexts.{lineTurn, lineOf}
 use Rattle.mosaic_text.specs.MosaicTextLaws.{line-low}
+use borrow.Author.Needs.{needs}
 use Rattle.mosaic_text.proofs.line_of.Statement.{statement}
 use Rattle.mosaic_text.proofs.line_of.Tie as tie
 
@@ -30,13 +31,5 @@ returns c =
 pub line-of-spec : {M : Type 1} → statement M
 line-of-spec =
     tie.close
-    (tie.spec
-    Inv-loop
-    μ-loop
-    (λ c. (omega arith, iter-none _ _, omega arith))
-    (λ c. omega arith)
-    (λ c κs. let l = c .before .before .loop in omega (arith, l .inv .2))
-    (λ c. omega arith)
-    (λ c. omega arith)
-    loop-again
-    returns)
+    (tie.spec Inv-loop μ-loop (λ c. (omega arith, iter-none _ _, omega arith)) (search needs)
+    (λ c κs. let l = c .before .before .loop in omega (arith, l .inv .2)) (search needs) (search needs) loop-again returns)

@@ -1,4 +1,4 @@
--- `mosaic_text::mosaic_of` meets its contract. Assumes nothing.
+-- `mosaic_text::mosaic_of` meets its contract: each way out is its definition's, by the tests that lead there. Assumes nothing.
 use borrow.Author.Needs.{needs}
 use Rattle.mosaic_text.specs.MosaicTexts.{mosaicOf}
 use Rattle.mosaic_text.proofs.mosaic_of.Statement.{statement}
@@ -13,13 +13,4 @@ unfolding mosaicOf
 returns-2 c = rw (c .before .before .enum-told .given .1) (c .with-tiles .ensures)
 
 pub mosaic-of-spec : {M : Type 1} → statement M
-mosaic-of-spec =
-    tie.close
-    (tie.spec
-    (λ c. search needs)
-    (λ c κs. search needs)
-    (λ c κs. search needs)
-    (λ c. search needs)
-    (λ c κs. search needs)
-    returns
-    returns-2)
+mosaic-of-spec = tie.close (tie.spec (search needs) (search needs) (search needs) (search needs) (search needs) returns returns-2)

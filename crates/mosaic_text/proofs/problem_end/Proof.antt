@@ -53,19 +53,5 @@ returns-3 c =
 pub problem-end-spec : {M : Type 1} → statement M
 problem-end-spec =
     tie.close
-    (tie.spec
-    Inv-loop
-    μ-loop
-    (λ c. (omega arith, refl, omega arith))
-    (λ c. search needs)
-    (λ c κs. search needs)
-    add-result
-    returns
-    (λ c. search needs)
-    (λ c κs. search needs)
-    add-result-2
-    returns-2
-    (λ c. omega arith)
-    (λ c. omega arith)
-    loop-again
-    returns-3)
+    (tie.spec Inv-loop μ-loop (λ c. (omega arith, refl, omega arith)) (search needs) (search needs) add-result returns (search needs) (search needs)
+    add-result-2 returns-2 (search needs) (search needs) loop-again returns-3)

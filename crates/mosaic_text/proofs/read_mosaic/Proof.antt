@@ -1,5 +1,4 @@
--- `mosaic_text::read_mosaic` meets its contract. Assumes nothing.
-use native.Mathlib.Omega.{arith}
+-- `mosaic_text::read_mosaic` meets its contract: each way out is its definition's, by the tests that lead there. Assumes nothing.
 use borrow.Author.Needs.{needs}
 use borrow.Author.Tests.{lt-ltb, le-ltb, not-false}
 use Rattle.geom.specs.Tests.{met, unmet}
@@ -29,14 +28,4 @@ returns-3 c =
     simp (le-ltb _ _ (i .before .before .if1 .left), met (i .is-at .ensures .is) (c .before .if2 .left)) (c .read-parts .ensures)
 
 pub read-mosaic-spec : {M : Type 1} → statement M
-read-mosaic-spec =
-    tie.close
-    (tie.spec
-    (λ c κs. search needs)
-    returns
-    (λ c. search needs)
-    (λ c κs. search needs)
-    (λ c κs. search needs)
-    returns-2
-    read-parts-requires
-    returns-3)
+read-mosaic-spec = tie.close (tie.spec (search needs) returns (search needs) (search needs) (search needs) returns-2 read-parts-requires returns-3)

@@ -1,4 +1,4 @@
--- `mosaic_text::read_parts` meets its contract. Assumes nothing.
+-- `mosaic_text::read_parts` meets its contract: each step is its definition's. Assumes nothing.
 use native.Mathlib.Omega.{arith}
 use borrow.Author.Needs.{needs}
 use Rattle.mosaic_text.specs.MosaicTexts.{readParts}
@@ -16,12 +16,5 @@ returns c =
 pub read-parts-spec : {M : Type 1} → statement M
 read-parts-spec =
     tie.close
-    (tie.spec
-    (λ c κs. search needs)
-    (λ c. omega (arith, c .problem-end .ensures .after))
-    (λ c. omega (arith, c .problem-end .ensures .after))
-    (λ c. omega (arith, c .problem-end .ensures .within))
-    (λ c κs. search needs)
-    (λ c κs. search needs)
-    (λ c κs. search needs)
-    returns)
+    (tie.spec (search needs) (λ c. omega (arith, c .problem-end .ensures .after)) (λ c. omega (arith, c .problem-end .ensures .after))
+    (λ c. omega (arith, c .problem-end .ensures .within)) (search needs) (search needs) (search needs) returns)

@@ -1,4 +1,4 @@
--- `mosaic_text::same_attitude` meets its contract. Assumes nothing.
+-- `mosaic_text::same_attitude` meets its contract: the parts are compared one by one, and the first that differs decides. Assumes nothing.
 use Rattle.mosaic_text.specs.MosaicTexts.{sameAttitude}
 use Rattle.mosaic_text.specs.MosaicTextLaws.{unequal, not-unequal, last-decides}
 use Rattle.mosaic_text.proofs.same_attitude.Statement.{statement}

@@ -1,4 +1,4 @@
--- `mosaic_text::with_tiles` meets its contract. Assumes nothing.
+-- `mosaic_text::with_tiles` meets its contract: each way out is its definition's, by the tests that lead there. Assumes nothing.
 use borrow.Author.Needs.{needs}
 use borrow.Author.Tests.{not-true, not-false}
 use Rattle.mosaic_text.specs.MosaicTexts.{withTiles}
@@ -30,15 +30,4 @@ returns-3 c =
     simp (not-false (start .t .right) (e .if1 .left)) (rw (← j .judge-ends .ensures, c .enum-told .given .1))
 
 pub with-tiles-spec : {M : Type 1} → statement M
-with-tiles-spec =
-    tie.close
-    (tie.spec
-    (λ c κs. search needs)
-    (λ c κs. search needs)
-    returns
-    (λ c κs. search needs)
-    (λ c. search needs)
-    (λ c κs. search needs)
-    (λ c. search needs)
-    returns-2
-    returns-3)
+with-tiles-spec = tie.close (tie.spec (search needs) (search needs) returns (search needs) (search needs) (search needs) (search needs) returns-2 returns-3)

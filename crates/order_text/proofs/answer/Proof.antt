@@ -1,4 +1,4 @@
--- `order_text::answer` meets its contract. Assumes nothing.
+-- `order_text::answer` meets its contract: each way out is its definition's, by the tests that lead there. Assumes nothing.
 use borrow.Author.Needs.{needs}
 use Rattle.order_text.specs.OrderTexts.{answer}
 use Rattle.order_text.proofs.answer.Statement.{statement}
@@ -13,4 +13,4 @@ unfolding answer
 returns-2 c = rw (c .before .enum-told .given .1) (c .order-read .ensures)
 
 pub answer-spec : {M : Type 1} → statement M
-answer-spec = tie.close (tie.spec (λ c. search needs) (λ c κs. search needs) (λ c. search needs) (λ c κs. search needs) returns returns-2)
+answer-spec = tie.close (tie.spec (search needs) (search needs) (search needs) (search needs) returns returns-2)

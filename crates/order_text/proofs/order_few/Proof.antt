@@ -1,4 +1,4 @@
--- `order_text::order_few` meets its contract. Assumes nothing.
+-- `order_text::order_few` meets its contract: each step is its definition's. Assumes nothing.
 use Prim.Native.Nat.{ℕ, _*_, _≤_}
 use native.Mathlib.Omega.{arith}
 use native.Mathlib.Nat.{mul-le-mul}
@@ -17,9 +17,5 @@ array-share-prefix-times c = omega (arith, few (c .args .n) (c .pre))
 pub order-few-spec : {M : Type 1} → statement M
 order-few-spec =
     tie.close
-    (tie.spec
-    (λ c. omega (arith, few (c .args .n) (c .pre)))
-    array-share-prefix-times
-    (λ c. let within = array-share-prefix-times (c .before) in search (needs, within, length-take-le))
-    (λ c κs. search needs)
-    (λ c. c .order .ensures))
+    (tie.spec (λ c. omega (arith, few (c .args .n) (c .pre))) array-share-prefix-times
+    (λ c. let within = array-share-prefix-times (c .before) in search (needs, within, length-take-le)) (search needs) (λ c. c .order .ensures))

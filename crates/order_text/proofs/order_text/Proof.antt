@@ -1,4 +1,4 @@
--- `order_text::order_text` meets its contract. Assumes nothing.
+-- `order_text::order_text` meets its contract: each way out is its definition's, by the tests that lead there. Assumes nothing.
 use borrow.Author.Needs.{needs}
 use Rattle.order_text.specs.OrderTextLaws.{tells-short, tells}
 use Rattle.order_text.proofs.order_text.Statement.{statement}
@@ -15,4 +15,4 @@ returns-2 c =
     tells _ (r .read-tiles .ensures) (a .answer .ensures) (r .before .if1 .left) (t .tell .ensures)
 
 pub order-text-spec : {M : Type 1} → statement M
-order-text-spec = tie.close (tie.spec returns (λ c κs. search needs) (λ c κs. search needs) (λ c κs. search needs) (λ c. search needs) returns-2)
+order-text-spec = tie.close (tie.spec returns (search needs) (search needs) (search needs) (search needs) returns-2)

@@ -1,6 +1,5 @@
--- `plan_text::no_room` meets its contract. Assumes nothing.
+-- `plan_text::no_room` meets its contract: each step is its definition's. Assumes nothing.
 use mathlib.Core.Path.{refl}
-use borrow.Author.Needs.{needs}
 use Rattle.plan_text.proofs.no_room.Statement.{statement}
 use Rattle.plan_text.proofs.no_room.Tie as tie
 

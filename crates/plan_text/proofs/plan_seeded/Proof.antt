@@ -1,4 +1,4 @@
--- `plan_text::plan_seeded` meets its contract. Assumes nothing.
+-- `plan_text::plan_seeded` meets its contract: a seed of 103 numbers is cut where the definition cuts it; another is handed on as one of no nodes. Assumes nothing.
 use native.Mathlib.Omega.{arith}
 use mathlib.Core.Path.{_∙_}
 use lib.ListN.{length}
@@ -11,9 +11,12 @@ use Rattle.plan_text.proofs.plan_seeded.Tie as tie
 returns : tie.Need-returns
 unfolding Ieee.ofBits
 returns c =
-    let start = c .before .before .before .before .before .before .before .before .before .args in
-    let made = c .before .before .plan-from .ensures in
-    (made .0 ∙ seed-miscounted (start .p) (start .seed .now) (length (start .ws .now)) (c .before .before .before .before .before .before .if1 .taken), made .1 .0)
+    let at-plan-from = c .before .before in
+    let at-if1 = at-plan-from .before .before .before .before in
+    let entry = at-if1 .before .before .before in
+    let start = entry .args in
+    let made = at-plan-from .plan-from .ensures in
+    (made .0 ∙ seed-miscounted (start .p) (start .seed .now) (length (start .ws .now)) (at-if1 .if1 .taken), made .1 .0)
 
 shared-slice-read-plan-from : tie.Need-shared-slice-read-plan-from
 shared-slice-read-plan-from c = omega (arith, c .before .if1 .left)
@@ -26,9 +29,15 @@ part-plan-from-end-2 c = omega (arith, c .before .before .if1 .left)
 
 returns-2 : tie.Need-returns-2
 returns-2 c =
-    let start = c .before .before .before .before .before .before .before .before .before .before .args in
-    let made = c .before .before .plan-from2 .ensures in
-    (made .0 ∙ seed-counted (start .p) (start .seed .now) (length (start .ws .now)) (c .before .before .before .before .before .before .before .if1 .left), made .1 .0)
+    let at-plan-from2 = c .before .before in
+    let at-if1 = at-plan-from2 .before .before .before .before .before in
+    let entry = at-if1 .before .before .before in
+    let start = entry .args in
+    let made = at-plan-from2 .plan-from2 .ensures in
+    (made .0 ∙ seed-counted (start .p) (start .seed .now) (length (start .ws .now)) (at-if1 .if1 .left), made .1 .0)
 
 pub plan-seeded-spec : {M : Type 1} → statement M
-plan-seeded-spec = tie.close (tie.spec (λ c. search needs) (λ c. search needs) (λ c κs. search needs) (λ c. search needs) returns shared-slice-read-plan-from (λ c. search needs) (λ c. search needs) part-plan-from-end (λ c. search needs) (λ c. search needs) part-plan-from-end-2 (λ c κs. search needs) (λ c. search needs) returns-2)
+plan-seeded-spec =
+    tie.close
+    (tie.spec (search needs) (search needs) (search needs) (search needs) returns shared-slice-read-plan-from (search needs) (search needs)
+    part-plan-from-end (search needs) (search needs) part-plan-from-end-2 (search needs) (search needs) returns-2)

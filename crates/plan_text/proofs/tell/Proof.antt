@@ -1,4 +1,4 @@
--- `plan_text::tell` meets its contract. Assumes nothing.
+-- `plan_text::tell` meets its contract: each way out is its definition's, by the tests that lead there. Assumes nothing.
 use mathlib.Core.Path.{refl}
 use Rattle.plan_text.specs.PlanTextLaws.{prints-path, prints-refusal}
 use borrow.Author.Needs.{needs}
@@ -12,4 +12,4 @@ returns-2 : tie.Need-returns-2
 returns-2 c = prints-path (c .before .before .before .before .before .enum-told .given .1) refl (c .before .before .print-path .ensures)
 
 pub tell-spec : {M : Type 1} → statement M
-tell-spec = tie.close (tie.spec (λ c. search needs) (λ c κs. search needs) (λ c. search needs) (λ c κs. search needs) (λ c. search needs) returns (λ c. search needs) returns-2)
+tell-spec = tie.close (tie.spec (search needs) (search needs) (search needs) (search needs) (search needs) returns (search needs) returns-2)

@@ -1,4 +1,4 @@
--- `problem_text::head_at` meets its contract. Assumes nothing.
+-- `problem_text::head_at` meets its contract: each way out is its definition's, by the tests that lead there. Assumes nothing.
 use borrow.Author.Tests.{lt-ltb, le-ltb}
 use Rattle.problem_text.specs.Reader.{headAt}
 use borrow.Author.Needs.{needs}
@@ -14,4 +14,4 @@ unfolding headAt
 returns-2 c = simp (le-ltb _ _ (c .before .if1 .left)) (c .lines-at .ensures)
 
 pub head-at-spec : {M : Type 1} → statement M
-head-at-spec = tie.close (tie.spec (λ c κs. search needs) returns (λ c κs. search needs) returns-2)
+head-at-spec = tie.close (tie.spec (search needs) returns (search needs) returns-2)

@@ -1,4 +1,4 @@
--- `problem_text::judge_count` meets its contract. Assumes nothing.
+-- `problem_text::judge_count` meets its contract: each way out is its definition's, by the tests that lead there. Assumes nothing.
 use borrow.Author.Tests.{eq-eqb, ne-eqb}
 use Rattle.problem_text.specs.Reader.{judgeCount}
 use borrow.Author.Needs.{needs}
@@ -18,4 +18,4 @@ unfolding judgeCount
 returns-3 c = simp (c .before .before .before .before .before .before .before .enum-told2 .given .1, ne-eqb _ _ (c .before .if1 .left)) (c .nothing .ensures)
 
 pub judge-count-spec : {M : Type 1} → statement M
-judge-count-spec = tie.close (tie.spec (λ c. search needs) (λ c. search needs) (λ c. search needs) (λ c κs. search needs) returns returns-2 returns-3)
+judge-count-spec = tie.close (tie.spec (search needs) (search needs) (search needs) (search needs) returns returns-2 returns-3)

@@ -1,4 +1,4 @@
--- `problem_text::lines_at` meets its contract. Assumes nothing.
+-- `problem_text::lines_at` meets its contract: each line's form is the next of the list, which the law `lines-more` takes one by one. Assumes nothing.
 use Rattle.problem_text.proofs.Lists.{lines-begin, lines-more, lines-end}
 use borrow.Author.Needs.{needs}
 use Rattle.problem_text.proofs.lines_at.Statement.{statement}
@@ -27,4 +27,9 @@ returns l9 =
     (lines-end _ _ _))))))))))
 
 pub lines-at-spec : {M : Type 1} → statement M
-lines-at-spec = tie.close (tie.spec (λ c κs. search needs) (λ c. search needs) (λ c. search needs) (λ c κs. search needs) (λ c. search needs) (λ c. search needs) (λ c κs. search needs) (λ c. search needs) (λ c. search needs) (λ c κs. search needs) (λ c. search needs) (λ c. search needs) (λ c κs. search needs) (λ c. search needs) (λ c. search needs) (λ c κs. search needs) (λ c. search needs) (λ c. search needs) (λ c κs. search needs) (λ c. search needs) (λ c. search needs) (λ c κs. search needs) (λ c. search needs) (λ c. search needs) (λ c κs. search needs) (λ c. search needs) (λ c. search needs) (λ c κs. search needs) returns)
+lines-at-spec =
+    tie.close
+    (tie.spec (search needs) (search needs) (search needs) (search needs) (search needs) (search needs) (search needs) (search needs) (search needs)
+    (search needs) (search needs) (search needs) (search needs) (search needs) (search needs) (search needs) (search needs) (search needs)
+    (search needs) (search needs) (search needs) (search needs) (search needs) (search needs) (search needs) (search needs) (search needs)
+    (search needs) returns)

@@ -1,4 +1,4 @@
--- `problem_text::next_line` meets its contract. Assumes nothing.
+-- `problem_text::next_line` meets its contract: each way out is its definition's, by the tests that lead there. Assumes nothing.
 use Rattle.problem_text.specs.Reader.{nextLine}
 use borrow.Author.Needs.{needs}
 use Rattle.problem_text.proofs.next_line.Statement.{statement}
@@ -13,4 +13,4 @@ unfolding nextLine
 returns-2 c = simp (c .before .before .enum-told2 .given .1) (rw (c .before .line-at .ensures) at (c .with-row .ensures))
 
 pub next-line-spec : {M : Type 1} → statement M
-next-line-spec = tie.close (tie.spec (λ c. search needs) (λ c. search needs) (λ c κs. search needs) (λ c κs. search needs) returns returns-2)
+next-line-spec = tie.close (tie.spec (search needs) (search needs) (search needs) (search needs) returns returns-2)

@@ -1,4 +1,4 @@
--- `problem_text::nothing` meets its contract. Assumes nothing.
+-- `problem_text::nothing` meets its contract: each step is its definition's. Assumes nothing.
 use borrow.Author.Needs.{needs}
 use Rattle.problem_text.proofs.nothing.Statement.{statement}
 use Rattle.problem_text.proofs.nothing.Tie as tie
@@ -7,4 +7,4 @@ returns : tie.Need-returns
 returns c = rw (c .no-actuators .ensures, c .before .wrong-row .ensures)
 
 pub nothing-spec : {M : Type 1} → statement M
-nothing-spec = tie.close (tie.spec (λ c κs. search needs) (λ c κs. search needs) returns)
+nothing-spec = tie.close (tie.spec (search needs) (search needs) returns)

@@ -1,4 +1,4 @@
--- `problem_text::problem_of` meets its contract. Assumes nothing.
+-- `problem_text::problem_of` meets its contract: each step is its definition's. Assumes nothing.
 use Rattle.problem_text.specs.Reader.{problemOf}
 use borrow.Author.Needs.{needs}
 use Rattle.problem_text.proofs.problem_of.Statement.{statement}
@@ -11,7 +11,5 @@ returns c = rw (c .momenta-of .ensures, c .before .weights-of .ensures, c .befor
 pub problem-of-spec : {M : Type 1} → statement M
 problem-of-spec =
     tie.close
-    (tie.spec
-    (λ c. search needs) (λ c. search needs) (λ c. search needs) (λ c. search needs) (λ c. search needs) (λ c. search needs) (λ c. search needs) (λ c. search needs)
-    (λ c κs. search needs) (λ c κs. search needs) (λ c. search needs) (λ c. search needs) (λ c. search needs) (λ c κs. search needs) (λ c. search needs) (λ c. search needs)
-    (λ c κs. search needs) returns)
+    (tie.spec (search needs) (search needs) (search needs) (search needs) (search needs) (search needs) (search needs) (search needs) (search needs)
+    (search needs) (search needs) (search needs) (search needs) (search needs) (search needs) (search needs) (search needs) returns)

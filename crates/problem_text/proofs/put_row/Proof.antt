@@ -1,4 +1,4 @@
--- `problem_text::put_row` meets its contract. Assumes nothing.
+-- `problem_text::put_row` meets its contract: each step is its definition's. Assumes nothing.
 use native.Mathlib.Omega.{arith}
 use mathlib.Core.Path.{sym}
 use lib.Seq.{set-out}
@@ -10,4 +10,4 @@ returns : tie.Need-returns
 returns c = sym (set-out _ _ _ (omega arith))
 
 pub put-row-spec : {M : Type 1} → statement M
-put-row-spec = tie.close (tie.spec returns (λ c. search needs) (λ c. search needs) (λ c. search needs))
+put-row-spec = tie.close (tie.spec returns (search needs) (search needs) (search needs))

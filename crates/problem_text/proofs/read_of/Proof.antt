@@ -1,4 +1,4 @@
--- `problem_text::read_of` meets its contract. Assumes nothing.
+-- `problem_text::read_of` meets its contract: each step is its definition's. Assumes nothing.
 use Rattle.problem_text.specs.Reader.{readOf}
 use borrow.Author.Needs.{needs}
 use Rattle.problem_text.proofs.read_of.Statement.{statement}
@@ -9,4 +9,4 @@ unfolding readOf
 returns c = rw (c .problem-of .ensures, ← c .before .before .before .before .next-list .ensures, ← c .before .before .before .judge-count .ensures)
 
 pub read-of-spec : {M : Type 1} → statement M
-read-of-spec = tie.close (tie.spec (λ c κs. search needs) (λ c κs. search needs) (λ c κs. search needs) returns)
+read-of-spec = tie.close (tie.spec (search needs) (search needs) (search needs) returns)

@@ -1,4 +1,4 @@
--- `problem_text::with_list` meets its contract. Assumes nothing.
+-- `problem_text::with_list` meets its contract: each way out is its definition's, by the tests that lead there. Assumes nothing.
 use Rattle.problem_text.specs.Reader.{withList}
 use borrow.Author.Needs.{needs}
 use Rattle.problem_text.proofs.with_list.Statement.{statement}
@@ -17,4 +17,4 @@ unfolding withList
 returns-3 c = simp (c .before .before .before .before .if1 .left, c .before .before .enum-told .given .1)
 
 pub with-list-spec : {M : Type 1} → statement M
-with-list-spec = tie.close (tie.spec (λ c κs. search needs) returns (λ c. search needs) (λ c κs. search needs) (λ c. search needs) returns-2 returns-3)
+with-list-spec = tie.close (tie.spec (search needs) returns (search needs) (search needs) (search needs) returns-2 returns-3)

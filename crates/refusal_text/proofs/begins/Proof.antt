@@ -1,4 +1,4 @@
--- `refusal_text::begins` meets its contract. Assumes nothing.
+-- `refusal_text::begins` meets its contract: each step is its definition's. Assumes nothing.
 use borrow.Author.Tests.{eq-eqb, ne-eqb}
 use borrow.Author.Needs.{needs}
 use Rattle.refusal_text.specs.Sentences.{begins}
@@ -14,4 +14,4 @@ unfolding begins
 inner c = rw (ne-eqb _ _ (c .before .if1 .left), c .byte .ensures)
 
 pub begins-spec : {M : Type 1} → statement M
-begins-spec = tie.close (tie.spec first (λ c. search needs) (λ c κs. search needs) inner)
+begins-spec = tie.close (tie.spec first (search needs) (search needs) inner)

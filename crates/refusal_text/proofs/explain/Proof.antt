@@ -1,6 +1,5 @@
 -- `refusal_text::explain` meets its contract: the code's table is the definition's. Assumes nothing.
 use borrow.Author.Needs.{needs}
-use native.Mathlib.Omega.{arith}
 use Rattle.refusal_text.specs.Sentences.{table, explain}
 use Rattle.refusal_text.specs.TableLaws.{explain-short, puts-short}
 use Rattle.refusal_text.proofs.explain.Statement.{statement}
@@ -13,4 +12,4 @@ returns c =
     puts-short (explain-short _ _ _ _) (rw (p .before .met .ensures) at (p .put-sentence .ensures))
 
 pub explain-spec : {M : Type 1} → statement M
-explain-spec = tie.close (tie.spec (λ c. search needs) (λ c κs. search needs) (λ c κs. search needs) (λ c. search needs) returns)
+explain-spec = tie.close (tie.spec (search needs) (search needs) (search needs) (search needs) returns)

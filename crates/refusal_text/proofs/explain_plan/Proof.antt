@@ -1,4 +1,4 @@
--- `refusal_text::explain_plan` meets its contract. Assumes nothing.
+-- `refusal_text::explain_plan` meets its contract: each step is its definition's. Assumes nothing.
 use Rattle.text_writer.specs.PutLaws.{puts-none}
 use borrow.Author.Needs.{needs}
 use Rattle.refusal_text.proofs.explain_plan.Statement.{statement}
@@ -11,4 +11,4 @@ answered : tie.Need-returns-2
 answered c = rw (c .enum-told .given .1) (puts-none _ 0 212)
 
 pub explain-plan-spec : {M : Type 1} → statement M
-explain-plan-spec = tie.close (tie.spec (λ c. search needs) (λ c κs. search needs) (λ c. search needs) (λ c. search needs) refused answered)
+explain-plan-spec = tie.close (tie.spec (search needs) (search needs) (search needs) (search needs) refused answered)

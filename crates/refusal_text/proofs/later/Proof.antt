@@ -1,4 +1,4 @@
--- `refusal_text::later` meets its contract. Assumes nothing.
+-- `refusal_text::later` meets its contract: each step is its definition's. Assumes nothing.
 use borrow.Author.Tests.{not-true, not-false}
 use borrow.Author.Needs.{needs}
 use Rattle.refusal_text.specs.Sentences.{later}
@@ -11,11 +11,17 @@ inside c = rw (← c .before .begins .ensures, not-true (c .before .begins .resu
 
 this : tie.Need-returns-2
 unfolding later
-this c = rw (← c .before .before .before .begins .ensures, not-false (c .before .before .before .begins .result) (c .before .before .if1 .left), ← c .before .serves .ensures, c .if2 .taken)
+this c =
+    let at-if1 = c .before .before in
+    let at-begins = at-if1 .before in
+    rw (← at-begins .begins .ensures, not-false (at-begins .begins .result) (at-if1 .if1 .left), ← c .before .serves .ensures, c .if2 .taken)
 
 another : tie.Need-returns-3
 unfolding later
-another c = rw (← c .before .before .before .begins .ensures, not-false (c .before .before .before .begins .result) (c .before .before .if1 .left), ← c .before .serves .ensures, c .if2 .left)
+another c =
+    let at-if1 = c .before .before in
+    let at-begins = at-if1 .before in
+    rw (← at-begins .begins .ensures, not-false (at-begins .begins .result) (at-if1 .if1 .left), ← c .before .serves .ensures, c .if2 .left)
 
 pub later-spec : {M : Type 1} → statement M
-later-spec = tie.close (tie.spec (λ c κs. search needs) inside (λ c κs. search needs) this another)
+later-spec = tie.close (tie.spec (search needs) inside (search needs) this another)

@@ -1,6 +1,6 @@
--- `refusal_text::line_for` meets its contract. Assumes nothing.
+-- `refusal_text::line_for` meets its contract: the loop keeps the last line for the refusal up to here, which is `iter` of the definition's turn. Assumes nothing.
 use Prim.Native.Nat.{_-_, _≤_}
-use mathlib.Core.Path.{_≡_, ap}
+use mathlib.Core.Path.{_≡_}
 use native.Mathlib.Omega.{arith}
 use lib.ListN.{length}
 use Rattle.common.specs.Iter.{iter, iter-none, iter-next}
@@ -32,4 +32,4 @@ returns c =
     (rw e at (l .inv .2), omega arith)
 
 pub line-for-spec : {M : Type 1} → statement M
-line-for-spec = tie.close (tie.spec Inv-loop μ-loop loop-holds (λ c κs. search needs) (λ c. search needs) (λ c. omega arith) loop-again returns)
+line-for-spec = tie.close (tie.spec Inv-loop μ-loop loop-holds (search needs) (search needs) (search needs) loop-again returns)

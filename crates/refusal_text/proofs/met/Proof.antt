@@ -1,4 +1,4 @@
--- `refusal_text::met` meets its contract. Assumes nothing.
+-- `refusal_text::met` meets its contract: each step is its definition's. Assumes nothing.
 use borrow.Author.Tests.{eq-eqb, ne-eqb}
 use borrow.Author.Needs.{needs}
 use Rattle.refusal_text.specs.Sentences.{met}

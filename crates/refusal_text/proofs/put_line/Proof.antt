@@ -47,6 +47,5 @@ text-end c = let l = c .before .loop in ends-text _ _ (l .k) (l .inv .2) (omega 
 pub put-line-spec : {M : Type 1} → statement M
 put-line-spec =
     tie.close
-    (tie.spec
-    Inv-loop μ-loop loop-holds (λ c. search needs) (λ c κs. omega arith) same-length line-feed (λ c κs. omega arith) (λ c. omega arith) (λ c. omega arith) loop-again
+    (tie.spec Inv-loop μ-loop loop-holds (search needs) (search needs) same-length line-feed (search needs) (search needs) (search needs) loop-again
     same-length-2 text-end)

@@ -1,4 +1,4 @@
--- `refusal_text::put_marked` meets its contract. Assumes nothing.
+-- `refusal_text::put_marked` meets its contract: each step is its definition's. Assumes nothing.
 use native.Mathlib.Omega.{arith}
 use borrow.Author.Tests.{eq-eqb, ne-eqb}
 use Rattle.text_writer.specs.PutLaws.{puts-most}
@@ -13,4 +13,4 @@ byte : tie.Need-returns-2
 byte c = let p = c .before .before in rw (ne-eqb _ _ (p .before .before .if1 .left)) (puts-most (omega arith) (p .put-byte .ensures))
 
 pub put-marked-spec : {M : Type 1} → statement M
-put-marked-spec = tie.close (tie.spec (λ c κs. search needs) (λ c. search needs) count (λ c κs. search needs) (λ c. search needs) byte)
+put-marked-spec = tie.close (tie.spec (search needs) (search needs) count (search needs) (search needs) byte)

@@ -1,6 +1,5 @@
--- `refusal_text::put_sentence` meets its contract. Assumes nothing.
+-- `refusal_text::put_sentence` meets its contract: each step is its definition's. Assumes nothing.
 use borrow.Author.Needs.{needs}
-use native.Mathlib.Omega.{arith}
 use Rattle.refusal_text.specs.Sentences.{sentence}
 use Rattle.refusal_text.proofs.put_sentence.Statement.{statement}
 use Rattle.refusal_text.proofs.put_sentence.Tie as tie
@@ -13,7 +12,4 @@ returns c =
     rw (← k .before .line-for .ensures .0) (rw (p .before .above .ensures, k .number-at .ensures) at (p .put-line .ensures))
 
 pub put-sentence-spec : {M : Type 1} → statement M
-put-sentence-spec =
-    tie.close
-    (tie.spec
-    (λ c κs. search needs) (λ c. omega arith) (λ c κs. omega arith) (λ c. omega arith) (λ c κs. search needs) (λ c κs. search needs) (λ c. search needs) returns)
+put-sentence-spec = tie.close (tie.spec (search needs) (search needs) (search needs) (search needs) (search needs) (search needs) (search needs) returns)

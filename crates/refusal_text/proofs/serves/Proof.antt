@@ -1,4 +1,4 @@
--- `refusal_text::serves` meets its contract. Assumes nothing.
+-- `refusal_text::serves` meets its contract: each step is its definition's. Assumes nothing.
 use borrow.Author.Tests.{eq-eqb, ne-eqb, le-leb, lt-leb}
 use borrow.Author.Needs.{needs}
 use Rattle.refusal_text.specs.Sentences.{serves}
@@ -30,9 +30,4 @@ then c =
     rw (← n .before .number-at .ensures, eq-eqb _ _ (n .if1 .left), ← p .before .number-at2 .ensures, le-leb _ _ (p .if2 .left), ← c .before .number-at3 .ensures, ne-eqb _ _ (c .if3 .left))
 
 pub serves-spec : {M : Type 1} → statement M
-serves-spec =
-    tie.close
-    (tie.spec
-    (λ c κs. search needs) another-number
-    (λ c. search needs) (λ c κs. search needs) before-place
-    (λ c. search needs) (λ c κs. search needs) whenever then)
+serves-spec = tie.close (tie.spec (search needs) another-number (search needs) (search needs) before-place (search needs) (search needs) whenever then)

@@ -1,4 +1,4 @@
--- `refusal_text::write_table` meets its contract. Assumes nothing.
+-- `refusal_text::write_table` meets its contract: each step is its definition's. Assumes nothing.
 use native.Mathlib.Omega.{arith}
 use Rattle.text_writer.specs.PutLaws.{puts-most}
 use borrow.Author.Needs.{needs}
@@ -11,4 +11,4 @@ unfolding table
 returns c = puts-most (omega arith) (c .before .before .put-all .ensures)
 
 pub write-table-spec : {M : Type 1} → statement M
-write-table-spec = tie.close (tie.spec (λ c. search needs) (λ c κs. search needs) (λ c. search needs) returns)
+write-table-spec = tie.close (tie.spec (search needs) (search needs) (search needs) returns)

@@ -1,4 +1,4 @@
--- `region_text::put_angle` meets its contract. Assumes nothing.
+-- `region_text::put_angle` meets its contract: the texts that the calls put stand one after another. Assumes nothing.
 use native.Mathlib.Omega.{arith}
 use Rattle.text_writer.specs.PutLaws.{puts-join, puts-most}
 use Rattle.region_text.specs.RegionTexts.{angleLine}
@@ -16,4 +16,4 @@ returns c =
     puts-most (omega arith) (puts-join (puts-join (puts-join (first .put-all .ensures) (less .put-less .ensures)) (rates .put-rates .ensures)) (last .put-all2 .ensures))
 
 pub put-angle-spec : {M : Type 1} → statement M
-put-angle-spec = tie.close (tie.spec (λ c. search needs) (λ c κs. search needs) (λ c κs. search needs) (λ c κs. search needs) (λ c. search needs) (λ c κs. search needs) (λ c. search needs) returns)
+put-angle-spec = tie.close (tie.spec (search needs) (search needs) (search needs) (search needs) (search needs) (search needs) (search needs) returns)

@@ -1,4 +1,4 @@
--- `region_text::put_choice` meets its contract. Assumes nothing.
+-- `region_text::put_choice` meets its contract: a choice and 2 make a number that is not negative, of which 2 is taken away in the text. Assumes nothing.
 use native.Mathlib.Omega.{arith}
 use lib.IntN.{pos, _+ℤ_}
 use lib.Signed.{natAbs-le}
@@ -26,4 +26,4 @@ returns c =
     rw (choice-less (s .args .u) (s .pre .1)) (rw (toZ-ofZ (s .fits .u), toZ-ofZ (p .0)) at (less .put-less .ensures))
 
 pub put-choice-spec : {M : Type 1} → statement M
-put-choice-spec = tie.close (tie.spec add-put-less cast-put-less (λ c κs. search needs) (λ c. search needs) returns)
+put-choice-spec = tie.close (tie.spec add-put-less cast-put-less (search needs) (search needs) returns)

@@ -1,4 +1,4 @@
--- `region_text::put_forced` meets its contract. Assumes nothing.
+-- `region_text::put_forced` meets its contract: the texts that the calls put stand one after another. Assumes nothing.
 use native.Mathlib.Omega.{arith}
 use mir.Facts.{toZ-ofZ}
 use Rattle.text_writer.specs.PutLaws.{puts-join, puts-most}
@@ -21,4 +21,6 @@ returns c =
     puts-most (omega arith) (puts-join (puts-join (puts-join (first .put-counted .ensures) (middle .put-all .ensures)) (rw (toZ-ofZ (s .fits .u)) at (choice .put-choice .ensures))) (last .put-all2 .ensures))
 
 pub put-forced-spec : {M : Type 1} → statement M
-put-forced-spec = tie.close (tie.spec (λ c. search needs) (λ c κs. search needs) (λ c. search needs) (λ c κs. search needs) put-choice-requires (λ c. search needs) (λ c κs. search needs) (λ c. search needs) returns)
+put-forced-spec =
+    tie.close
+    (tie.spec (search needs) (search needs) (search needs) (search needs) put-choice-requires (search needs) (search needs) (search needs) returns)

@@ -1,37 +1,29 @@
--- `region_text::put_rates` meets its contract. Assumes nothing.
-use Prim.Native.Nat.{_-_, _*_, _≤_}
-use mathlib.Core.Path.{_≡_, refl, _∙_}
-use lib.ListN.{length}
+-- `region_text::put_rates` meets its contract: the loop keeps `PutsFirst`, that the first texts are put, which the call carries on by one. Assumes nothing.
+use Prim.Native.Nat.{_-_}
 use native.Mathlib.Omega.{arith}
-use Rattle.text_writer.specs.Puts.{Puts}
-use Rattle.text_writer.specs.PutLaws.{puts-first, puts-next, puts-most}
-use Rattle.text_writer.specs.Texts.{times}
+use Rattle.text_writer.specs.PutLaws.{PutsFirst, first-none, first-next, first-all}
 use Rattle.region_text.specs.RegionTexts.{turnsAt}
 use borrow.Author.Needs.{needs}
 use Rattle.region_text.proofs.put_rates.Statement.{statement}
 use Rattle.region_text.proofs.put_rates.Tie as tie
 
 abbrev Inv-loop : tie.InvT-loop
-Inv-loop b₀ at t x i₀ y₀ b i y = (y ≤ 17) × Puts b₀ at (times (turnsAt t x) y) (4 * y) b i × (length b ≡ length b₀)
+Inv-loop b₀ at t x i₀ y₀ b i y = PutsFirst (turnsAt t x) 4 17 b₀ at y b i
 
 abbrev μ-loop : tie.MeasureT-loop
 μ-loop b₀ at t x i₀ y₀ b i y = 17 - y
-
-loop-holds : tie.Need-loop-holds Inv-loop μ-loop
-loop-holds c = (omega arith, puts-first _ _ (turnsAt (c .before .args .t .now) (c .before .args .x)), refl)
 
 loop-again : tie.Need-loop-again Inv-loop μ-loop
 loop-again c =
     let put = c .before .before in
     let l = put .before .before .before .before .loop in
-    let a = put .before .before .before .before .before .before .args in
-    (omega arith, puts-most (omega arith) (puts-next (turnsAt (a .t .now) (a .x)) (l .y) (l .inv .1) (put .put-turns .ensures)), put .put-turns .kept .0 ∙ l .inv .2)
-
-same-length : tie.Need-same-length Inv-loop μ-loop
-same-length c = c .before .loop .inv .2
+    first-next (l .inv) (omega arith) (put .put-turns .ensures) (put .put-turns .kept .0)
 
 returns : tie.Need-returns Inv-loop μ-loop
-returns c = let e : c .before .loop .y ≡ 17 = omega arith in rw e at (c .before .loop .inv .1)
+returns c = first-all (c .before .loop .inv) (omega arith)
 
 pub put-rates-spec : {M : Type 1} → statement M
-put-rates-spec = tie.close (tie.spec Inv-loop μ-loop loop-holds (λ c. search needs) (λ c. search needs) (λ c. search needs) (λ c κs. omega arith) (λ c. search needs) (λ c. search needs) loop-again same-length returns)
+put-rates-spec =
+    tie.close
+    (tie.spec Inv-loop μ-loop (λ c. first-none) (search needs) (search needs) (search needs) (search needs) (search needs) (search needs) loop-again
+    (λ c. c .before .loop .inv .same) returns)

@@ -1,4 +1,4 @@
--- `region_text::put_turns` meets its contract. Assumes nothing.
+-- `region_text::put_turns` meets its contract: the texts that the calls put stand one after another. Assumes nothing.
 use Rattle.text_writer.specs.PutLaws.{puts-join}
 use Rattle.region_text.specs.RegionTexts.{turns}
 use borrow.Author.Needs.{needs}
@@ -12,4 +12,4 @@ returns c =
     puts-join (digits .before .before .before .before .put-byte .ensures) (digits .put-digits .ensures)
 
 pub put-turns-spec : {M : Type 1} → statement M
-put-turns-spec = tie.close (tie.spec (λ c κs. search needs) (λ c κs. search needs) (λ c. search needs) returns)
+put-turns-spec = tie.close (tie.spec (search needs) (search needs) (search needs) returns)

@@ -1,4 +1,4 @@
--- `region_text::put_with` meets its contract. Assumes nothing.
+-- `region_text::put_with` meets its contract: the texts that the calls put stand one after another. Assumes nothing.
 use native.Mathlib.Omega.{arith}
 use mir.Facts.{toZ-ofZ}
 use Rattle.text_writer.specs.PutLaws.{puts-join, puts-most}
@@ -20,4 +20,4 @@ returns c =
     puts-most (omega arith) (puts-join (puts-join (first .put-all .ensures) (rw (toZ-ofZ (s .fits .d)) at (choice .put-choice .ensures))) (last .put-all2 .ensures))
 
 pub put-with-spec : {M : Type 1} → statement M
-put-with-spec = tie.close (tie.spec (λ c. search needs) (λ c κs. search needs) put-choice-requires (λ c. search needs) (λ c κs. search needs) (λ c. search needs) returns)
+put-with-spec = tie.close (tie.spec (search needs) (search needs) put-choice-requires (search needs) (search needs) (search needs) returns)

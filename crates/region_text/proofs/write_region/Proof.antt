@@ -1,4 +1,4 @@
--- `region_text::write_region` meets its contract. Assumes nothing.
+-- `region_text::write_region` meets its contract: the texts that the calls put stand one after another. Assumes nothing.
 use native.Mathlib.Omega.{arith}
 use Rattle.text_writer.specs.PutLaws.{puts-join, puts-most}
 use Rattle.region_text.specs.RegionTexts.{regionText}
@@ -16,4 +16,4 @@ returns c =
     rw (← table .region .ensures) (puts-most (omega arith) (puts-join (puts-join (first .put-all .ensures) (lines .put-angles .ensures)) (last .put-all2 .ensures)))
 
 pub write-region-spec : {M : Type 1} → statement M
-write-region-spec = tie.close (tie.spec (λ c κs. search needs) (λ c. search needs) (λ c κs. search needs) (λ c κs. search needs) (λ c. search needs) (λ c κs. search needs) (λ c. search needs) returns)
+write-region-spec = tie.close (tie.spec (search needs) (search needs) (search needs) (search needs) (search needs) (search needs) (search needs) returns)

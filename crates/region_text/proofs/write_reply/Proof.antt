@@ -1,4 +1,4 @@
--- `region_text::write_reply` meets its contract. Assumes nothing.
+-- `region_text::write_reply` meets its contract: by the reply, which is the definition's: each has its form, and the one outside its refusal. Assumes nothing.
 use native.Mathlib.Omega.{arith}
 use mir.Facts.{toZ-ofZ}
 use mir.Syntax.{w64}
@@ -42,4 +42,7 @@ returns-3 c =
     rw (← e, outside .enum-told2 .given .1) (refused .refuse .ensures)
 
 pub write-reply-spec : {M : Type 1} → statement M
-write-reply-spec = tie.close (tie.spec (λ c κs. search needs) (λ c. search needs) put-with-requires (λ c. search needs) (λ c. search needs) (λ c κs. search needs) (λ c. search needs) (λ c κs. search needs) (λ c. search needs) returns (λ c. search needs) returns-2 (λ c. search needs) (λ c. search needs) returns-3)
+write-reply-spec =
+    tie.close
+    (tie.spec (search needs) (search needs) put-with-requires (search needs) (search needs) (search needs) (search needs) (search needs)
+    (search needs) returns (search needs) returns-2 (search needs) (search needs) returns-3)

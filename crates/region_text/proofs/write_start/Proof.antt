@@ -1,4 +1,4 @@
--- `region_text::write_start` meets its contract. Assumes nothing.
+-- `region_text::write_start` meets its contract: by the outcome, which is the definition's: each has its form, and the one outside its refusal. Assumes nothing.
 use native.Mathlib.Omega.{arith}
 use mir.Facts.{toZ-ofZ}
 use mir.Syntax.{w64}
@@ -51,4 +51,8 @@ returns-4 c =
     rw (← e, outside .enum-told3 .given .1) (refused .refuse .ensures)
 
 pub write-start-spec : {M : Type 1} → statement M
-write-start-spec = tie.close (tie.spec (λ c κs. search needs) (λ c. search needs) (λ c. search needs) (λ c κs. search needs) (λ c. search needs) put-forced-requires (λ c. search needs) (λ c. search needs) (λ c κs. search needs) (λ c. search needs) (λ c κs. search needs) (λ c. search needs) returns (λ c. search needs) returns-2 (λ c. search needs) returns-3 (λ c. search needs) (λ c. search needs) returns-4)
+write-start-spec =
+    tie.close
+    (tie.spec (search needs) (search needs) (search needs) (search needs) (search needs) put-forced-requires (search needs) (search needs)
+    (search needs) (search needs) (search needs) (search needs) returns (search needs) returns-2 (search needs) returns-3 (search needs)
+    (search needs) returns-4)

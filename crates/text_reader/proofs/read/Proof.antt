@@ -1,4 +1,4 @@
--- `text_reader::read` meets its contract. Assumes nothing.
+-- `text_reader::read` meets its contract: each step is its definition's. Assumes nothing.
 use Rattle.problem_text.specs.Reader.{readIn}
 use borrow.Author.Needs.{needs}
 use Rattle.text_reader.proofs.read.Statement.{statement}
@@ -9,4 +9,4 @@ unfolding readIn
 returns c = rw (c .read-of .ensures, c .before .read-list .ensures, c .before .before .read-head .ensures)
 
 pub read-spec : {M : Type 1} → statement M
-read-spec = tie.close (tie.spec (λ c κs. search needs) (λ c κs. search needs) (λ c κs. search needs) returns)
+read-spec = tie.close (tie.spec (search needs) (search needs) (search needs) returns)

@@ -1,4 +1,4 @@
--- `canonical::writing::put_fields` meets its contract. Assumes nothing.
+-- `canonical::writing::put_fields` meets its contract: the texts that the calls put stand one after another. Assumes nothing.
 use mathlib.Core.List.{_++_}
 use native.Mathlib.Omega.{arith}
 use Rattle.text_writer.specs.PutLaws.{puts-most}
@@ -7,21 +7,6 @@ use Rattle.canonical.specs.WritingLaws.{puts-pieces}
 use borrow.Author.Needs.{needs}
 use Rattle.canonical.proofs.writing.put_fields.Statement.{statement}
 use Rattle.canonical.proofs.writing.put_fields.Tie as tie
-
-put-attitudes-requires : tie.Need-put-attitudes-requires
-put-attitudes-requires c κs = search needs
-
-put-body-requires : tie.Need-put-body-requires
-put-body-requires c κs = search needs
-
-put-weights-requires : tie.Need-put-weights-requires
-put-weights-requires c κs = search needs
-
-put-tolerances-requires : tie.Need-put-tolerances-requires
-put-tolerances-requires c κs = search needs
-
-same-length : tie.Need-same-length
-same-length c = search needs
 
 returns : tie.Need-returns
 unfolding fields
@@ -41,12 +26,4 @@ returns c =
     (last .put-tolerances .ensures))
 
 pub put-fields-spec : {M : Type 1} → statement M
-put-fields-spec =
-    tie.close
-    (tie.spec
-    put-attitudes-requires
-    put-body-requires
-    put-weights-requires
-    put-tolerances-requires
-    same-length
-    returns)
+put-fields-spec = tie.close (tie.spec (search needs) (search needs) (search needs) (search needs) (search needs) returns)

@@ -1,21 +1,9 @@
--- `canonical::writing::put_line` meets its contract. Assumes nothing.
+-- `canonical::writing::put_line` meets its contract: the texts that the calls put stand one after another. Assumes nothing.
 use Rattle.text_writer.specs.PutLaws.{puts-join}
 use Rattle.canonical.specs.WritingLaws.{line-text}
 use borrow.Author.Needs.{needs}
 use Rattle.canonical.proofs.writing.put_line.Statement.{statement}
 use Rattle.canonical.proofs.writing.put_line.Tie as tie
-
-put-all-requires : tie.Need-put-all-requires
-put-all-requires c κs = search needs
-
-put-words-requires : tie.Need-put-words-requires
-put-words-requires c κs = search needs
-
-put-all-requires-2 : tie.Need-put-all-requires-2
-put-all-requires-2 c κs = search needs
-
-same-length : tie.Need-same-length
-same-length c = search needs
 
 returns : tie.Need-returns
 returns c =
@@ -25,5 +13,4 @@ returns c =
     rw (line-text _ _ _ _) (puts-join (puts-join (head .put-all .ensures) (words .put-words .ensures)) (tail .put-all2 .ensures))
 
 pub put-line-spec : {M : Type 1} → statement M
-put-line-spec =
-    tie.close (tie.spec put-all-requires put-words-requires put-all-requires-2 same-length returns)
+put-line-spec = tie.close (tie.spec (search needs) (search needs) (search needs) (search needs) returns)

@@ -1,4 +1,4 @@
--- `canonical::writing::put_slew` meets its contract. Assumes nothing.
+-- `canonical::writing::put_slew` meets its contract: the texts that the calls put stand one after another. Assumes nothing.
 use Rattle.canonical_laws.specs.Pieces.{lit, limit}
 use mathlib.Core.List.{[], _∷_}
 use Rattle.text.specs.Bytes.{bytes}
@@ -8,24 +8,6 @@ use Rattle.canonical.specs.WritingLaws.{puts-piece, puts-pieces}
 use borrow.Author.Needs.{needs}
 use Rattle.canonical.proofs.writing.put_slew.Statement.{statement}
 use Rattle.canonical.proofs.writing.put_slew.Tie as tie
-
-slice-aggregate-put-all : tie.Need-slice-aggregate-put-all
-slice-aggregate-put-all c = search needs
-
-put-all-requires : tie.Need-put-all-requires
-put-all-requires c κs = search needs
-
-put-limit-requires : tie.Need-put-limit-requires
-put-limit-requires c κs = search needs
-
-slice-aggregate-put-all-2 : tie.Need-slice-aggregate-put-all-2
-slice-aggregate-put-all-2 c = search needs
-
-put-all-requires-2 : tie.Need-put-all-requires-2
-put-all-requires-2 c κs = search needs
-
-same-length : tie.Need-same-length
-same-length c = search needs
 
 returns : tie.Need-returns
 returns c =
@@ -41,13 +23,4 @@ returns c =
     (puts-piece tail (last .put-all2 .ensures)))
 
 pub put-slew-spec : {M : Type 1} → statement M
-put-slew-spec =
-    tie.close
-    (tie.spec
-    slice-aggregate-put-all
-    put-all-requires
-    put-limit-requires
-    slice-aggregate-put-all-2
-    put-all-requires-2
-    same-length
-    returns)
+put-slew-spec = tie.close (tie.spec (search needs) (search needs) (search needs) (search needs) (search needs) (search needs) returns)

@@ -1,4 +1,4 @@
--- `canonical::writing::put_wheel` meets its contract. Assumes nothing.
+-- `canonical::writing::put_wheel` meets its contract: the texts that the calls put stand one after another. Assumes nothing.
 use lib.Ieee.{nan}
 use lib.ListN.{getD}
 use Rattle.canonical_laws.specs.Pieces.{lit, line, limit}
@@ -10,39 +10,6 @@ use Rattle.canonical.specs.WritingLaws.{puts-pieces}
 use borrow.Author.Needs.{needs}
 use Rattle.canonical.proofs.writing.put_wheel.Statement.{statement}
 use Rattle.canonical.proofs.writing.put_wheel.Tie as tie
-
-array-read-t14 : tie.Need-array-read-t14
-array-read-t14 c = search needs
-
-array-read-t17 : tie.Need-array-read-t17
-array-read-t17 c = search needs
-
-array-read-t20 : tie.Need-array-read-t20
-array-read-t20 c = search needs
-
-slice-aggregate-put-line : tie.Need-slice-aggregate-put-line
-slice-aggregate-put-line c = search needs
-
-slice-aggregate-put-line-2 : tie.Need-slice-aggregate-put-line-2
-slice-aggregate-put-line-2 c = search needs
-
-slice-aggregate-put-line-3 : tie.Need-slice-aggregate-put-line-3
-slice-aggregate-put-line-3 c = search needs
-
-put-line-requires : tie.Need-put-line-requires
-put-line-requires c κs = search needs
-
-put-limit-requires : tie.Need-put-limit-requires
-put-limit-requires c κs = search needs
-
-slice-aggregate-put-all : tie.Need-slice-aggregate-put-all
-slice-aggregate-put-all c = search needs
-
-put-all-requires : tie.Need-put-all-requires
-put-all-requires c κs = search needs
-
-same-length : tie.Need-same-length
-same-length c = search needs
 
 returns : tie.Need-returns
 returns c =
@@ -61,16 +28,5 @@ returns c =
 pub put-wheel-spec : {M : Type 1} → statement M
 put-wheel-spec =
     tie.close
-    (tie.spec
-    array-read-t14
-    array-read-t17
-    array-read-t20
-    slice-aggregate-put-line
-    slice-aggregate-put-line-2
-    slice-aggregate-put-line-3
-    put-line-requires
-    put-limit-requires
-    slice-aggregate-put-all
-    put-all-requires
-    same-length
-    returns)
+    (tie.spec (search needs) (search needs) (search needs) (search needs) (search needs) (search needs) (search needs) (search needs) (search needs)
+    (search needs) (search needs) returns)

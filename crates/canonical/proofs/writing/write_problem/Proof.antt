@@ -1,4 +1,4 @@
--- `canonical::writing::write_problem` meets its contract. Assumes nothing.
+-- `canonical::writing::write_problem` meets its contract: a problem that no text holds puts nothing; else its parts stand one after another and make up the text. Assumes nothing.
 use native.Mathlib.Omega.{arith}
 use mathlib.Core.Path.{_∙_}
 use Rattle.text_writer.specs.PutLaws.{puts-none, puts-join, puts-most}
@@ -21,12 +21,6 @@ returns-3 c =
     let few = c .before .before .before .before in
     rw (written-momenta (start (few .before .before .before) .args .p) (omega arith) (omega arith) (c .if3 .taken)) (puts-none _ _ _)
 
-put-momenta-requires : tie.Need-put-momenta-requires
-put-momenta-requires c κs = omega arith
-
-put-actuators-requires : tie.Need-put-actuators-requires
-put-actuators-requires c κs = omega arith
-
 returns-4 : tie.Need-returns-4
 returns-4 c =
     let actuators = c .before .before in
@@ -39,4 +33,4 @@ returns-4 c =
     (puts-most (omega arith) (puts-join (puts-join (fields .put-fields .ensures) (momenta .put-momenta .ensures)) (actuators .put-actuators .ensures)))
 
 pub write-problem-spec : {M : Type 1} → statement M
-write-problem-spec = tie.close (tie.spec returns returns-2 returns-3 (λ c κs. search needs) put-momenta-requires put-actuators-requires (λ c. search needs) returns-4)
+write-problem-spec = tie.close (tie.spec returns returns-2 returns-3 (search needs) (search needs) (search needs) (search needs) returns-4)

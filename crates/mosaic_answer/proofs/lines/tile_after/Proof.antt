@@ -1,4 +1,4 @@
--- `mosaic_answer::lines::tile_after` meets its contract. Assumes nothing.
+-- `mosaic_answer::lines::tile_after` meets its contract: each way out is its definition's, by the tests that lead there. Assumes nothing.
 use native.Mathlib.Omega.{arith}
 use mathlib.Core.Path.{sym, _∙_}
 use lib.ListN.{List·getD-eq-default}
@@ -12,4 +12,4 @@ returns-2 c =
     c .tile-at2 .ensures ∙ List·getD-eq-default tiles _ (omega arith) ∙ sym (List·getD-eq-default tiles _ (omega (arith, c .before .if1 .left)))
 
 pub tile-after-spec : {M : Type 1} → statement M
-tile-after-spec = tie.close (tie.spec (λ c. omega arith) (λ c κs. search needs) (λ c. search needs) (λ c κs. search needs) returns-2)
+tile-after-spec = tie.close (tie.spec (search needs) (search needs) (search needs) (search needs) returns-2)

@@ -1,4 +1,4 @@
--- `mosaic_answer::lines::tile_at` meets its contract. Assumes nothing.
+-- `mosaic_answer::lines::tile_at` meets its contract: each way out is its definition's, by the tests that lead there. Assumes nothing.
 use native.Mathlib.Omega.{arith}
 use mathlib.Core.Path.{sym}
 use lib.ListN.{List·getD-eq-default}
@@ -12,4 +12,4 @@ unfolding Ieee.div Ieee.ofBits
 returns-2 c = sym (List·getD-eq-default (c .before .args .t1) _ (omega arith))
 
 pub tile-at-spec : {M : Type 1} → statement M
-tile-at-spec = tie.close (tie.spec (λ c. search needs) (λ c. search needs) (λ c. search needs) returns-2)
+tile-at-spec = tie.close (tie.spec (search needs) (search needs) (search needs) returns-2)

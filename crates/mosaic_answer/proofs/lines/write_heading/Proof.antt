@@ -1,4 +1,4 @@
--- `mosaic_answer::lines::write_heading` meets its contract. Assumes nothing.
+-- `mosaic_answer::lines::write_heading` meets its contract: the texts that the calls put stand one after another. Assumes nothing.
 use borrow.Author.Needs.{needs}
 use Rattle.text_writer.specs.PutLaws.{puts-join}
 use Rattle.mosaic_answer.specs.LegLines.{heading}
@@ -12,12 +12,4 @@ returns c =
     puts-join (end .before .before .before .before .before .put-counted .ensures) (end .put-all .ensures)
 
 pub write-heading-spec : {M : Type 1} → statement M
-write-heading-spec =
-    tie.close
-    (tie.spec
-    (λ c. search needs)
-    (λ c κs. search needs)
-    (λ c. search needs)
-    (λ c κs. search needs)
-    (λ c. search needs)
-    returns)
+write-heading-spec = tie.close (tie.spec (search needs) (search needs) (search needs) (search needs) (search needs) returns)

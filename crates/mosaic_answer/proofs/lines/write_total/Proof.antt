@@ -1,4 +1,4 @@
--- `mosaic_answer::lines::write_total` meets its contract. Assumes nothing.
+-- `mosaic_answer::lines::write_total` meets its contract: the texts that the calls put stand one after another. Assumes nothing.
 use borrow.Author.Needs.{needs}
 use Rattle.text_writer.specs.PutLaws.{puts-join}
 use Rattle.mosaic_answer.specs.LegLines.{total}
@@ -18,15 +18,5 @@ returns c =
 pub write-total-spec : {M : Type 1} → statement M
 write-total-spec =
     tie.close
-    (tie.spec
-    (λ c. search needs)
-    (λ c κs. search needs)
-    (λ c. search needs)
-    (λ c κs. search needs)
-    (λ c κs. search needs)
-    (λ c. search needs)
-    (λ c κs. search needs)
-    (λ c. search needs)
-    (λ c κs. search needs)
-    (λ c. search needs)
-    returns)
+    (tie.spec (search needs) (search needs) (search needs) (search needs) (search needs) (search needs) (search needs) (search needs) (search needs)
+    (search needs) returns)

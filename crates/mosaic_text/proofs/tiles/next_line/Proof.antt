@@ -1,4 +1,4 @@
--- `mosaic_text::tiles::next_line` meets its contract. Assumes nothing.
+-- `mosaic_text::tiles::next_line` meets its contract: each way out is its definition's, by the tests that lead there. Assumes nothing.
 use native.Mathlib.Omega.{arith}
 use mathlib.Core.Path.{sym, _∙_}
 use borrow.Author.Needs.{needs}
@@ -25,14 +25,4 @@ returns-2 c =
 pub next-line-spec : {M : Type 1} → statement M
 next-line-spec =
     tie.close
-    (tie.spec
-    (λ c. search needs)
-    (λ c κs. search needs)
-    after-end
-    (λ c κs. search needs)
-    returns
-    (λ c. search needs)
-    (λ c. search needs)
-    (λ c κs. search needs)
-    (λ c κs. search needs)
-    returns-2)
+    (tie.spec (search needs) (search needs) after-end (search needs) returns (search needs) (search needs) (search needs) (search needs) returns-2)

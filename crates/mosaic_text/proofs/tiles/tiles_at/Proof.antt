@@ -36,14 +36,5 @@ returns-2 c = let l = c .before .loop in tiles-whole _ _ (l .c) (l .k) (l .inv .
 pub tiles-at-spec : {M : Type 1} → statement M
 tiles-at-spec =
     tie.close
-    (tie.spec
-    Inv-loop
-    μ-loop
-    (λ c κs. search needs)
-    loop-holds
-    returns
-    (λ c κs. let l = c .before .before .before .loop in omega (arith, l .inv .2))
-    (λ c. omega arith)
-    (λ c. omega arith)
-    loop-again
-    returns-2)
+    (tie.spec Inv-loop μ-loop (search needs) loop-holds returns (λ c κs. let l = c .before .before .before .loop in omega (arith, l .inv .2))
+    (search needs) (search needs) loop-again returns-2)

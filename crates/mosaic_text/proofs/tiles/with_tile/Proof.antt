@@ -1,5 +1,4 @@
--- `mosaic_text::tiles::with_tile` meets its contract. Assumes nothing.
-use native.Mathlib.Omega.{arith}
+-- `mosaic_text::tiles::with_tile` meets its contract: each way out is its definition's, by the tests that lead there. Assumes nothing.
 use borrow.Author.Needs.{needs}
 use borrow.Author.Tests.{not-true, not-false}
 use Rattle.mosaic_text.specs.TileLines.{withTile}
@@ -13,8 +12,10 @@ returns c = let start = c .before .before .before .args in simp (not-true (start
 returns-2 : tie.Need-returns-2
 unfolding withTile
 returns-2 c =
-    let start = c .before .before .before .before .before .before .args in
-    simp (not-false (start .row .ok) (c .before .before .before .before .if1 .left)) (rw (c .before .put-tile .ensures))
+    let at-if1 = c .before .before .before .before in
+    let entry = at-if1 .before .before in
+    let start = entry .args in
+    simp (not-false (start .row .ok) (at-if1 .if1 .left)) (rw (c .before .put-tile .ensures))
 
 pub with-tile-spec : {M : Type 1} → statement M
-with-tile-spec = tie.close (tie.spec (λ c κs. search needs) returns (λ c. search needs) (λ c. search needs) (λ c. search needs) (λ c. search needs) (λ c κs. search needs) (λ c. omega arith) returns-2)
+with-tile-spec = tie.close (tie.spec (search needs) returns (search needs) (search needs) (search needs) (search needs) (search needs) (search needs) returns-2)

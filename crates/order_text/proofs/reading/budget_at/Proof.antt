@@ -39,17 +39,6 @@ returns-4 c =
 pub budget-at-spec : {M : Type 1} → statement M
 budget-at-spec =
     tie.close
-    (tie.spec
-    (λ c. search needs)
-    (λ c κs. search needs)
-    (λ c κs. search needs)
-    returns
-    (λ c κs. omega (arith, c .before .is-at .ensures .within (not-false _ (c .if1 .left))))
-    (λ c κs. search needs)
-    returns-2
-    (λ c. search needs)
-    (λ c κs. search needs)
-    (λ c κs. search needs)
-    returns-3
-    (λ c. let a = c .before in omega (arith, a .is-at2 .ensures .within (not-false _ (c .if3 .left))))
-    returns-4)
+    (tie.spec (search needs) (search needs) (search needs) returns
+    (λ c κs. omega (arith, c .before .is-at .ensures .within (not-false _ (c .if1 .left)))) (search needs) returns-2 (search needs) (search needs)
+    (search needs) returns-3 (λ c. let a = c .before in omega (arith, a .is-at2 .ensures .within (not-false _ (c .if3 .left)))) returns-4)

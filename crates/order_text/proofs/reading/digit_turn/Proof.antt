@@ -1,6 +1,5 @@
 -- `order_text::reading::digit_turn` meets its contract, by its cases. Assumes nothing.
-use native.Mathlib.Omega.{arith}
-use mathlib.Core.Path.{_≡_, sym, _∙_}
+use mathlib.Core.Path.{_≡_, _∙_}
 use lib.ListN.{getD}
 use borrow.Author.Needs.{needs}
 use borrow.Author.Tests.{not-true, not-false}
@@ -43,15 +42,5 @@ returns-4 c =
 pub digit-turn-spec : {M : Type 1} → statement M
 digit-turn-spec =
     tie.close
-    (tie.spec
-    returns
-    (λ c κs. search needs)
-    (λ c κs. search needs)
-    returns-2
-    (λ c. search needs)
-    (λ c κs. search needs)
-    (λ c. search needs)
-    (λ c. search needs)
-    returns-3
-    (λ c. search needs)
+    (tie.spec returns (search needs) (search needs) returns-2 (search needs) (search needs) (search needs) (search needs) returns-3 (search needs)
     returns-4)

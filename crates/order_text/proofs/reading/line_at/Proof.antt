@@ -45,15 +45,6 @@ returns-4 c =
 pub line-at-spec : {M : Type 1} → statement M
 line-at-spec =
     tie.close
-    (tie.spec
-    (λ c. search needs)
-    (λ c κs. search needs)
-    returns
-    (λ c. omega (arith, c .before .is-at .ensures .within (not-false _ (c .if1 .left))))
+    (tie.spec (search needs) (search needs) returns (λ c. omega (arith, c .before .is-at .ensures .within (not-false _ (c .if1 .left))))
     (λ c κs. let b = c .before .before .before .before in (c .before .is-at .ensures .within (not-false _ (c .if1 .left)), b .pre .0, b .pre .1))
-    returns-2
-    (λ c κs. search needs)
-    returns-3
-    (λ c κs. search needs)
-    (λ c. omega (arith, inside c))
-    returns-4)
+    returns-2 (search needs) returns-3 (search needs) (λ c. omega (arith, inside c)) returns-4)

@@ -1,10 +1,11 @@
 -- `order_text::reading::number_at` meets its contract: the digits so far. Assumes nothing.
 use Prim.Native.Nat.{_-_, _≤_}
 use native.Mathlib.Omega.{arith}
-use mathlib.Core.Path.{_≡_, refl}
+use mathlib.Core.Path.{_≡_}
 use lib.ListN.{length}
 use Rattle.common.specs.Iter.{iter, iter-none, iter-next}
 use Rattle.order_text.specs.TileTexts.{most, digitTurn, numberAt}
+use borrow.Author.Needs.{needs}
 use Rattle.order_text.proofs.reading.number_at.Statement.{statement}
 use Rattle.order_text.proofs.reading.number_at.Tie as tie
 
@@ -30,12 +31,5 @@ returns c =
 pub number-at-spec : {M : Type 1} → statement M
 number-at-spec =
     tie.close
-    (tie.spec
-    Inv-loop
-    μ-loop
-    (λ c. (omega arith, iter-none _ _, omega arith, omega arith))
-    (λ c κs. let l = c .before .loop in (l .inv .2, l .inv .3))
-    (λ c. omega arith)
-    (λ c. omega arith)
-    loop-again
-    returns)
+    (tie.spec Inv-loop μ-loop (λ c. (omega arith, iter-none _ _, omega arith, omega arith))
+    (λ c κs. let l = c .before .loop in (l .inv .2, l .inv .3)) (search needs) (search needs) loop-again returns)

@@ -35,15 +35,5 @@ returns-4 c =
 pub read-tiles-spec : {M : Type 1} → statement M
 read-tiles-spec =
     tie.close
-    (tie.spec
-    (λ c κs. search needs)
-    returns
-    (λ c. search needs)
-    (λ c κs. search needs)
-    (λ c κs. search needs)
-    returns-2
-    (λ c κs. search needs)
-    (λ c κs. search needs)
-    returns-3
-    (λ c κs. let w = c .before .before in (w .budget-at .ensures .1, omega (arith, w .before .before .before .before .if1 .left)))
-    returns-4)
+    (tie.spec (search needs) returns (search needs) (search needs) (search needs) returns-2 (search needs) (search needs) returns-3
+    (λ c κs. let w = c .before .before in (w .budget-at .ensures .1, omega (arith, w .before .before .before .before .if1 .left))) returns-4)

@@ -5,6 +5,7 @@ use mathlib.Core.Path.{_≡_}
 use lib.ListN.{length}
 use Rattle.common.specs.Iter.{iter, iter-none, iter-next}
 use Rattle.order_text.specs.TileTexts.{rowTurn, rowAt}
+use borrow.Author.Needs.{needs}
 use Rattle.order_text.proofs.reading.row_at.Statement.{statement}
 use Rattle.order_text.proofs.reading.row_at.Tie as tie
 
@@ -30,13 +31,5 @@ returns c =
 pub row-at-spec : {M : Type 1} → statement M
 row-at-spec =
     tie.close
-    (tie.spec
-    Inv-loop
-    μ-loop
-    (λ c. (omega arith, iter-none _ _, omega arith))
-    (λ c. omega arith)
-    (λ c κs. c .before .loop .inv .2)
-    (λ c. omega arith)
-    (λ c. omega arith)
-    loop-again
-    returns)
+    (tie.spec Inv-loop μ-loop (λ c. (omega arith, iter-none _ _, omega arith)) (search needs) (λ c κs. c .before .loop .inv .2) (search needs)
+    (search needs) loop-again returns)

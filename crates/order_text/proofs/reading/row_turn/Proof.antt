@@ -24,4 +24,4 @@ returns-3 c =
     row-more (b .args .s .now) (b .args .place) (b .args .c) (not-false _ (e .if1 .left)) (w .word-at .ensures) (not-false _ (o .if2 .left)) (c .put-time .ensures)
 
 pub row-turn-spec : {M : Type 1} → statement M
-row-turn-spec = tie.close (tie.spec returns (λ c κs. search needs) returns-2 (λ c κs. search needs) returns-3)
+row-turn-spec = tie.close (tie.spec returns (search needs) returns-2 (search needs) returns-3)

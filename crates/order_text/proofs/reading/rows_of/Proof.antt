@@ -35,15 +35,7 @@ returns-4 c =
 pub rows-of-spec : {M : Type 1} → statement M
 rows-of-spec =
     tie.close
-    (tie.spec
-    (λ c. search needs)
-    (λ c κs. let b = c .before in (omega arith, b .pre .1))
-    (λ c κs. search needs)
-    returns
-    (λ c κs. let b = c .before .before .before in omega (arith, c .before .width-at .ensures .1, b .pre .1))
-    (λ c κs. search needs)
-    returns-2
+    (tie.spec (search needs) (λ c κs. let b = c .before in (omega arith, b .pre .1)) (search needs) returns
+    (λ c κs. let b = c .before .before .before in omega (arith, c .before .width-at .ensures .1, b .pre .1)) (search needs) returns-2
     (λ c. let w = c .before .before .before .before .before .before in omega (arith, w .width-at .ensures .1, w .before .before .pre .1))
-    (λ c κs. search needs)
-    returns-3
-    returns-4)
+    (search needs) returns-3 returns-4)

@@ -4,6 +4,7 @@ use native.Mathlib.Omega.{arith}
 use mathlib.Core.Path.{_≡_}
 use Rattle.common.specs.Iter.{iter, iter-none, iter-next}
 use Rattle.order_text.specs.TileTexts.{tableTurn, tableAt}
+use borrow.Author.Needs.{needs}
 use Rattle.order_text.proofs.reading.table_at.Statement.{statement}
 use Rattle.order_text.proofs.reading.table_at.Tie as tie
 
@@ -23,12 +24,5 @@ returns c =
 pub table-at-spec : {M : Type 1} → statement M
 table-at-spec =
     tie.close
-    (tie.spec
-    Inv-loop
-    μ-loop
-    (λ c. (omega arith, iter-none _ _))
-    (λ c κs. (c .loop-test .taken, c .before .before .before .pre))
-    (λ c. omega arith)
-    (λ c. omega arith)
-    (λ c. let l = c .before .before .loop in (omega arith, iter-next _ _ (l .i) (l .inv .1) (c .table-turn .ensures)))
-    returns)
+    (tie.spec Inv-loop μ-loop (λ c. (omega arith, iter-none _ _)) (λ c κs. (c .loop-test .taken, c .before .before .before .pre)) (search needs)
+    (search needs) (λ c. let l = c .before .before .loop in (omega arith, iter-next _ _ (l .i) (l .inv .1) (c .table-turn .ensures))) returns)

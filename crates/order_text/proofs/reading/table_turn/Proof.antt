@@ -1,8 +1,8 @@
 -- `order_text::reading::table_turn` meets its contract, by its cases. Assumes nothing.
-use Prim.Native.Nat.{ℕ, _+_, _*_, _^_, _≤_, _<_}
+use Prim.Native.Nat.{ℕ, _*_, _^_, _≤_, _<_}
 use native.Mathlib.Omega.{arith}
 use native.Mathlib.Nat.{mul-le-mul}
-use mathlib.Core.Path.{_≡_, refl}
+use mathlib.Core.Path.{refl}
 use borrow.Author.Needs.{needs}
 use borrow.Author.Tests.{not-true, not-false}
 use Rattle.order_text.specs.TileTextLaws.{table-shut, table-wrong, table-more}
@@ -29,11 +29,7 @@ returns-3 c =
 pub table-turn-spec : {M : Type 1} → statement M
 table-turn-spec =
     tie.close
-    (tie.spec
-    returns
-    (λ c. search needs)
+    (tie.spec returns (search needs)
     (λ c. let b = c .before .before .before .before in omega (arith, low (b .args .i) (b .args .n) (2 ^ 31) (b .pre .0) (b .pre .1)))
     (λ c κs. let b = c .before .before .before .before in (omega arith, omega (arith, low (b .args .i) (b .args .n) (2 ^ 31) (b .pre .0) (b .pre .1))))
-    (λ c. search needs)
-    returns-2
-    returns-3)
+    (search needs) returns-2 returns-3)

@@ -26,4 +26,4 @@ returns-4 c =
     (width-other _ _ _ (not-false _ (b .before .if1 .left)) (b .byte .ensures) (o .if2 .left) (c .if3 .left), omega arith)
 
 pub width-turn-spec : {M : Type 1} → statement M
-width-turn-spec = tie.close (tie.spec returns (λ c κs. search needs) returns-2 (λ c. search needs) returns-3 returns-4)
+width-turn-spec = tie.close (tie.spec returns (search needs) returns-2 (search needs) returns-3 returns-4)

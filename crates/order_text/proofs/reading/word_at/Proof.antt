@@ -26,13 +26,4 @@ inside c = let a = c .before .before .before .args in blank-within (a .s .now) (
 pub word-at-spec : {M : Type 1} → statement M
 word-at-spec =
     tie.close
-    (tie.spec
-    (λ c κs. search needs)
-    (λ c κs. search needs)
-    returns
-    (λ c. search needs)
-    (λ c κs. omega (arith, inside c))
-    (λ c. search needs)
-    (λ c κs. search needs)
-    returns-2
-    returns-3)
+    (tie.spec (search needs) (search needs) returns (search needs) (λ c κs. omega (arith, inside c)) (search needs) (search needs) returns-2 returns-3)

@@ -1,4 +1,4 @@
--- `order_text::writing::put_order` meets its contract. Assumes nothing.
+-- `order_text::writing::put_order` meets its contract: the texts that the calls put stand one after another. Assumes nothing.
 use borrow.Author.Needs.{needs}
 use native.Mathlib.Omega.{arith}
 use Rattle.text_writer.specs.PutLaws.{puts-join, puts-most}
@@ -9,4 +9,4 @@ returns : tie.Need-returns
 returns c = puts-most (omega arith) (puts-join (c .before .before .before .before .before .before .put-all .ensures) (c .before .before .put-tiles .ensures))
 
 pub put-order-spec : {M : Type 1} → statement M
-put-order-spec = tie.close (tie.spec (λ c. search needs) (λ c κs. search needs) (λ c κs. search needs) (λ c. search needs) returns)
+put-order-spec = tie.close (tie.spec (search needs) (search needs) (search needs) (search needs) returns)

@@ -1,4 +1,4 @@
--- `order_text::writing::put_tile` meets its contract. Assumes nothing.
+-- `order_text::writing::put_tile` meets its contract: the texts that the calls put stand one after another. Assumes nothing.
 use borrow.Author.Needs.{needs}
 use Rattle.text_writer.specs.PutLaws.{puts-join}
 use Rattle.order_text.proofs.writing.put_tile.Statement.{statement}
@@ -8,4 +8,4 @@ returns : tie.Need-returns
 returns c = puts-join (c .before .before .before .before .before .before .put-byte .ensures) (c .before .before .put-digits .ensures)
 
 pub put-tile-spec : {M : Type 1} → statement M
-put-tile-spec = tie.close (tie.spec (λ c κs. search needs) (λ c κs. search needs) (λ c. search needs) returns)
+put-tile-spec = tie.close (tie.spec (search needs) (search needs) (search needs) returns)

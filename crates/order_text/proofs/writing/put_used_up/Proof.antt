@@ -1,4 +1,4 @@
--- `order_text::writing::put_used_up` meets its contract. Assumes nothing.
+-- `order_text::writing::put_used_up` meets its contract: each way out is its definition's, by the tests that lead there. Assumes nothing.
 use borrow.Author.Needs.{needs}
 use native.Mathlib.Omega.{arith}
 use Rattle.text_writer.specs.PutLaws.{puts-most}
@@ -12,14 +12,4 @@ returns-2 : tie.Need-returns-2
 returns-2 c = rw (c .before .before .before .before .before .if1 .left) (puts-most (omega arith) (c .before .before .put-all2 .ensures))
 
 pub put-used-up-spec : {M : Type 1} → statement M
-put-used-up-spec =
-    tie.close
-    (tie.spec
-    (λ c. search needs)
-    (λ c κs. search needs)
-    (λ c. search needs)
-    returns
-    (λ c. search needs)
-    (λ c κs. search needs)
-    (λ c. search needs)
-    returns-2)
+put-used-up-spec = tie.close (tie.spec (search needs) (search needs) (search needs) returns (search needs) (search needs) (search needs) returns-2)

@@ -1,4 +1,4 @@
--- `problem_text::listing::item_at` meets its contract. Assumes nothing.
+-- `problem_text::listing::item_at` meets its contract: each way out is its definition's, by the tests that lead there. Assumes nothing.
 use Rattle.problem_text.specs.Listing.{itemAt}
 use borrow.Author.Needs.{needs}
 use Rattle.problem_text.proofs.listing.item_at.Statement.{statement}
@@ -28,4 +28,7 @@ returns-4 c =
     simp (← none .before .line-at .ensures, none .if1 .left, ← second .before .line-at2 .ensures, second .if2 .left, ← third .before .line-at3 .ensures, third .if3 .left, c .wrong-row .ensures)
 
 pub item-at-spec : {M : Type 1} → statement M
-item-at-spec = tie.close (tie.spec (λ c. search needs) (λ c. search needs) (λ c κs. search needs) returns (λ c. search needs) (λ c. search needs) (λ c κs. search needs) returns-2 (λ c. search needs) (λ c. search needs) (λ c κs. search needs) returns-3 (λ c κs. search needs) returns-4)
+item-at-spec =
+    tie.close
+    (tie.spec (search needs) (search needs) (search needs) returns (search needs) (search needs) (search needs) returns-2 (search needs)
+    (search needs) (search needs) returns-3 (search needs) returns-4)

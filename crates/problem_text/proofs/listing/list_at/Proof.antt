@@ -1,4 +1,4 @@
--- `problem_text::listing::list_at` meets its contract. Assumes nothing.
+-- `problem_text::listing::list_at` meets its contract: the loop keeps the turns made (`iter`) and that a line adds at most one to each count; a list that is closed stays as it is. Assumes nothing.
 use Prim.Native.Nat.{_-_, _≤_}
 use native.Mathlib.Omega.{arith}
 use mathlib.Core.Path.{_≡_}
@@ -30,9 +30,6 @@ returns-2 c =
     let l = c .before .before .before in
     list-early _ _ _ (l .loop .c) (l .loop .k) (l .before .first-line .ensures) (l .loop .inv .1) (l .before .before .if1 .left) (omega arith) (not-true _ (c .if2 .taken))
 
-next-line-requires : tie.Need-next-line-requires Inv-loop μ-loop
-next-line-requires c κs = omega arith
-
 loop-again : tie.Need-loop-again Inv-loop μ-loop
 loop-again c =
     let l = c .before .before .before .before .loop in
@@ -44,4 +41,7 @@ returns-3 c =
     list-whole _ _ _ (l .loop .c) (l .loop .k) (l .before .first-line .ensures) (l .loop .inv .1) (l .before .before .if1 .left) (omega arith)
 
 pub list-at-spec : {M : Type 1} → statement M
-list-at-spec = tie.close (tie.spec Inv-loop μ-loop (λ c κs. search needs) (λ c κs. search needs) returns (λ c κs. search needs) loop-holds returns-2 next-line-requires (λ c. search needs) (λ c. search needs) loop-again returns-3)
+list-at-spec =
+    tie.close
+    (tie.spec Inv-loop μ-loop (search needs) (search needs) returns (search needs) loop-holds returns-2 (search needs) (search needs) (search needs)
+    loop-again returns-3)

@@ -5,4 +5,4 @@ use Rattle.programs.proofs.mosaics.print.Statement.{statement}
 use Rattle.programs.proofs.mosaics.print.Tie as tie
 
 pub print-spec : {M : Type 1} → statement M
-print-spec = tie.close (tie.spec (λ c. search (needs, length-take-le)) (λ c κs. search needs) (λ c. search needs))
+print-spec = tie.close (tie.spec (λ c. search (needs, length-take-le)) (search needs) (search needs))

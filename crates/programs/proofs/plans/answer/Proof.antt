@@ -1,4 +1,4 @@
--- `programs::plans::answer` meets its contract. Assumes nothing.
+-- `programs::plans::answer` meets its contract: each step is its definition's. Assumes nothing.
 use mathlib.Core.Path.{ap}
 use Rattle.plan_text.specs.declared.Told.{Told}
 use borrow.Author.Needs.{needs}
@@ -11,4 +11,4 @@ returns c =
     record { bytes = ap (λ (t : Told). t .bytes) (told .is); prints = search needs; within = search needs; says = rw (told .is) at (c .before .before .explain-plan .ensures) }
 
 pub answer-spec : {M : Type 1} → statement M
-answer-spec = tie.close (tie.spec (λ c. search needs) (λ c κs. search needs) (λ c κs. search needs) (λ c. search needs) (λ c. search needs) returns)
+answer-spec = tie.close (tie.spec (search needs) (search needs) (search needs) (search needs) (search needs) returns)

@@ -1,4 +1,4 @@
--- `region_text::words::clipped` meets its contract. Assumes nothing.
+-- `region_text::words::clipped` meets its contract: each way out is its definition's, by the tests that lead there. Assumes nothing.
 use borrow.Author.Tests.{lt-ltb, le-ltb}
 use Rattle.region_text.specs.Words.{clipped}
 use Rattle.region_text.proofs.words.clipped.Statement.{statement}

@@ -1,4 +1,4 @@
--- `region_text::words::read_whole` meets its contract. Assumes nothing.
+-- `region_text::words::read_whole` meets its contract: each way out is its definition's, by the tests that lead there. Assumes nothing.
 use Prim.Native.Nat.{_-_}
 use native.Mathlib.Omega.{arith}
 use lib.ListN.{length, drop, length-drop}
@@ -27,4 +27,7 @@ returns-3 c =
     rw (ne-eqb _ _ (other .before .before .if1 .left), ne-eqb _ _ (other .if2 .left), c .signed2 .ensures, c .before .read-requested2 .ensures)
 
 pub read-whole-spec : {M : Type 1} → statement M
-read-whole-spec = tie.close (tie.spec returns (λ c. search needs) (λ c. search needs) (λ c. search needs) (λ c. search needs) (λ c κs. search needs) (λ c κs. search needs) returns-2 (λ c κs. search needs) (λ c κs. search needs) returns-3)
+read-whole-spec =
+    tie.close
+    (tie.spec returns (search needs) (search needs) (search needs) (search needs) (search needs) (search needs) returns-2 (search needs)
+    (search needs) returns-3)

@@ -1,4 +1,4 @@
--- `region_text::words::signed` meets its contract. Assumes nothing.
+-- `region_text::words::signed` meets its contract: each way out is its definition's, by the tests that lead there. Assumes nothing.
 use Rattle.region_text.specs.Words.{signed}
 use Rattle.region_text.specs.TextLaws.{clipped-most}
 use borrow.Author.Needs.{needs}
@@ -17,4 +17,4 @@ unfolding signed
 returns-2 c = rw (c .with-sign .ensures, c .before .clipped .ensures, c .before .before .before .size .given .1)
 
 pub signed-spec : {M : Type 1} → statement M
-signed-spec = tie.close (tie.spec (λ c. search needs) (λ c. search needs) (λ c κs. search needs) with-sign-requires returns returns-2)
+signed-spec = tie.close (tie.spec (search needs) (search needs) (search needs) with-sign-requires returns returns-2)

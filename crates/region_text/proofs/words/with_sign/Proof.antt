@@ -1,4 +1,4 @@
--- `region_text::words::with_sign` meets its contract. Assumes nothing.
+-- `region_text::words::with_sign` meets its contract: each way out is its definition's, by the tests that lead there. Assumes nothing.
 use mir.Facts.{toZ-ofZ}
 use Rattle.region_text.specs.Words.{withSign}
 use Rattle.region_text.specs.TextLaws.{word-is, below-fits}
@@ -18,4 +18,4 @@ unfolding withSign
 returns-2 c = let s = c .before in rw (c .if1 .left, word-is (s .args .k) (s .pre))
 
 pub with-sign-spec : {M : Type 1} → statement M
-with-sign-spec = tie.close (tie.spec (λ c. search needs) sub-t5 returns (λ c. search needs) returns-2)
+with-sign-spec = tie.close (tie.spec (search needs) sub-t5 returns (search needs) returns-2)

@@ -1,4 +1,4 @@
--- `sample_text::lines::is_last` meets its contract. Assumes nothing.
+-- `sample_text::lines::is_last` meets its contract: each way out is its definition's, by the tests that lead there. Assumes nothing.
 use Rattle.sample_text.specs.SampleLines.{isLast}
 use Rattle.sample_text.specs.SampleLineLaws.{not-last}
 use borrow.Author.Needs.{needs}
@@ -18,4 +18,4 @@ unfolding isLast
 returns-3 c = rw (← c .before .before .before .before .sample-count .ensures, c .before .before .counted .given .1) (not-last (c .if1 .left))
 
 pub is-last-spec : {M : Type 1} → statement M
-is-last-spec = tie.close (tie.spec (λ c κs. search needs) (λ c. search needs) (λ c. search needs) (λ c. search needs) returns returns-2 returns-3)
+is-last-spec = tie.close (tie.spec (search needs) (search needs) (search needs) (search needs) returns returns-2 returns-3)

@@ -1,4 +1,4 @@
--- `sample_text::lines::put_either` meets its contract. Assumes nothing.
+-- `sample_text::lines::put_either` meets its contract: each way out is its definition's, by the tests that lead there. Assumes nothing.
 use native.Mathlib.Omega.{arith}
 use Rattle.text_writer.specs.PutLaws.{puts-most}
 use borrow.Author.Needs.{needs}
@@ -18,4 +18,4 @@ returns-2 c =
     rw (put .before .before .if1 .left) (puts-most (omega (arith, start .pre)) (put .put-all2 .ensures))
 
 pub put-either-spec : {M : Type 1} → statement M
-put-either-spec = tie.close (tie.spec (λ c κs. search needs) (λ c. search needs) returns (λ c κs. search needs) (λ c. search needs) returns-2)
+put-either-spec = tie.close (tie.spec (search needs) (search needs) returns (search needs) (search needs) returns-2)

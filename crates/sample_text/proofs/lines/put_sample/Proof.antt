@@ -1,4 +1,4 @@
--- `sample_text::lines::put_sample` meets its contract. Assumes nothing.
+-- `sample_text::lines::put_sample` meets its contract: the texts that the calls put stand one after another. Assumes nothing.
 use Rattle.text_writer.specs.PutLaws.{puts-join}
 use Rattle.sample_text.specs.SampleLines.{opening, closing, sampleLine}
 use borrow.Author.Needs.{needs}
@@ -14,4 +14,7 @@ returns c =
     puts-join (puts-join (numbers .before .before .before .put-either .ensures) (rw (numbers .numbers-of .ensures) at (words .put-words .ensures))) (last .put-either2 .ensures)
 
 pub put-sample-spec : {M : Type 1} → statement M
-put-sample-spec = tie.close (tie.spec (λ c. search needs) (λ c. search needs) (λ c κs. search needs) (λ c κs. search needs) (λ c. search needs) (λ c κs. search needs) (λ c. search needs) (λ c. search needs) (λ c κs. search needs) (λ c. search needs) returns)
+put-sample-spec =
+    tie.close
+    (tie.spec (search needs) (search needs) (search needs) (search needs) (search needs) (search needs) (search needs) (search needs) (search needs)
+    (search needs) returns)

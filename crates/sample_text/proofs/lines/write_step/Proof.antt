@@ -1,4 +1,4 @@
--- `sample_text::lines::write_step` meets its contract. Assumes nothing.
+-- `sample_text::lines::write_step` meets its contract: each way out is its definition's, by the tests that lead there. Assumes nothing.
 use Rattle.sample_text.specs.SampleLineLaws.{steps-refused, steps-given}
 use borrow.Author.Needs.{needs}
 use Rattle.sample_text.proofs.lines.write_step.Statement.{statement}
@@ -17,4 +17,7 @@ returns-2 c =
     steps-given _ _ _ _ (fate .before .before .before .sample-course .ensures) (fate .enum-told .given .1) (put .before .before .is-last .ensures) (put .put-sample .ensures)
 
 pub write-step-spec : {M : Type 1} → statement M
-write-step-spec = tie.close (tie.spec (λ c κs. search needs) (λ c κs. search needs) (λ c. search needs) (λ c κs. search needs) (λ c. search needs) (λ c κs. search needs) (λ c κs. search needs) (λ c. search needs) (λ c. search needs) returns (λ c. search needs) returns-2)
+write-step-spec =
+    tie.close
+    (tie.spec (search needs) (search needs) (search needs) (search needs) (search needs) (search needs) (search needs) (search needs) (search needs)
+    returns (search needs) returns-2)

@@ -1,10 +1,11 @@
--- `text::hex::hex_at` meets its contract. Assumes nothing.
+-- `text::hex::hex_at` meets its contract: the loop keeps that the digits read so far, at their weights, and the rest (`more`) make the whole pattern, and that this stays below 2 ^ 64. Assumes nothing.
 use Prim.Native.Nat.{_+_, _≤_, _<_, _-_, _*_, _/_, _^_}
 use native.Mathlib.Omega.{arith}
 use mathlib.Core.Path.{_≡_, refl, sym, _∙_}
 use lib.ListN.{length, getD}
 use Rattle.text.specs.DigitLaws.{digit-within, more-step, more-stop, more-end, hexAt-step, hexAt-none, sixteenth, weighed}
 use Rattle.text.specs.Hex.{digit, more, hexAt}
+use borrow.Author.Needs.{needs}
 use Rattle.text.proofs.hex.hex_at.Statement.{statement}
 use Rattle.text.proofs.hex.hex_at.Tie as tie
 
@@ -15,26 +16,11 @@ Inv-loop s at first weight₀ m₀ i₀ k₀ weight m i k =
 abbrev μ-loop : tie.MeasureT-loop
 μ-loop s at first weight₀ m₀ i₀ k₀ weight m i k = k
 
-byte-requires : tie.Need-byte-requires Inv-loop μ-loop
-byte-requires c κs = tt
-
-hex-digit-requires : tie.Need-hex-digit-requires Inv-loop μ-loop
-hex-digit-requires c κs = tt
-
 returns : tie.Need-returns Inv-loop μ-loop
 returns c =
     let args = c .before .before .before .before .args in
     let v : c .before .hex-digit .result ≡ digit (getD (args .s .now) (args .at) 0) = cc in
     record { is = sym (hexAt-none (args .s .now) (args .at) _ v (c .if1 .taken)); within = omega arith }
-
-wide-requires : tie.Need-wide-requires Inv-loop μ-loop
-wide-requires c κs = tt
-
-mul-m : tie.Need-mul-m Inv-loop μ-loop
-mul-m c = omega arith
-
-add-i : tie.Need-add-i Inv-loop μ-loop
-add-i c = omega arith
 
 loop-holds : tie.Need-loop-holds Inv-loop μ-loop
 loop-holds c =
@@ -46,22 +32,15 @@ loop-holds c =
     let w = digit-within (args .s .now) (args .at) l in
     (omega arith, refl, omega arith, omega arith, hexAt-step (args .s .now) (args .at) (c .wide .result) v′ b, omega arith)
 
-byte-requires-2 : tie.Need-byte-requires-2 Inv-loop μ-loop
-byte-requires-2 c κs = tt
-
-hex-digit-requires-2 : tie.Need-hex-digit-requires-2 Inv-loop μ-loop
-hex-digit-requires-2 c κs = tt
-
 returns-2 : tie.Need-returns-2 Inv-loop μ-loop
 returns-2 c =
-    let a = c .before .before .before .before .before .before .before .before .before .before .args in
-    let l = c .before .before .before .before .loop in
+    let at-loop = c .before .before .before .before in
+    let start = at-loop .before .before .before .before .before .before in
+    let a = start .args in
+    let l = at-loop .loop in
     let v : c .before .hex-digit2 .result ≡ digit (getD (a .s .now) (l .i) 0) = cc in
     let e = l .inv .4 ∙ more-stop (a .s .now) (l .i) (l .m) _ v (l .k) (omega arith) (c .if2 .taken) in
     record { is = sym e; within = omega arith }
-
-wide-requires-2 : tie.Need-wide-requires-2 Inv-loop μ-loop
-wide-requires-2 c κs = tt
 
 mul-m-2 : tie.Need-mul-m-2 Inv-loop μ-loop
 mul-m-2 c =
@@ -75,23 +54,17 @@ add-m c =
     let h : c .wide2 .result * u ≤ 15 * u = weighed _ u (omega arith) in
     omega (arith, h)
 
-add-i-2 : tie.Need-add-i-2 Inv-loop μ-loop
-add-i-2 c = omega arith
-
-sub-k : tie.Need-sub-k Inv-loop μ-loop
-sub-k c = omega arith
-
-loop-less : tie.Need-loop-less Inv-loop μ-loop
-loop-less c = omega arith
-
 loop-again : tie.Need-loop-again Inv-loop μ-loop
 loop-again c =
-    let a = c .before .before .before .before .before .before .before .before .before .before .before .args in
-    let l = c .before .before .before .before .before .loop in
+    let at-hex-digit2 = c .before .before in
+    let at-loop = at-hex-digit2 .before .before .before in
+    let start = at-loop .before .before .before .before .before .before in
+    let a = start .args in
+    let l = at-loop .loop in
     let u = l .weight / 16 in
-    let v : c .before .before .hex-digit2 .result ≡ digit (getD (a .s .now) (l .i) 0) = cc in
-    let d : c .before .before .hex-digit2 .result ≡ c .wide2 .result = cc in
-    let b : c .before .before .hex-digit2 .result < 16 = omega arith in
+    let v : at-hex-digit2 .hex-digit2 .result ≡ digit (getD (a .s .now) (l .i) 0) = cc in
+    let d : at-hex-digit2 .hex-digit2 .result ≡ c .wide2 .result = cc in
+    let b : at-hex-digit2 .hex-digit2 .result < 16 = omega arith in
     let h : c .wide2 .result * u ≤ 15 * u = weighed _ u (omega arith) in
     let w : u ≡ 16 ^ (l .k - 1) = omega (arith, sixteenth (l .k) (omega arith)) in
     let g : digit (getD (a .s .now) (l .i) 0) < 16 = omega arith in
@@ -108,24 +81,5 @@ returns-3 c =
 pub hex-at-spec : {M : Type 1} → statement M
 hex-at-spec =
     tie.close
-    (tie.spec
-    Inv-loop
-    μ-loop
-    byte-requires
-    hex-digit-requires
-    returns
-    wide-requires
-    mul-m
-    add-i
-    loop-holds
-    byte-requires-2
-    hex-digit-requires-2
-    returns-2
-    wide-requires-2
-    mul-m-2
-    add-m
-    add-i-2
-    sub-k
-    loop-less
-    loop-again
-    returns-3)
+    (tie.spec Inv-loop μ-loop (search needs) (search needs) returns (search needs) (search needs) (search needs) loop-holds (search needs)
+    (search needs) returns-2 (search needs) mul-m-2 add-m (search needs) (search needs) (search needs) loop-again returns-3)

@@ -1,4 +1,4 @@
--- `text::hex::past_blanks` meets its contract. Assumes nothing.
+-- `text::hex::past_blanks` meets its contract: the loop keeps that the blanks from the start and those from here on end at one place; where no blank stands, that is here. Assumes nothing.
 use Prim.Native.Nat.{_+_, _-_, _≤_, _<_}
 use native.Mathlib.Omega.{arith}
 use mathlib.Core.Path.{_≡_, sym, _∙_}
@@ -18,9 +18,6 @@ abbrev μ-loop : tie.MeasureT-loop
 loop-holds : tie.Need-loop-holds Inv-loop μ-loop
 loop-holds c = (omega arith, omega arith, past-start _ _)
 
-byte-requires : tie.Need-byte-requires Inv-loop μ-loop
-byte-requires c κs = search needs
-
 blank : (c : tie.Then1 Inv-loop μ-loop) → c .before .before .loop .i < length (c .before .before .before .before .args .s .now)
 blank c = blank-within (c .before .before .before .before .args .s .now) (c .before .before .loop .i) (sym (c .before .byte .ensures) ∙ c .if1 .taken)
 
@@ -32,9 +29,11 @@ loop-less c = omega (arith, blank c)
 
 loop-again : tie.Need-loop-again Inv-loop μ-loop
 loop-again c =
-    let s = c .before .before .before .before .args .s .now in
-    let at = c .before .before .before .before .args .at in
-    let l = c .before .before .loop in
+    let at-loop = c .before .before in
+    let start = at-loop .before .before in
+    let s = start .args .s .now in
+    let at = start .args .at in
+    let l = at-loop .loop in
     let h : l .i < length s = blank c in
     let n : length s - (l .i + 1 - at) ≡ length s - (l .i - at) - 1 = omega arith in
     (omega arith, omega arith, rw n (l .inv .2 ∙ past-next s _ (l .i) (sym (c .before .byte .ensures) ∙ c .if1 .taken) (omega arith)))
@@ -45,6 +44,4 @@ returns c =
     record { is = sym (l .inv .2 ∙ past-none _ _ (l .i) (λ e. c .if1 .left (c .before .byte .ensures ∙ e))); within = omega arith }
 
 pub past-blanks-spec : {M : Type 1} → statement M
-past-blanks-spec =
-    tie.close
-    (tie.spec Inv-loop μ-loop loop-holds byte-requires add-i loop-less loop-again returns)
+past-blanks-spec = tie.close (tie.spec Inv-loop μ-loop loop-holds (search needs) add-i loop-less loop-again returns)

@@ -1,4 +1,4 @@
--- `text::hex::real_of` meets its contract. Assumes nothing.
+-- `text::hex::real_of` meets its contract: each way out is its definition's, by the tests that lead there. Assumes nothing.
 use native.Mathlib.Omega.{arith}
 use mathlib.Core.Path.{refl}
 use Rattle.text.specs.DigitLaws.{nan-is, no-nan-bits}

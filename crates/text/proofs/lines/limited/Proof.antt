@@ -1,4 +1,4 @@
--- `text::lines::limited` meets its contract. Assumes nothing.
+-- `text::lines::limited` meets its contract: by the count of floats: as many, fewer, one more, or others. Assumes nothing.
 use mathlib.Core.Path.{sym, _∙_}
 use borrow.Author.Tests.{eq-eqb}
 use Rattle.text.specs.Lines.{limited}
@@ -21,4 +21,4 @@ returns-4 : tie.Need-returns-4
 returns-4 c = limited-one _ _ _ (c .before .before .if2 .left) (c .if3 .left)
 
 pub limited-spec : {M : Type 1} → statement M
-limited-spec = tie.close (tie.spec (λ c κs. search needs) returns (λ c κs. search needs) returns-2 (λ c κs. search needs) returns-3 returns-4)
+limited-spec = tie.close (tie.spec (search needs) returns (search needs) returns-2 (search needs) returns-3 returns-4)

@@ -1,4 +1,4 @@
--- `text::lines::line_at` meets its contract. Assumes nothing.
+-- `text::lines::line_at` meets its contract: each way out is its definition's, by the tests that lead there. Assumes nothing.
 use native.Mathlib.Omega.{arith}
 use borrow.Author.Tests.{not-false}
 use Rattle.geom.specs.Tests.{met, unmet}
@@ -22,4 +22,4 @@ unfolding lineAt
 returns-2 c = simp (met (c .before .before .before .is-at .ensures .is) (c .before .before .if1 .left)) (rw (c .before .words-at .ensures) at (c .ended .ensures))
 
 pub line-at-spec : {M : Type 1} → statement M
-line-at-spec = tie.close (tie.spec (λ c κs. search needs) (λ c κs. search needs) returns after-head words-at-requires (λ c κs. search needs) returns-2)
+line-at-spec = tie.close (tie.spec (search needs) (search needs) returns after-head words-at-requires (search needs) returns-2)

@@ -1,4 +1,4 @@
--- `text::lines::put_float` meets its contract. Assumes nothing.
+-- `text::lines::put_float` meets its contract: each step is its definition's. Assumes nothing.
 use native.Mathlib.Omega.{arith}
 use mathlib.Core.Path.{sym}
 use lib.Seq.{set-out}
@@ -10,4 +10,4 @@ returns : tie.Need-returns
 returns c = sym (set-out _ _ _ (omega arith))
 
 pub put-float-spec : {M : Type 1} → statement M
-put-float-spec = tie.close (tie.spec returns (λ c. search needs) (λ c. search needs) (λ c. search needs))
+put-float-spec = tie.close (tie.spec returns (search needs) (search needs) (search needs))

@@ -1,4 +1,4 @@
--- `text::lines::row_at` meets its contract. Assumes nothing.
+-- `text::lines::row_at` meets its contract: the loop keeps that the row so far, read on, is the whole row; a word that is wrong ends both. Assumes nothing.
 use Prim.Native.Nat.{_+_, _-_, _≤_}
 use native.Mathlib.Omega.{arith}
 use mathlib.Core.Path.{_≡_, refl, sym, _∙_}
@@ -41,16 +41,5 @@ returns-2 c = sym (c .before .loop .inv .3 ∙ row-end _ _ _ (omega arith))
 pub row-at-spec : {M : Type 1} → statement M
 row-at-spec =
     tie.close
-    (tie.spec
-    Inv-loop
-    μ-loop
-    loop-holds
-    (λ c κs. search needs)
-    (λ c. search needs)
-    (λ c. search needs)
-    returns
-    (λ c κs. search needs)
-    (λ c. search needs)
-    (λ c. search needs)
-    loop-again
+    (tie.spec Inv-loop μ-loop loop-holds (search needs) (search needs) (search needs) returns (search needs) (search needs) (search needs) loop-again
     returns-2)

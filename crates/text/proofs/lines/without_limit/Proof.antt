@@ -1,4 +1,4 @@
--- `text::lines::without_limit` meets its contract. Assumes nothing.
+-- `text::lines::without_limit` meets its contract: a blank that is missing, a word that is another, or `none`: each is a law of the definition. Assumes nothing.
 use Prim.Native.Nat.{_<_}
 use mathlib.Core.Path.{sym, _∙_}
 use lib.ListN.{length}
@@ -38,4 +38,7 @@ returns-3 c =
     sym (none-right _ _ _ (sym (blank .before .byte .ensures) ∙ blank .if1 .left) (word .past-blanks .ensures .is) (met (c .before .before .is-at .ensures .is) (c .before .if2 .left)))
 
 pub without-limit-spec : {M : Type 1} → statement M
-without-limit-spec = tie.close (tie.spec (λ c κs. search needs) (λ c κs. search needs) returns after-blank past-blanks-requires (λ c. search needs) (λ c κs. search needs) (λ c κs. search needs) returns-2 after-none returns-3)
+without-limit-spec =
+    tie.close
+    (tie.spec (search needs) (search needs) returns after-blank past-blanks-requires (search needs) (search needs) (search needs) returns-2 after-none
+    returns-3)

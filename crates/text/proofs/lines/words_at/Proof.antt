@@ -1,4 +1,4 @@
--- `text::lines::words_at` meets its contract. Assumes nothing.
+-- `text::lines::words_at` meets its contract: each way out is its definition's, by the tests that lead there. Assumes nothing.
 use Rattle.text.specs.Lines.{wordsAt}
 use borrow.Author.Needs.{needs}
 use Rattle.text.proofs.lines.words_at.Statement.{statement}
@@ -17,4 +17,4 @@ unfolding wordsAt
 returns-3 c = simp (c .enum-told .given .1) (c .before .before .row-at .ensures)
 
 pub words-at-spec : {M : Type 1} → statement M
-words-at-spec = tie.close (tie.spec (λ c κs. search needs) (λ c. search needs) (λ c κs. search needs) (λ c. search needs) (λ c κs. search needs) (λ c. search needs) returns returns-2 returns-3)
+words-at-spec = tie.close (tie.spec (search needs) (search needs) (search needs) (search needs) (search needs) (search needs) returns returns-2 returns-3)

@@ -1,8 +1,7 @@
--- `text_writer::put::put_digits`, which calls itself, meets its contract. Assumes nothing.
+-- `text_writer::put::put_digits`, which calls itself, meets its contract: by induction on the places, the digits before the last, then the last. Assumes nothing.
 use native.Mathlib.Omega.{arith}
 use borrow.Author.Needs.{needs}
-use Prim.Native.Nat.{ℕ, _+_, _-_, _<_}
-use mathlib.Core.Path.{_≡_, sym, _∙_}
+use Prim.Native.Nat.{ℕ, _<_}
 use Rattle.text_writer.proofs.Writing.{digits-one, digits-more, digits-none}
 use Rattle.text_writer.specs.PutLaws.{puts-join, puts-most}
 use borrow.Fn.Kinds.{In}
@@ -28,35 +27,21 @@ Below t = and 1 kinds.ps (falls 1 kinds.ps _<_ μ t) put-digits.Pre
 returns : (t : ℕ) → lts.Need-returns (decimal-byte.Asked, decimal-byte.Learnt, put-byte.Asked, put-byte.Learnt, Below t, put-digits.Post) (Here t) put-digits.Post
 returns t c = digits-none _ _ _ _ (c .if1 .taken)
 
-decimal-byte-requires : (t : ℕ) → lts.Need-decimal-byte-requires (decimal-byte.Asked, decimal-byte.Learnt, put-byte.Asked, put-byte.Learnt, Below t, put-digits.Post) (Here t) put-digits.Post
-decimal-byte-requires t c = λ _. omega arith
-
-put-byte-requires : (t : ℕ) → lts.Need-put-byte-requires (decimal-byte.Asked, decimal-byte.Learnt, put-byte.Asked, put-byte.Learnt, Below t, put-digits.Post) (Here t) put-digits.Post
-put-byte-requires t c = λ _. omega arith
-
-same-length : (t : ℕ) → lts.Need-same-length (decimal-byte.Asked, decimal-byte.Learnt, put-byte.Asked, put-byte.Learnt, Below t, put-digits.Post) (Here t) put-digits.Post
-same-length t c = search needs
-
 returns-2 : (t : ℕ) → lts.Need-returns-2 (decimal-byte.Asked, decimal-byte.Learnt, put-byte.Asked, put-byte.Learnt, Below t, put-digits.Post) (Here t) put-digits.Post
-returns-2 t c = rw (digits-one (c .before .before .before .before .before .before .before .before .args .places) (c .before .before .before .before .before .before .before .before .args .n) (omega arith) (c .before .before .before .before .before .if2 .taken)) (puts-most (omega arith) (rw (c .before .before .before .decimal-byte .ensures) at (c .before .before .put-byte .ensures)))
-
-sub-put-digits : (t : ℕ) → lts.Need-sub-put-digits (decimal-byte.Asked, decimal-byte.Learnt, put-byte.Asked, put-byte.Learnt, Below t, put-digits.Post) (Here t) put-digits.Post
-sub-put-digits t c = omega arith
-
-put-digits-requires : (t : ℕ) → lts.Need-put-digits-requires (decimal-byte.Asked, decimal-byte.Learnt, put-byte.Asked, put-byte.Learnt, Below t, put-digits.Post) (Here t) put-digits.Post
-put-digits-requires t c = λ _. (omega arith, (omega arith, omega arith))
-
-decimal-byte-requires-2 : (t : ℕ) → lts.Need-decimal-byte-requires-2 (decimal-byte.Asked, decimal-byte.Learnt, put-byte.Asked, put-byte.Learnt, Below t, put-digits.Post) (Here t) put-digits.Post
-decimal-byte-requires-2 t c = λ _. omega arith
-
-put-byte-requires-2 : (t : ℕ) → lts.Need-put-byte-requires-2 (decimal-byte.Asked, decimal-byte.Learnt, put-byte.Asked, put-byte.Learnt, Below t, put-digits.Post) (Here t) put-digits.Post
-put-byte-requires-2 t c = λ _. omega arith
-
-same-length-2 : (t : ℕ) → lts.Need-same-length-2 (decimal-byte.Asked, decimal-byte.Learnt, put-byte.Asked, put-byte.Learnt, Below t, put-digits.Post) (Here t) put-digits.Post
-same-length-2 t c = search needs
+returns-2 t c =
+    let at-byte = c .before .before in
+    let small = at-byte .before .before .before in
+    let start = small .before .before .before in
+    rw (digits-one (start .args .places) (start .args .n) (omega arith) (small .if2 .taken)) (puts-most (omega arith) (rw (at-byte .before .decimal-byte .ensures) at (at-byte .put-byte .ensures)))
 
 returns-3 : (t : ℕ) → lts.Need-returns-3 (decimal-byte.Asked, decimal-byte.Learnt, put-byte.Asked, put-byte.Learnt, Below t, put-digits.Post) (Here t) put-digits.Post
-returns-3 t c = rw (digits-more (c .before .before .before .before .before .before .before .before .before .before .before .before .args .places) (c .before .before .before .before .before .before .before .before .before .before .before .before .args .n) (omega arith) (c .before .before .before .before .before .before .before .before .before .if2 .left)) (puts-most (omega arith) (puts-join (c .before .before .before .before .before .before .before .put-digits .ensures) (rw (c .before .before .before .decimal-byte2 .ensures) at (c .before .before .put-byte2 .ensures))))
+returns-3 t c =
+    let at-byte = c .before .before in
+    let at-digits = at-byte .before .before .before .before .before in
+    let large = at-digits .before .before in
+    let start = large .before .before .before in
+    rw (digits-more (start .args .places) (start .args .n) (omega arith) (large .if2 .left))
+    (puts-most (omega arith) (puts-join (at-digits .put-digits .ensures) (rw (at-byte .before .decimal-byte2 .ensures) at (at-byte .put-byte2 .ensures))))
 
 pub +put-digits-spec : {M : Type 1} → statement M
 +put-digits-spec =
@@ -67,13 +52,13 @@ pub +put-digits-spec : {M : Type 1} → statement M
     (Here t)
     put-digits.Post
     (returns t)
-    (decimal-byte-requires t)
-    (put-byte-requires t)
-    (same-length t)
+    (λ c _. omega arith)
+    (λ c _. omega arith)
+    (λ c. search needs)
     (returns-2 t)
-    (sub-put-digits t)
-    (put-digits-requires t)
-    (decimal-byte-requires-2 t)
-    (put-byte-requires-2 t)
-    (same-length-2 t)
+    (λ c. omega arith)
+    (λ c _. (omega arith, (omega arith, omega arith)))
+    (λ c _. omega arith)
+    (λ c _. omega arith)
+    (λ c. search needs)
     (returns-3 t))

@@ -1,4 +1,4 @@
--- `text_writer::put::bits_of` meets its contract. Assumes nothing.
+-- `text_writer::put::bits_of` meets its contract: each step is its definition's. Assumes nothing.
 use lib.Ieee.{toBits}
 use Rattle.text_writer.proofs.Writing.{unequal-nan, equal-no-nan}
 use borrow.Author.Needs.{needs}
@@ -12,8 +12,5 @@ returns c = rw (unequal-nan _ (c .if1 .taken))
 float-to-bits-result : tie.Need-float-to-bits-result
 float-to-bits-result c = equal-no-nan _ (c .if1 .left)
 
-returns-2 : tie.Need-returns-2
-returns-2 c = search needs
-
 pub bits-of-spec : {M : Type 1} → statement M
-bits-of-spec = tie.close (tie.spec returns float-to-bits-result returns-2)
+bits-of-spec = tie.close (tie.spec returns float-to-bits-result (search needs))

@@ -1,4 +1,4 @@
--- `text_writer::put::put_less` meets its contract. Assumes nothing.
+-- `text_writer::put::put_less` meets its contract: the texts that the calls put stand one after another. Assumes nothing.
 use native.Mathlib.Omega.{arith}
 use borrow.Author.Tests.{lt-ltb, le-ltb}
 use Rattle.text_writer.specs.PutLaws.{puts-join, puts-most, whole-less}
@@ -22,4 +22,4 @@ returns-2 c =
     rw (whole-less (a .x) (a .m), le-ltb _ _ (other .if1 .left)) (puts-most (omega arith) (digits .put-digits2 .ensures))
 
 pub put-less-spec : {M : Type 1} → statement M
-put-less-spec = tie.close (tie.spec (λ c κs. search needs) (λ c. search needs) (λ c κs. search needs) (λ c. search needs) returns (λ c κs. search needs) (λ c. search needs) returns-2)
+put-less-spec = tie.close (tie.spec (search needs) (search needs) (search needs) (search needs) returns (search needs) (search needs) returns-2)
