@@ -45,14 +45,14 @@ pub fn time_of(duration: f64, count: usize, index: usize) -> f64
     duration * whole(index) / (whole(count) - 1.0)
 }
 
-fn time(nodes: &[[f64; 22]; 17], k: usize) -> f64
+pub fn time(nodes: &[[f64; 22]; 17], k: usize) -> f64
     requires { ⌜ k < 17 ⌝ }
     ensures { λ r. ⌜ r ≡ Samples.time (now (nodes .entry)) k ⌝ }
 {
     nodes[k][0]
 }
 
-fn attitude(nodes: &[[f64; 22]; 17], k: usize) -> Quat
+pub fn attitude(nodes: &[[f64; 22]; 17], k: usize) -> Quat
     requires { ⌜ k < 17 ⌝ }
     ensures { λ r. ⌜ r ≡ Samples.attitude (now (nodes .entry)) k ⌝ }
 {
@@ -64,7 +64,7 @@ fn attitude(nodes: &[[f64; 22]; 17], k: usize) -> Quat
     }
 }
 
-fn rate(nodes: &[[f64; 22]; 17], k: usize) -> [f64; 3]
+pub fn rate(nodes: &[[f64; 22]; 17], k: usize) -> [f64; 3]
     requires { ⌜ k < 17 ⌝ }
     ensures { λ r. ⌜ r ≡ Samples.rate (now (nodes .entry)) k ⌝ }
 {
@@ -78,7 +78,7 @@ fn torque(nodes: &[[f64; 22]; 17], k: usize) -> [f64; 3]
     [nodes[k][8], nodes[k][9], nodes[k][10]]
 }
 
-fn momentum(nodes: &[[f64; 22]; 17], k: usize) -> [f64; 3]
+pub fn momentum(nodes: &[[f64; 22]; 17], k: usize) -> [f64; 3]
     requires { ⌜ k < 17 ⌝ }
     ensures { λ r. ⌜ r ≡ Samples.momentum (now (nodes .entry)) k ⌝ }
 {
@@ -86,7 +86,7 @@ fn momentum(nodes: &[[f64; 22]; 17], k: usize) -> [f64; 3]
 }
 
 // Node k, at the sample's own time.
-fn at_node(nodes: &[[f64; 22]; 17], k: usize, t: f64) -> Sampled
+pub fn at_node(nodes: &[[f64; 22]; 17], k: usize, t: f64) -> Sampled
     requires { ⌜ k < 17 ⌝ }
     ensures { λ r. ⌜ r ≡ Samples.atNode (now (nodes .entry)) k t ⌝ }
 {
@@ -108,35 +108,35 @@ fn at_node(nodes: &[[f64; 22]; 17], k: usize, t: f64) -> Sampled
 }
 
 // The mean of a and b, the fraction f of the way from a to b.
-fn mean(a: [f64; 3], b: [f64; 3], f: f64) -> [f64; 3]
+pub fn mean(a: [f64; 3], b: [f64; 3], f: f64) -> [f64; 3]
     ensures { λ r. ⌜ r ≡ Samples.mean a b f ⌝ }
 {
     geom::add3(geom::scale3(a, 1.0 - f), geom::scale3(b, f))
 }
 
 // The rate's change from a to b over the time dt.
-fn rate_change(a: [f64; 3], b: [f64; 3], dt: f64) -> [f64; 3]
+pub fn rate_change(a: [f64; 3], b: [f64; 3], dt: f64) -> [f64; 3]
     ensures { λ r. ⌜ r ≡ Samples.rateChange a b dt ⌝ }
 {
     geom::scale3(geom::sub3(b, a), 1.0 / dt)
 }
 
 // The rotation over the time s from the rate w, which changes by wd.
-fn rotation(w: [f64; 3], wd: [f64; 3], s: f64) -> [f64; 3]
+pub fn rotation(w: [f64; 3], wd: [f64; 3], s: f64) -> [f64; 3]
     ensures { λ r. ⌜ r ≡ Samples.rotation w wd s ⌝ }
 {
     geom::add3(geom::scale3(w, s), geom::scale3(wd, 0.5 * s * s))
 }
 
-// The sample s with its attitude turned by v.
-fn turned(tolerance: f64, s: PathSample, v: [f64; 3], index: usize) -> Sampled
-    ensures { λ r. ⌜ r ≡ Samples.turned tolerance s v index ⌝ }
+// The sample s with its attitude turned by a turn that was worked out before.
+pub fn turned_by(turn: Turned, tolerance: f64, s: PathSample, index: usize) -> Sampled
+    ensures { λ r. ⌜ r ≡ Samples.turnedBy turn tolerance s index ⌝ }
 {
     let q0 = s.q;
     let w = s.w;
     let tau = s.tau;
     let h = s.h;
-    let Turned::Is(e) = geom::exp_so3(v) else {
+    let Turned::Is(e) = turn else {
         return refused(11, index);
     };
     let Normal::Is(q) = q0.mul(e).normalized(tolerance) else {
@@ -153,6 +153,13 @@ fn turned(tolerance: f64, s: PathSample, v: [f64; 3], index: usize) -> Sampled
         fate: Fate::Going,
         sample: sample,
     }
+}
+
+// The sample s with its attitude turned by v.
+fn turned(tolerance: f64, s: PathSample, v: [f64; 3], index: usize) -> Sampled
+    ensures { λ r. ⌜ r ≡ Samples.turned tolerance s v index ⌝ }
+{
+    turned_by(geom::exp_so3(v), tolerance, s, index)
 }
 
 // The sample at the time t between node i and the next.

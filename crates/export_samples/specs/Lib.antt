@@ -1,0 +1,3 @@
+-- The C interface of a path's dense samples as one list.
+-- ---- meaning
+pub mod Entries  -- what is asked for, what is told of it, what is written

@@ -1,0 +1,3 @@
+-- Lemmas on a list in the code's steps, and on the samples that are under way.
+mod Listing
+mod Pipeline
