@@ -6,7 +6,7 @@
 PREFIX = /usr/local
 version := $(shell sed -n 's/^.define SLEW_VERSION "\(.*\)"/\1/p' include/slew.h)
 major := $(firstword $(subst ., ,$(version)))
-names = export export_runs export_board export_mosaic export_preview export_eigenaxis export_tools
+names = export export_runs export_samples export_board export_mosaic export_preview export_eigenaxis export_tools
 archives = $(names:%=target/staticlib/lib%.a)
 shared = target/lib/libslew.so
 

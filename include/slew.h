@@ -30,7 +30,7 @@
 #define SLEW_H
 
 /* The interface's version: the first number changes where a caller has to, the second where something is added. */
-#define SLEW_VERSION "3.0.0"
+#define SLEW_VERSION "3.1.0"
 
 #include <stdbool.h>
 #include <stddef.h>
@@ -145,6 +145,13 @@ size_t slew_sample_path(const double inertia[9], double tolerance, double durati
                         size_t requested, double alpha, size_t index,
                         double sample[14], size_t *place);
 
+/* All dense samples of a path in one call, in libexport_samples.a: row number i is what slew_sample_path gives for index i, bit for bit, in about two thirds of the time of one call a
+ * sample. The first slew_sample_count of `rows` are written; `written` gets how many, and what stands behind them stays. Returns 0; or the number of the first sample that is refused, and
+ * the rows before it are written; or 20 for too many samples. `place` gets the refusal's place, or 0. Fewer rows lent than there are samples get nothing: 99 is returned. */
+size_t slew_sample_list(const double inertia[9], double tolerance, double duration, const double nodes[374],
+                        size_t requested, double alpha,
+                        double (*rows)[14], size_t rows_count, size_t *written, size_t *place);
+
 /* A whole mosaic, in libexport_mosaic.a: 2 to 64 attitudes, a slew from rest to rest from each to the next (a leg), the first with the wheels turning as the body's momenta
  * say, each later one as the leg before it ended. The problem is declared as above; the attitudes of `body` are not read. Each leg is what slew_plan_numbers, or by a way about one
  * axis slew_plan_eigenaxis_numbers, gives for that leg alone, with these momenta in `body`. The first refused leg ends the mosaic; the legs before it stand.
@@ -238,7 +245,7 @@ size_t slew_board_list(const double inertia[9], double tolerance, double duratio
 /* Below: functions that stand beside a plan. Link target/staticlib/libexport_tools.a, which `rt staticlib export_tools` writes. */
 
 /* What a refusal means, in the sentence that the programs print: number, place and forward runs as a call returned and told them; 0 runs where it tells none. `sampled` is true where a
- * dense sample was refused and not a plan: of slew_sample_path, slew_board_sample and slew_board_list, and of slew_sample where slew_plan answers the same text with a path. The answer is
+ * dense sample was refused and not a plan: of slew_sample_path, slew_sample_list, slew_board_sample and slew_board_list, and of slew_sample where slew_plan answers the same text with a path. The answer is
  * how many bytes the sentence has, its line feed too; as many of them as `out` holds are put there, without a final zero. 256 bytes hold every sentence. */
 size_t slew_explain(size_t number, size_t place, size_t runs, bool sampled, uint8_t *out, size_t out_count);
 

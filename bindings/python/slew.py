@@ -18,7 +18,7 @@ import math
 import os
 import struct
 from dataclasses import dataclass, field, replace
-from typing import Any, Callable, Iterator, Optional, Sequence, Tuple, Union
+from typing import Any, Callable, Iterator, List, Optional, Sequence, Tuple, Union
 
 __all__ = ["Planner", "Problem", "Record", "Preview", "Weights", "Wheel", "Thruster", "Pyramid", "Path", "Node", "Sample", "Order", "Refused", "turn", "after", "replace"]
 
@@ -245,7 +245,7 @@ class Planner:
         except OSError as fault:
             raise OSError(f"{path} cannot be loaded: run `make shared` at the top of the repository, or name the library in SLEW_LIBRARY") from fault
         for name in ("slew_plan", "slew_plan_from", "slew_plan_numbers", "slew_plan_from_numbers", "slew_reconstruct", "slew_problem_profile", "slew_sample_count",
-                     "slew_sample_path", "slew_board_sample", "slew_order", "slew_outcome", "slew_reply", "slew_encode_planes", "slew_decode_planes",
+                     "slew_sample_path", "slew_sample_list", "slew_board_sample", "slew_order", "slew_outcome", "slew_reply", "slew_encode_planes", "slew_decode_planes",
                      "slew_explain", "slew_canonical", "slew_plan_eigenaxis_numbers", "slew_mosaic_next", "slew_start"):
             getattr(self._library, name).restype = c.c_size_t
         self._library.slew_region.restype = None
@@ -387,6 +387,17 @@ class Planner:
             sample, place = (c.c_double * 14)(), c.c_size_t()
             self._refuse(self._library.slew_sample_path(*arguments, sample, c.byref(place)), place.value, 0, sampled=True)
             yield _sample(sample[:])
+
+    def sample_list(self, path: Path, requested: int, alpha: Optional[float] = None) -> List[Sample]:
+        """The same samples as one list, in one call."""
+        alpha = self._alpha(path) if alpha is None else alpha
+        count = self.sample_count(path, requested, alpha)
+        rows, written, place = (c.c_double * (14 * count))(), c.c_size_t(), c.c_size_t()
+        number = self._library.slew_sample_list(_nine(path.problem.inertia_kgm2), c.c_double(path.problem.norm_tolerance), c.c_double(path.duration),
+                                                _doubles(path.numbers, 374, "the nodes"), c.c_size_t(requested), c.c_double(alpha),
+                                                rows, c.c_size_t(count), c.byref(written), c.byref(place))
+        self._refuse(number, place.value, 0, sampled=True)
+        return [_sample(rows[at:at + 14]) for at in range(0, 14 * count, 14)]
 
     def board(self, path: Path, requested: int, alpha: Optional[float] = None) -> Iterator[Tuple[int, ...]]:
         """The same as the drive board takes them: 13 whole numbers each."""

@@ -240,6 +240,7 @@ class Samples(unittest.TestCase):
         self.assertEqual([s.t for s in samples], [path.duration * i / 418.0 for i in range(419)])
         self.assertEqual((samples[0].q, samples[-1].q), (path.nodes[0].q, path.nodes[16].q))
         self.assertEqual(len(list(self.planner.samples(path, 100, alpha=0.0))), 100)
+        self.assertEqual(self.planner.sample_list(path, 100), samples)
 
     def test_board(self):
         path = self.planner.plan(quarter())

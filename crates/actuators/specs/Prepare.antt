@@ -59,13 +59,13 @@ abbrev pub refused : ℕ → ℕ → Prepared
 refused n place = record { fate = Refused n place; map = blankMap }
 
 -- the map so far
-abbrev pub going : ActuatorMap → Prepared
-going m = record { fate = Going; map = m }
+abbrev pub soFar : ActuatorMap → Prepared
+soFar m = record { fate = Going; map = m }
 
 -- what `unit3` says of an actuator's axis decides: 3 where it refuses, else the map that f makes with the unit axis
 abbrev pub placed : ℕ → Axis → (Float → Float → Float → ActuatorMap) → Prepared
 placed place Not f = refused 3 place
-placed place (Is x y z) f = going (f x y z)
+placed place (Is x y z) f = soFar (f x y z)
 
 -- one actuator's check: its numbers (2) before its axis (3)
 abbrev pub checked : Bool → ℕ → Axis → (Float → Float → Float → ActuatorMap) → Prepared
@@ -146,8 +146,8 @@ thrustersChecked ts p n = iter (thrusterTurn ts) p n
 
 -- the pyramid's check: its numbers alone
 abbrev pub cmgsChecked : Cmgs → ActuatorMap → Prepared
-cmgsChecked Without m = going m
-cmgsChecked (With p) m = cond (pyramidOutside p) (refused 2 20) (going m)
+cmgsChecked Without m = soFar m
+cmgsChecked (With p) m = cond (pyramidOutside p) (refused 2 20) (soFar m)
 
 -- the pyramid after the actuators before it
 unfoldable pub cmgsNext : Cmgs → Prepared → Prepared
@@ -160,7 +160,7 @@ unfoldable pub filled : Actuators → Prepared
 filled a =
     cmgsNext (a .cmgs)
     (thrustersChecked (a .thrusters)
-    (wheelsChecked (a .wheels) (going (unfilled (a .«wheel_count») (a .«thruster_count») (a .cmgs))) (a .«wheel_count»))
+    (wheelsChecked (a .wheels) (soFar (unfilled (a .«wheel_count») (a .«thruster_count») (a .cmgs))) (a .«wheel_count»))
     (a .«thruster_count»))
 
 -- the map of what a user declares, or the first refusal: 1 for the counts (place 0 wheels, 1 thrusters), then 2 and 3 actuator by actuator

@@ -4,13 +4,14 @@ use mathlib.Core.Bool.{false}
 use mathlib.Core.List.{List, [], _∷_}
 use lib.Ieee.{Float, binary64, add, mul, neg, inf}
 use lib.ListN.{replicate}
+use Rattle.common.specs.Floats.{plusZero}
 use Rattle.common.specs.Lists.{at}
 use Rattle.common.specs.declared.Fate.{Fate}
 use Rattle.common.specs.declared.Fate.the-variants.{Going, Refused}
 use Rattle.angles.specs.declared.Both.{Both}
 use Rattle.angles.specs.declared.Both.the-variants as Both
 use Rattle.angles.specs.Both.{bothOf}
-use Rattle.geom.specs.Vec.{row, plusZero, det3}
+use Rattle.geom.specs.Vec.{row, det3}
 use Rattle.actuators.specs.declared.Cmgs.{Cmgs}
 use Rattle.actuators.specs.declared.Cmgs.the-variants.{Without, With}
 use Rattle.actuators.specs.declared.ActuatorMap.{ActuatorMap}

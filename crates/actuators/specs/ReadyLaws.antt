@@ -156,7 +156,7 @@ pub record Sound (a : Actuators) (m : ActuatorMap) : Type 0 where
   pub pyramid : (p : CmgPyramid) → a .cmgs ≡ With p → Prepare.pyramidOutside p ≡ false
 
 module _ (a : Actuators) (h : a .«wheel_count» ≤ 8) (i : a .«thruster_count» ≤ 12) (m : ActuatorMap) (r : Ready a (a .«wheel_count») (a .«thruster_count») m) where
-  sound-with : (out : Bool) (p : CmgPyramid) → a .cmgs ≡ With p → Prepare.pyramidOutside p ≡ out → Holds (Sound a) (cond out (Prepare.refused 2 20) (Prepare.going m))
+  sound-with : (out : Bool) (p : CmgPyramid) → a .cmgs ≡ With p → Prepare.pyramidOutside p ≡ out → Holds (Sound a) (cond out (Prepare.refused 2 20) (Prepare.soFar m))
   sound-with true p e o g = never g
   sound-with false p e o g = record { wheels-fit = h; thrusters-fit = i; ready = r; pyramid = λ q f. let same : p ≡ q = cc in rw (← same) o }
 
@@ -167,7 +167,7 @@ module _ (a : Actuators) (h : a .«wheel_count» ≤ 8) (i : a .«thruster_count
 filled-sound : (a : Actuators) → a .«wheel_count» ≤ 8 → a .«thruster_count» ≤ 12 → Holds (Sound a) (Prepare.filled a)
 unfolding Prepare.filled Prepare.cmgsNext Prepare.wheelsChecked Prepare.thrustersChecked
 filled-sound a h i =
-    let start = Prepare.going (Maps.unfilled (a .«wheel_count») (a .«thruster_count») (a .cmgs)) in
+    let start = Prepare.soFar (Maps.unfilled (a .«wheel_count») (a .«thruster_count») (a .cmgs)) in
     let wheeled = Prepare.wheelsChecked (a .wheels) start (a .«wheel_count») in
     let thrusting = Prepare.thrustersChecked (a .thrusters) wheeled (a .«thruster_count») in
     past-turn (Sound a) (thrusting .fate) thrusting (Prepare.cmgsChecked (a .cmgs) (thrusting .map)) refl

@@ -16,6 +16,8 @@ use crate::blank_map;
 use crate::unfilled;
 use common::Fate;
 use common::Limit;
+use common::MAX_THRUSTERS;
+use common::MAX_WHEELS;
 use geom::Axis;
 use geom::is_positive;
 use geom::unit3;
@@ -68,8 +70,8 @@ fn refused(number: usize, place: usize) -> Prepared
 }
 
 // The map so far.
-fn going(map: ActuatorMap) -> Prepared
-    ensures { λ r. ⌜ r ≡ Prepare.going map ⌝ }
+fn so_far(map: ActuatorMap) -> Prepared
+    ensures { λ r. ⌜ r ≡ Prepare.soFar map ⌝ }
 {
     Prepared {
         fate: Fate::Going,
@@ -134,12 +136,12 @@ fn wheel_turn(prepared: Prepared, k: usize, wheel: Wheel) -> Prepared
     let unit = unit3(axis);
     match unit {
         Axis::Not => refused(3, k),
-        Axis::Is(x, y, z) => going(with_wheel(map, k, wheel, x, y, z)),
+        Axis::Is(x, y, z) => so_far(with_wheel(map, k, wheel, x, y, z)),
     }
 }
 
 // The first `count` wheels.
-fn wheels_checked(wheels: [Wheel; 8], count: usize, start: Prepared) -> Prepared
+fn wheels_checked(wheels: [Wheel; MAX_WHEELS], count: usize, start: Prepared) -> Prepared
     requires { ⌜ count ≤ 8 ⌝ }
     ensures { λ r. ⌜ r ≡ Prepare.wheelsChecked wheels start count ⌝ }
 {
@@ -204,12 +206,16 @@ fn thruster_turn(prepared: Prepared, k: usize, thruster: Thruster) -> Prepared
     let unit = unit3(axis);
     match unit {
         Axis::Not => refused(3, 8 + k),
-        Axis::Is(x, y, z) => going(with_thruster(map, k, thruster, x, y, z)),
+        Axis::Is(x, y, z) => so_far(with_thruster(map, k, thruster, x, y, z)),
     }
 }
 
 // The first `count` thrusters.
-fn thrusters_checked(thrusters: [Thruster; 12], count: usize, start: Prepared) -> Prepared
+fn thrusters_checked(
+    thrusters: [Thruster; MAX_THRUSTERS],
+    count: usize,
+    start: Prepared,
+) -> Prepared
     requires { ⌜ count ≤ 12 ⌝ }
     ensures { λ r. ⌜ r ≡ Prepare.thrustersChecked thrusters start count ⌝ }
 {
@@ -233,12 +239,12 @@ fn cmgs_turn(prepared: Prepared, cmgs: Cmgs) -> Prepared
     };
     let map = prepared.map;
     match cmgs {
-        Cmgs::Without => going(map),
+        Cmgs::Without => so_far(map),
         Cmgs::With(pyramid) => {
             if pyramid_outside(pyramid) {
                 refused(2, 20)
             } else {
-                going(map)
+                so_far(map)
             }
         }
     }
@@ -250,16 +256,16 @@ pub fn prepare(a: Actuators) -> Prepared
 {
     let wheel_count = a.wheel_count;
     let thruster_count = a.thruster_count;
-    if wheel_count > 8 {
+    if wheel_count > MAX_WHEELS {
         return refused(1, 0);
     }
-    if thruster_count > 12 {
+    if thruster_count > MAX_THRUSTERS {
         return refused(1, 1);
     }
     let wheels = a.wheels;
     let thrusters = a.thrusters;
     let cmgs = a.cmgs;
-    let start = going(unfilled(wheel_count, thruster_count, cmgs));
+    let start = so_far(unfilled(wheel_count, thruster_count, cmgs));
     let wheeled = wheels_checked(wheels, wheel_count, start);
     let thrusting = thrusters_checked(thrusters, thruster_count, wheeled);
     cmgs_turn(thrusting, cmgs)

@@ -5,6 +5,8 @@ ghost use mathlib.Core.Path.{_≡_};
 ghost use Rattle.actuators.specs.Maps as Maps;
 use common::Fate;
 use common::Limit;
+use common::MAX_THRUSTERS;
+use common::MAX_WHEELS;
 
 mod allocation;
 mod checks;
@@ -45,9 +47,9 @@ pub enum Cmgs {
 
 // What a user fills: the first `wheel_count` wheels and the first `thruster_count` thrusters count.
 pub struct Actuators {
-    pub wheels: [Wheel; 8],
+    pub wheels: [Wheel; MAX_WHEELS],
     pub wheel_count: usize,
-    pub thrusters: [Thruster; 12],
+    pub thrusters: [Thruster; MAX_THRUSTERS],
     pub thruster_count: usize,
     pub cmgs: Cmgs,
 }
@@ -65,7 +67,7 @@ pub struct ActuatorMap {
     pub wheel_axes: [f64; 24],
     pub wheel_torques: [f64; 8],
     pub wheel_momenta: [f64; 8],
-    pub wheel_powers: [Power; 8],
+    pub wheel_powers: [Power; MAX_WHEELS],
     pub thruster_axes: [f64; 36],
     pub thruster_torques: [f64; 12],
 }
@@ -123,9 +125,9 @@ pub fn no_actuators() -> Actuators
     ensures { λ r. ⌜ r ≡ Maps.noActuators ⌝ }
 {
     let wheel = blank_wheel();
-    let wheels = [wheel; 8];
+    let wheels = [wheel; MAX_WHEELS];
     let thruster = blank_thruster();
-    let thrusters = [thruster; 12];
+    let thrusters = [thruster; MAX_THRUSTERS];
     Actuators {
         wheels: wheels,
         wheel_count: 0,
@@ -145,7 +147,7 @@ pub fn unfilled(wheel_count: usize, thruster_count: usize, cmgs: Cmgs) -> Actuat
     let power = Power {
         limit: Limit::Nothing,
     };
-    let wheel_powers = [power; 8];
+    let wheel_powers = [power; MAX_WHEELS];
     let thruster_axes = [0.0; 36];
     let thruster_torques = [0.0; 12];
     ActuatorMap {

@@ -11,7 +11,8 @@ use lib.Ieee.{Float, nan, inf, fin, binary64, up, down, round, mul, lt, le, eq, 
 use lib.Ieee.Fits.{down-pos, and-l, and-r}
 use lib.Ieee.Exact.{HasValue, round-exact}
 use lib.Ieee.Nearest.{div-same}
-use Rattle.angles.specs.Angles.{sizeOf, one}
+use Rattle.common.specs.Floats.{one}
+use Rattle.angles.specs.Angles.{sizeOf}
 use Rattle.angles.specs.Arcs.{none, inUnit}
 use Rattle.angles.proofs.Tests.{yes, both-true, lt-or-eq}
 

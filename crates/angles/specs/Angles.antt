@@ -6,6 +6,7 @@ use lib.IntN.{ℤ, pos, negsuc, negℤ, _+ℤ_, _-ℤ_, _*ℤ_}
 use lib.Signed.{quotZ, shrZ}
 use lib.Ieee.{Float, nan, inf, fin, binary64, ofBits, round, lt, le, neg}
 use lib.Ieee.Positive.{num, den}
+use Rattle.common.specs.Floats.{one}
 use Rattle.angles.specs.declared.Angle.{Angle}
 use Rattle.angles.specs.declared.Angle.the-variants as Angle
 use Rattle.angles.specs.declared.Zone.{Zone}
@@ -25,10 +26,6 @@ most = ofBits binary64 0x4090_0000_0000_0000
 -- 2 ^ -26
 abbrev pub least : Float
 least = ofBits binary64 0x3e50_0000_0000_0000
-
--- 1
-abbrev pub one : Float
-one = ofBits binary64 0x3ff0_0000_0000_0000
 
 -- the size is at most 1,024, which no NaN's is
 unfoldable pub inRange : Float → Bool

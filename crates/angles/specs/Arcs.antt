@@ -2,10 +2,11 @@
 use mathlib.Core.Bool.{Bool, false, cond, _&&_}
 use Prim.Native.Nat.{ℕ, zero, suc, _+_, _-_, _*_, _/_, _^_}
 use lib.Ieee.{Float, binary64, ofBits, round, le}
+use Rattle.common.specs.Floats.{one}
 use Rattle.wide.specs.Isqrt.{isqrt}
 use Rattle.angles.specs.declared.Angle.{Angle}
 use Rattle.angles.specs.declared.Angle.the-variants as Angle
-use Rattle.angles.specs.Angles.{sizeOf, one}
+use Rattle.angles.specs.Angles.{sizeOf}
 
 -- +0
 abbrev pub none : Float

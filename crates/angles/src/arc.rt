@@ -9,7 +9,7 @@ ghost use Rattle.angles.specs.SizesInner.{ArcAt, ArcFits};
 use super::fixed::over_60;
 use super::series::Ended;
 use super::series::mul_shift;
-use super::series::over;
+use super::series::quotient;
 use std::num::truncating_f64_to_u64;
 use wide::product::high_product;
 
@@ -26,7 +26,7 @@ fn arc_term(a: Arc, h: u64, n: u64) -> Arc
 {
     let share = 0x8000_0000_0000_0000 / (n + 1);
     Arc {
-        sum: a.sum + over(a.p, 2 * n + 1),
+        sum: a.sum + quotient(a.p, 2 * n + 1),
         p: high_product(mul_shift(a.p, h), 0xffff_ffff_ffff_ffff - (share - 1)),
     }
 }

@@ -21,7 +21,7 @@ pub fn mul_shift(t: u64, u: u64) -> u64
 }
 
 // q / d as one product, with the whole number next above 2^64 / d: exact where q * d is below 2^64.
-pub fn over(q: u64, d: u64) -> u64
+pub fn quotient(q: u64, d: u64) -> u64
     requires { ⌜ (2 ≤ d) × (q * d < 2 ^ 64) ⌝ }
     ensures { λ r. ⌜ r ≡ q / d ⌝ }
 {
@@ -33,7 +33,7 @@ pub fn next_term(t: u64, u: u64, d: u64) -> u64
     requires { ⌜ (u < 2 ^ 60) × (2 ≤ d) × (t * d < 2 ^ 64) ⌝ }
     ensures { λ r. ⌜ r ≡ nextOf u d t ⌝ }
 {
-    over(mul_shift(mul_shift(t, u), u), d)
+    quotient(mul_shift(mul_shift(t, u), u), d)
 }
 
 // The upper word of (16 u)^2.

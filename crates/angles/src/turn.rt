@@ -107,7 +107,8 @@ fn magnitude(x: f64) -> f64
 
 // The quarters, modulo 4, and the rest of an argument whose size is t's; a negative one's are negated.
 fn mirrored(t: Turn, negative: bool) -> Turn
-    ensures { λ r. ⌜ ((x : Float) (y : ℕ) → scaled x ≡ signed negative y → TurnOf y (t .quarter) (t .size) (t .below) → Reduced x (r .quarter) (r .below) (r .size)) ⌝ }
+    ensures { λ r. ⌜ ((x : Float) (y : ℕ) → scaled x
+        ≡ signed negative y → TurnOf y (t .quarter) (t .size) (t .below) → Reduced x (r .quarter) (r .below) (r .size)) ⌝ }
 {
     if negative {
         Turn {

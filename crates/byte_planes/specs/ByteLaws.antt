@@ -9,7 +9,7 @@ use borrow.Author.Count.{below-more}
 use lib.Pow.{pow-add, shr-shr}
 use lib.ListN.{length, getD, length-append, length-map, List·getD-append, List·getD-map}
 use lib.Seq.{getD-append-add}
-use Rattle.common.specs.Iter.{row-end}
+use Rattle.common.specs.IterLaws.{row-end}
 use Rattle.byte_planes.specs.Planes.{Below, byteOf, plane, firstPlanes, wordAt, wordsFrom}
 
 -- ---- planes

@@ -6,7 +6,7 @@ use native.Mathlib.Nat.{suc-mul, zero-mul, zero-add}
 use native.Mathlib.Omega.{arith}
 use lib.ListN.{length, getD, take, drop, length-drop, length-map}
 use lib.Seq.{take-all, take-add, length-take-le, getD-take, getD-drop, ext-getD}
-use Rattle.common.specs.Iter.{row-end}
+use Rattle.common.specs.IterLaws.{row-end}
 use Rattle.byte_planes.specs.Planes.{Below, deltasFrom, deltas, byteOf, plane, firstPlanes, planes, wordAt, wordsFrom, restoredFrom, restored, column}
 use Rattle.byte_planes.specs.DeltaLaws.{restored-deltas, deltas-restored, deltas-from-zero, length-deltas, length-restored-from, deltas-below, restored-below}
 use Rattle.byte_planes.specs.ByteLaws as Bytes

@@ -67,7 +67,7 @@ unfolding iter Prepare.thrusterNext Prepare.thrusterChecked
 thrusters ts p zero h = h
 thrusters ts p (suc n) h = let q = iter (Prepare.thrusterTurn ts) p n in onward (q .fate) q (Prepare.thrusterChecked (q .map) n (thrusterAt ts n)) (thrusters ts p n h) (checked (Prepare.outside (thrusterAt ts n .«max_torque_nm»)) (8 + n) (unit3 (thrusterAt ts n .«torque_axis»)) (Prepare.withThruster (q .map) n (thrusterAt ts n)))
 
-gyros-by : (b : Bool) (m : ActuatorMap) → Other (cond b (Prepare.refused 2 20) (Prepare.going m) .fate)
+gyros-by : (b : Bool) (m : ActuatorMap) → Other (cond b (Prepare.refused 2 20) (Prepare.soFar m) .fate)
 gyros-by true m = another 2 20 (λ e. omega (arith, e))
 gyros-by false m = goes
 
@@ -78,7 +78,7 @@ gyros (With p) m = gyros-by (Prepare.pyramidOutside p) m
 filled : (a : Actuators) → Other (Prepare.filled a .fate)
 unfolding Prepare.filled Prepare.cmgsNext Prepare.wheelsChecked Prepare.thrustersChecked
 filled a =
-    let w = iter (Prepare.wheelTurn (a .wheels)) (Prepare.going (unfilled (a .«wheel_count») (a .«thruster_count») (a .cmgs))) (a .«wheel_count») in
+    let w = iter (Prepare.wheelTurn (a .wheels)) (Prepare.soFar (unfilled (a .«wheel_count») (a .«thruster_count») (a .cmgs))) (a .«wheel_count») in
     let t = iter (Prepare.thrusterTurn (a .thrusters)) w (a .«thruster_count») in
     onward (t .fate) t (Prepare.cmgsChecked (a .cmgs) (t .map)) (thrusters (a .thrusters) w (a .«thruster_count») (wheels (a .wheels) _ (a .«wheel_count») goes)) (gyros (a .cmgs) (t .map))
 

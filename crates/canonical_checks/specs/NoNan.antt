@@ -10,6 +10,7 @@ use lib.Dec.{T, ltb}
 use lib.ListN.{getD}
 use lib.Ieee.{Float, nan, inf, fin, lt, ofBits, ofFields}
 use lib.Ieee.Scale.{finite}
+use Rattle.common.specs.Floats.{one, plusZero}
 use Rattle.common.specs.Iter.{iter}
 use Rattle.common.specs.Lists.{at}
 use Rattle.common.specs.declared.Fate.{Fate}
@@ -17,12 +18,12 @@ use Rattle.common.specs.declared.Fate.the-variants.{Going, Refused}
 use Rattle.common.specs.declared.Limit.{Limit}
 use Rattle.common.specs.declared.Limit.the-variants.{Nothing, At}
 use Rattle.float.specs.Ops.{abs}
-use Rattle.laws.specs.Finite.{finites}
-use Rattle.laws.specs.Below.{below-next}
+use Rattle.float_laws.specs.Finite.{finites}
+use Rattle.float_laws.specs.Below.{below-next}
 use Rattle.geom.specs.declared.Normal.{Normal}
 use Rattle.geom.specs.declared.Normal.the-variants as Normal
 use Rattle.geom.specs.declared.Quat.{Quat}
-use Rattle.geom.specs.Vec.{tensor, det3, minor, plusZero, one, isPositive}
+use Rattle.geom.specs.Vec.{tensor, det3, minor, isPositive}
 use Rattle.geom.specs.Quats.{norm3, normalized, finiteQ, unit3, unitBy, least}
 use Rattle.geom.specs.Tensors.{invertSpd, isSpd, symmetric, definite}
 use Rattle.actuators.specs.declared.Wheel.{Wheel}
@@ -162,11 +163,11 @@ shifted P v d n h i l = let e : 0 + i ≡ i = omega arith in rw e (h i l)
 actuators-sane : (a : Actuators) → Prepare.filled a .fate ≡ Going → Sane (actuators a)
 unfolding Prepare.filled Prepare.cmgsNext Prepare.wheelsChecked Prepare.thrustersChecked actuators
 actuators-sane a h =
-    let w = iter (Prepare.wheelTurn (a .wheels)) (Prepare.going (unfilled (a .«wheel_count») (a .«thruster_count») (a .cmgs))) (a .«wheel_count») in
+    let w = iter (Prepare.wheelTurn (a .wheels)) (Prepare.soFar (unfilled (a .«wheel_count») (a .«thruster_count») (a .cmgs))) (a .«wheel_count») in
     let t = iter (Prepare.thrusterTurn (a .thrusters)) w (a .«thruster_count») in
     let o = onward (t .fate) t (Prepare.cmgsChecked (a .cmgs) (t .map)) refl h in
     let ts = thrusters-sane (a .thrusters) w (a .«thruster_count») (o .0) in
-    let ws = wheels-sane (a .wheels) (Prepare.going (unfilled (a .«wheel_count») (a .«thruster_count») (a .cmgs))) (a .«wheel_count») (ts .0) in
+    let ws = wheels-sane (a .wheels) (Prepare.soFar (unfilled (a .«wheel_count») (a .«thruster_count») (a .cmgs))) (a .«wheel_count») (ts .0) in
     let end : List Piece = lit (bytes "))\n") ∷ [] in
     listed-sane noWheel wheel (a .«wheel_count») 0 (a .wheels) (map thruster (thrustersOf a) ++ gyros (a .cmgs)) end (shifted (λ x. Sane (entry (wheel x))) (a .wheels) noWheel (a .«wheel_count») (ws .1))
     (listed-sane noThruster thruster (a .«thruster_count») 0 (a .thrusters) (gyros (a .cmgs)) end (shifted (λ x. Sane (entry (thruster x))) (a .thrusters) noThruster (a .«thruster_count») (ts .1))
@@ -197,7 +198,7 @@ inertia-finite j h = go (symmetric j && definite j) refl
         let n = minor (at (getD j 0 []) 0) (at (getD j 1 []) 1) (at (getD j 0 []) 1) (at (getD j 1 []) 0) in
         let m = both (isPositive a) (isPositive n && isPositive (det3 j)) d .1 in
         let p = both (isPositive n) (isPositive (det3 j)) m .1 in
-        positive-finite (det3 j) (p .1)
+        positive-finite (det3 j) p
     go false e = never (rw e at h)
 
 abbrev FiniteQ : Quat → Type 0

@@ -9,7 +9,7 @@ use Rattle.actuators.specs.Maps.{noActuators}
 use Rattle.text.specs.Bytes.{bytes}
 use Rattle.text.specs.Hex.{digit, more, hexAt, realAt, digitByte, hexText, realText}
 use Rattle.text.specs.Forms.{past, pastBlanks}
-use Rattle.text.specs.Lines.{isAt, wordAt, noneAt, rowFrom, rowAt, floats, withoutLimit, limited, wordsAt, ended, lineAt}
+use Rattle.text.specs.Lines.{isAt, wordAt, noneAt, rowFrom, rowAt, floats, withoutLimit, limited, wordsAt, withTail, lineAt}
 use Rattle.problem_text.specs.Listing.{itemAt, withWheel, withThruster, withPyramid, withItem, endAt, closeAt, nextLine, firstLine, listAt}
 use Rattle.problem_text.specs.Reader.{withRow, nextLine as lineNext, linesFrom, headAt, withList, nextList, judgeCount, problemOf, readOf, readIn}
 use Rattle.canonical_laws.specs.Strict.{capital, strictMore, strictHexAt, otherNan, strictRealAt, strict}
@@ -31,7 +31,7 @@ Strictly t r = readIn strict (bytes t) .fate ≡ r
 becomes :
     Becomes (text "  3ff 0  00 0000000000000000" "" " (actuators))\n") (text "3FF 0 0 0" "" " (actuators))\n")
     × Becomes (text "3FF0000000000001 80 7ff1 0" "  aB0" " (actuators\n  (wheel  0 0 1 10 20  none)\n  (cmg 0 0 0 0)))\n") (text "3FF0000000000001 8 7FF8 0" " AB" " (actuators\n  (wheel 0 0 1 1 2 none)\n  (cmg 0 0 0 0)))\n")
-unfolding digit more hexAt realAt isAt past pastBlanks wordAt noneAt rowFrom rowAt floats withoutLimit limited wordsAt ended lineAt itemAt withWheel withThruster withPyramid withItem endAt closeAt nextLine firstLine listAt withRow lineNext linesFrom headAt withList nextList judgeCount problemOf readOf readIn iter noActuators actuators pieces print digitByte hexText toBits ofBits ofFields
+unfolding digit more hexAt realAt isAt past pastBlanks wordAt noneAt rowFrom rowAt floats withoutLimit limited wordsAt withTail lineAt itemAt withWheel withThruster withPyramid withItem endAt closeAt nextLine firstLine listAt withRow lineNext linesFrom headAt withList nextList judgeCount problemOf readOf readIn iter noActuators actuators pieces print digitByte hexText toBits ofBits ofFields
 becomes = (refl, refl)
 
 -- the strict form takes none of what the reader takes besides, and no NaN but 7FF8
@@ -41,7 +41,7 @@ strictly :
     × Strictly (text "3ff 0 0 0" "" " (actuators))\n") (Refused 21 3)
     × Strictly (text "3FF0 0 0 0" "" " (actuators))\n") (Refused 21 3)
     × Strictly (text "3FF 7FF1 0 0" "" " (actuators))\n") (Refused 21 3)
-unfolding digit more hexAt realAt isAt past pastBlanks wordAt noneAt rowFrom rowAt floats withoutLimit limited wordsAt ended lineAt itemAt withWheel withThruster withPyramid withItem endAt closeAt nextLine firstLine listAt withRow lineNext linesFrom headAt withList nextList judgeCount problemOf readOf readIn iter noActuators capital strictMore strictHexAt otherNan strictRealAt nanBits
+unfolding digit more hexAt realAt isAt past pastBlanks wordAt noneAt rowFrom rowAt floats withoutLimit limited wordsAt withTail lineAt itemAt withWheel withThruster withPyramid withItem endAt closeAt nextLine firstLine listAt withRow lineNext linesFrom headAt withList nextList judgeCount problemOf readOf readIn iter noActuators capital strictMore strictHexAt otherNan strictRealAt nanBits
 strictly = (refl, refl, refl, refl, refl)
 
 -- 1, -0 and the NaN

@@ -21,7 +21,7 @@ use Rattle.text.specs.declared.lines.Words.the-variants.{Floats, Limited, Any}
 use Rattle.text.specs.Bytes.{bytes}
 use Rattle.text.specs.Hex.{digit}
 use Rattle.text.specs.Forms.{Form}
-use Rattle.text.specs.Lines.{isAt, zeros, wrongRow, pick, wordAt, noneAt, noneEnd, rowFrom, rowAt, LineForm, form, withoutLimit, limited, wordsAt, ended, lineAt}
+use Rattle.text.specs.Lines.{isAt, zeros, wrongRow, pick, wordAt, noneAt, noneEnd, rowFrom, rowAt, LineForm, form, withoutLimit, limited, wordsAt, withTail, lineAt}
 use Rattle.text.specs.Lines as Lines
 use Rattle.canonical_laws.specs.Pieces.{Piece, lit, num, non, nums, firsts, floats, limit}
 use Rattle.canonical_laws.specs.Positions.{both, isAt-cons, within, blank-within}
@@ -103,22 +103,22 @@ module _ (f : Form) (s : List ℕ) where
 
   line-is : (at j n : ℕ) (v : List Float) (l : Limit) (head tail : List ℕ) → isAt s at head ≡ true → rowAt f s (at + length head) ≡ good j n v l → isAt s j tail ≡ true
       → lineAt f s at (form head (Floats n) tail) ≡ good (j + length tail) n v l
-  unfolding lineAt wordsAt Lines.floats ended
+  unfolding lineAt wordsAt Lines.floats withTail
   line-is at j n v l head tail a r i = rw (a, r, eq-eqb n n refl, i)
 
   any-is : (at j n : ℕ) (v : List Float) (l : Limit) (head tail : List ℕ) → isAt s at head ≡ true → rowAt f s (at + length head) ≡ good j n v l → isAt s j tail ≡ true
       → lineAt f s at (form head Any tail) ≡ good (j + length tail) n v l
-  unfolding lineAt wordsAt ended
+  unfolding lineAt wordsAt withTail
   any-is at j n v l head tail a r i = rw (a, r, i)
 
   none-is : (at j n : ℕ) (v : List Float) (l : Limit) (head tail : List ℕ) → isAt s at head ≡ true → rowAt f s (at + length head) ≡ good j n v l → noneAt f s j ≡ true
       → isAt s (noneEnd f s j) tail ≡ true → lineAt f s at (form head (Limited n) tail) ≡ good (noneEnd f s j + length tail) n v Nothing
-  unfolding lineAt wordsAt limited withoutLimit ended
+  unfolding lineAt wordsAt limited withoutLimit withTail
   none-is at j n v l head tail a r i o = rw (a, r, eq-eqb n n refl, i, o)
 
   limit-is : (at j n : ℕ) (v : List Float) (l : Limit) (head tail : List ℕ) → isAt s at head ≡ true → rowAt f s (at + length head) ≡ good j (n + 1) v l → isAt s j tail ≡ true
       → lineAt f s at (form head (Limited n) tail) ≡ good (j + length tail) (n + 1) v l
-  unfolding lineAt wordsAt limited ended
+  unfolding lineAt wordsAt limited withTail
   limit-is at j n v l head tail a r i = rw (a, r, ne-eqb (n + 1) n (λ e. omega (arith, e)), eq-eqb (n + 1) (n + 1) refl, i)
 
   -- ---- what stands there is read
@@ -267,12 +267,12 @@ module _ (f : Form) (s : List ℕ) where
   Line-read n at head r end = (rest : List Piece) (e : ℕ) → Spans f s (r .at) rest e → Spans f s at (lit head ∷ nums (floats n (r .v)) (end ++ rest)) e
 
   -- what a right line begins with, and what it ends with
-  begins : (at : ℕ) (l : LineForm) → lineAt f s at l .ok ≡ true → (isAt s at (l .head) ≡ true) × (ended s (l .tail) (wordsAt f s (at + length (l .head)) (l .words)) .ok ≡ true)
+  begins : (at : ℕ) (l : LineForm) → lineAt f s at l .ok ≡ true → (isAt s at (l .head) ≡ true) × (withTail s (l .tail) (wordsAt f s (at + length (l .head)) (l .words)) .ok ≡ true)
   unfolding lineAt
   begins at l h = let a : isAt s at (l .head) ≡ true = taken _ _ h in (a, rw a at h)
 
-  ends : (tail : List ℕ) (r : Row) → ended s tail r .ok ≡ true → (r .ok ≡ true) × (isAt s (r .at) tail ≡ true)
-  unfolding ended
+  ends : (tail : List ℕ) (r : Row) → withTail s tail r .ok ≡ true → (r .ok ≡ true) × (isAt s (r .at) tail ≡ true)
+  unfolding withTail
   ends tail r h = both (r .ok) (isAt s (r .at) tail) (taken _ _ h)
 
   -- n floats between them
@@ -343,7 +343,7 @@ module _ (f : Form) (s : List ℕ) where
   unfolding wordsAt limited withoutLimit
   limit-with n at head tail r e h =
       let g = begins at (form head (Limited n) tail) h in
-      let q : ended s tail (limited f s n r) .ok ≡ true = rw e at (g .1) in
+      let q : withTail s tail (limited f s n r) .ok ≡ true = rw e at (g .1) in
       (g .0, go (eqb (r .count) n) refl (ends tail (limited f s n r) q))
     where
       go : (b : Bool) → eqb (r .count) n ≡ b → (limited f s n r .ok ≡ true) × (isAt s (limited f s n r .at) tail ≡ true)

@@ -3,6 +3,7 @@ ghost use mathlib.Core.Path.{_≡_};
 ghost use Prim.Native.Nat.{_<_, _≤_};
 ghost use lib.ListN.{length};
 ghost use Rattle.cases.specs.Words as Words;
+use common::ResidualNumbers;
 use text::hex::byte;
 use text::hex::real_of;
 
@@ -263,7 +264,7 @@ pub fn same51(v: &[u64; 1024], k: usize, x: &[f64; 51]) -> bool
 }
 
 // Whether the 79 floats from k on are these.
-pub fn same79(v: &[u64; 1024], k: usize, x: &[f64; 79]) -> bool
+pub fn same79(v: &[u64; 1024], k: usize, x: &ResidualNumbers) -> bool
     requires { ⌜ k < 900 ⌝ }
 {
     same_all(v, k, x)

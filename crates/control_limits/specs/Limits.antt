@@ -5,12 +5,13 @@ use mathlib.Core.List.{List}
 use lib.Dec.{ltb}
 use lib.ListN.{getD, length}
 use lib.Ieee.{Float, nan, binary64, mul, sub, neg, lt}
+use Rattle.common.specs.Floats.{plusZero}
 use Rattle.common.specs.Iter.{iter}
 use Rattle.common.specs.Lists.{at}
 use Rattle.common.specs.declared.Limit.{Limit}
 use Rattle.common.specs.declared.Limit.the-variants.{Nothing, At}
 use Rattle.float.specs.Ops.{abs, max, clamp}
-use Rattle.geom.specs.Vec.{dot3, plusZero}
+use Rattle.geom.specs.Vec.{dot3}
 use Rattle.actuators.specs.Maps.{axisAt, gimbals, noPower}
 use Rattle.actuators.specs.declared.Power.{Power}
 use Rattle.actuators.specs.declared.Cmgs.{Cmgs}
@@ -35,8 +36,8 @@ abbrev pub holding : Float → Float → Held
 holding limit x = record { x = hold limit x; changed = changed limit x }
 
 -- control k held to its limit
-abbrev pub held : (ℕ → Float) → ℕ → Float → Float
-held limit k x = hold (limit k) x
+abbrev pub holdAt : (ℕ → Float) → ℕ → Float → Float
+holdAt limit k x = hold (limit k) x
 
 -- the limit of a gimbal's rate; without a pyramid nothing is held to it
 abbrev pub gimbalRate : Cmgs → Float
@@ -60,27 +61,27 @@ fewer a b = cond (ltb a b) a b
 -- the parts of the row u, each control held to its limit
 abbrev pub partsHeld : Rig → List Float → List Float → List Float → List Float
 partsHeld r wheels thrusters u =
-    stored (held (partLimit r wheels thrusters)) u (fewer (r .«wheel_count» + r .«thruster_count» + gimbals (r .cmgs)) (length u))
+    stored (holdAt (partLimit r wheels thrusters)) u (fewer (r .«wheel_count» + r .«thruster_count» + gimbals (r .cmgs)) (length u))
 
 -- the row u with each control held to its limit; gimbal rates that the row lacks are passed over
 unfoldable pub projected : Rig → List Float → List Float → List Float → List Float → List Float
 projected r wheels thrusters box u =
-    stored (held (limitOf r wheels thrusters box)) u (fewer (width r (gimbals (r .cmgs))) (length u))
+    stored (holdAt (limitOf r wheels thrusters box)) u (fewer (width r (gimbals (r .cmgs))) (length u))
 
 -- ---- excesses
 
 -- the larger of e and the size of x less its limit; a NaN gives way, and where there is no limit e stays
-abbrev pub over : Limit → Float → Float → Float
-over Nothing x e = e
-over (At limit) x e = max e (sub binary64 (abs x) limit)
+abbrev pub largerExcess : Limit → Float → Float → Float
+largerExcess Nothing x e = e
+largerExcess (At limit) x e = max e (sub binary64 (abs x) limit)
 
 -- number k is looked at
-abbrev pub overTurn : (ℕ → Limit) → (ℕ → Float) → ℕ → Float → Float
-overTurn limit x k e = over (limit k) (x k) e
+abbrev pub excessTurn : (ℕ → Limit) → (ℕ → Float) → ℕ → Float → Float
+excessTurn limit x k e = largerExcess (limit k) (x k) e
 
 -- by how much the first n numbers pass their limits at most; +0 where none does
 abbrev pub excess : (ℕ → Limit) → (ℕ → Float) → ℕ → Float
-excess limit x n = iter (overTurn limit x) plusZero n
+excess limit x n = iter (excessTurn limit x) plusZero n
 
 -- number k of a table as a limit
 abbrev pub limitAt : List Float → ℕ → Limit

@@ -10,6 +10,7 @@ ghost use Rattle.control_limits.specs.Limits as Limits;
 use actuators::Cmgs;
 use actuators::Power;
 use common::Limit;
+use common::MAX_WHEELS;
 use control_rows::Rig;
 use control_rows::is_bare;
 
@@ -32,7 +33,7 @@ pub fn hold(x: f64, limit: f64) -> Held
 // The first n controls of a part, each held to its limit.
 pub fn hold_part(limits: &[f64], n: usize, u: &mut [f64])
     requires { ⌜ (n ≤ length (now limits)) × (n ≤ length (now u)) ⌝ }
-    ensures { λ r. ⌜ now (u .exit) ≡ Stored.stored (Limits.held (at (now (limits .entry)))) (now (u .entry)) n ⌝ }
+    ensures { λ r. ⌜ now (u .exit) ≡ Stored.stored (Limits.holdAt (at (now (limits .entry)))) (now (u .entry)) n ⌝ }
 {
     let mut i: usize = 0;
     while i < n {
@@ -43,8 +44,8 @@ pub fn hold_part(limits: &[f64], n: usize, u: &mut [f64])
 }
 
 // The larger of `e` and the size of `x` less its limit, where it has one.
-pub fn over(limit: Limit, x: f64, e: f64) -> f64
-    ensures { λ r. ⌜ r ≡ Limits.over limit x e ⌝ }
+pub fn larger_excess(limit: Limit, x: f64, e: f64) -> f64
+    ensures { λ r. ⌜ r ≡ Limits.largerExcess limit x e ⌝ }
 {
     match limit {
         Limit::Nothing => e,
@@ -60,7 +61,7 @@ pub fn momentum_excess(limits: &[f64; 8], n: usize, hw: &[f64]) -> f64
     let mut e = 0.0;
     let mut i: usize = 0;
     while i < n {
-        e = over(Limit::At(limits[i]), hw[i], e);
+        e = larger_excess(Limit::At(limits[i]), hw[i], e);
         i += 1;
     }
     e
@@ -69,7 +70,7 @@ pub fn momentum_excess(limits: &[f64; 8], n: usize, hw: &[f64]) -> f64
 // By how much the first n wheels pass their declared powers at most.
 pub fn power_excess(
     axes: &[f64; 24],
-    powers: [Power; 8],
+    powers: [Power; MAX_WHEELS],
     n: usize,
     u: &[f64],
     omega: [f64; 3],
@@ -84,7 +85,7 @@ pub fn power_excess(
         let speed = omega[0] * axes[a] + omega[1] * axes[a + 1] + omega[2] * axes[a + 2];
         let power = powers[i];
         let limit = power.limit;
-        e = over(limit, u[i] * speed, e);
+        e = larger_excess(limit, u[i] * speed, e);
         i += 1;
     }
     e

@@ -6,8 +6,9 @@ use mathlib.Core.List.{List}
 use lib.Dec.{leb}
 use lib.ListN.{length, replicate}
 use lib.Ieee.{Float}
+use Rattle.common.specs.Floats.{plusZero}
 use Rattle.common.specs.Lists.{at}
-use Rattle.geom.specs.Vec.{plusZero, zero3}
+use Rattle.geom.specs.Vec.{zero3}
 use Rattle.common.specs.declared.Fate.{Fate}
 use Rattle.common.specs.declared.Fate.the-variants.{Going, Refused}
 use Rattle.actuators.specs.Maps.{gimbals}

@@ -8,6 +8,8 @@ use actuators::ActuatorMap;
 use actuators::Cmgs;
 use actuators::Jacobian;
 use common::Fate;
+use common::MAX_THRUSTERS;
+use common::MAX_WHEELS;
 use control_rows::Rig;
 use control_rows::WheelLaw;
 
@@ -21,7 +23,7 @@ pub struct Torque {
 fn paired(wheel_count: usize, n: usize) -> usize
     ensures { λ r. ⌜ (r ≡ Controls.paired «wheel_count» n) × ((r ≤ 8) × (r ≤ n)) ⌝ }
 {
-    if wheel_count > 8 {
+    if wheel_count > MAX_WHEELS {
         return 0;
     }
     control_limits::fewer(wheel_count, n)
@@ -94,10 +96,10 @@ fn row_fits(r: Rig, gimbals: usize, n: usize) -> bool
     requires { ⌜ gimbals ≤ 4 ⌝ }
     ensures { λ b. ⌜ b ≡ Controls.rowFits r gimbals n ⌝ }
 {
-    if r.wheel_count > 8 {
+    if r.wheel_count > MAX_WHEELS {
         return false;
     }
-    if r.thruster_count > 12 {
+    if r.thruster_count > MAX_THRUSTERS {
         return false;
     }
     if control_rows::is_bare(r) {

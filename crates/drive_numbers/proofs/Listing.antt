@@ -9,25 +9,26 @@ use lib.IntN.{ℤ}
 use lib.ListN.{length, set, drop, getD, length-append}
 use lib.Seq.{set-at, drop-cons}
 use lib.Ieee.{Float}
-use Rattle.common.specs.Iter.{iter, iter-none, iter-next, iter-stays}
+use Rattle.common.specs.Iter.{iter}
+use Rattle.common.specs.IterLaws.{iter-none, iter-next, iter-stays}
 use Rattle.common.specs.declared.Fate.the-variants as Fate
 use Rattle.samples.specs.Counts.{sampleCount}
 use Rattle.samples.specs.declared.Count.the-variants as Count
 use Rattle.drive_numbers.specs.declared.Driven.{Driven}
 use Rattle.drive_numbers.specs.declared.lists.Listed.{Listed}
 use Rattle.drive_numbers.specs.Drive.{driveSample}
-use Rattle.drive_numbers.specs.Lists.{ended, onward, listing, driveList, Lists}
+use Rattle.drive_numbers.specs.Lists.{listingWith, onward, listing, driveList, Lists}
 
 -- k samples have their rows, and the list goes on
 pub record Going (sample : ℕ → Driven) (k : ℕ) (out out′ : List (List ℤ)) : Type 0 where
   pub rows : List (List ℤ)
-  pub is : ended Fate.Going rows ≡ listing sample k
+  pub is : listingWith Fate.Going rows ≡ listing sample k
   pub count : length rows ≡ k
   pub left : out′ ≡ rows ++ drop k out
 
 pub goes-first : (sample : ℕ → Driven) (out : List (List ℤ)) → Going sample 0 out out
 unfolding listing
-goes-first sample out = record { rows = []; is = iter-none (onward sample) (ended Fate.Going []); count = refl; left = refl }
+goes-first sample out = record { rows = []; is = iter-none (onward sample) (listingWith Fate.Going []); count = refl; left = refl }
 
 module _ (sample : ℕ → Driven) {k : ℕ} {out out′ : List (List ℤ)} {d : Driven} (g : Going sample k out out′) (e : d ≡ sample k) where
   pub goes-next : k < length out → d .fate ≡ Fate.Going → Going sample (k + 1) out (set out′ k (d .numbers))
@@ -35,7 +36,7 @@ module _ (sample : ℕ → Driven) {k : ℕ} {out out′ : List (List ℤ)} {d :
   goes-next h f =
       record {
         rows = g .rows ++ d .numbers ∷ [];
-        is = iter-next (onward sample) (ended Fate.Going []) k (g .is) (rw (← e, f));
+        is = iter-next (onward sample) (listingWith Fate.Going []) k (g .is) (rw (← e, f));
         count = length-append (g .rows) (d .numbers ∷ []) ∙ omega (arith, g .count);
         left =
             rw (g .left, drop-cons out k [] h, add-one k) (set-at (g .rows) (getD out k []) (drop (suc k) out) (d .numbers) k (g .count) ∙ sym (append-assoc (g .rows) (d .numbers ∷ []) (drop (suc k) out)));
@@ -44,7 +45,7 @@ module _ (sample : ℕ → Driven) {k : ℕ} {out out′ : List (List ℤ)} {d :
   pub goes-cut : {n p m : ℕ} → k < m → d .fate ≡ Fate.Refused n p → Lists (listing sample m) out (record { fate = Fate.Refused n p; rows = k }) out′
   unfolding listing onward
   goes-cut {n} {p} {m} h f =
-      let stopped : ended (Fate.Refused n p) (g .rows) ≡ iter (onward sample) (ended Fate.Going []) m = iter-stays (onward sample) (ended Fate.Going []) (k + 1) m (omega arith) (iter-next (onward sample) (ended Fate.Going []) k (g .is) (rw (← e, f))) (λ j. refl) in
+      let stopped : listingWith (Fate.Refused n p) (g .rows) ≡ iter (onward sample) (listingWith Fate.Going []) m = iter-stays (onward sample) (listingWith Fate.Going []) (k + 1) m (omega arith) (iter-next (onward sample) (listingWith Fate.Going []) k (g .is) (rw (← e, f))) (λ j. refl) in
       record { fate = rw (← stopped); count = rw (← stopped) (sym (g .count)); rows = rw (← stopped, g .count) (g .left) }
 
 pub goes-whole : (sample : ℕ → Driven) {k : ℕ} {out out′ : List (List ℤ)} → Going sample k out out′ → Lists (listing sample k) out (record { fate = Fate.Going; rows = k }) out′

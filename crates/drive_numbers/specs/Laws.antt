@@ -12,11 +12,11 @@ use lib.Ieee.{Float}
 use lib.Ieee.Bits.{is-true}
 use lib.Ieee.Nearest.{closest}
 use lib.Ieee.Scale.{finite}
-use Rattle.laws.specs.Exact.{exact}
+use Rattle.float_laws.specs.Exact.{exact}
 use Rattle.drive_numbers.specs.declared.Unit.{Unit}
 use Rattle.drive_numbers.specs.declared.Whole.{Whole}
 use Rattle.drive_numbers.specs.declared.Whole.the-variants as Whole
-use Rattle.drive_numbers.specs.Numbers.{weight, rounded, inRange, held, part, readBack}
+use Rattle.drive_numbers.specs.Numbers.{weight, rounded, inRange, wholeInRange, part, readBack}
 use Rattle.drive_numbers.specs.NearestLaws.{Near, closest-near, near-one}
 use Rattle.drive_numbers.specs.BackLaws.{read-back}
 
@@ -112,16 +112,16 @@ pub record Numbered (x : Float) (u : Unit) (n : ℤ) : Type 0 where
   pub in-range : T (inRange n)
   pub nearest : Nearest (2 ^ weight u) n (exact x)
 
-held-is : (b : Bool) (m n : ℤ) → cond b (Whole.Is m) Whole.Outside ≡ Whole.Is n → T b × (m ≡ n)
-held-is true m n h = (tt, cc)
-held-is false m n h = absurd (none h)
+whole-in-range-is : (b : Bool) (m n : ℤ) → cond b (Whole.Is m) Whole.Outside ≡ Whole.Is n → T b × (m ≡ n)
+whole-in-range-is true m n h = (tt, cc)
+whole-in-range-is false m n h = absurd (none h)
   where
     none : Whole.Outside ≡ Whole.Is n → ⊥
     none h = let z : _≡_ {A = ℕ} 0 1 = cc in omega arith
 
-by-parts : (b : Bool) (m n : ℤ) → cond b (held m) Whole.Outside ≡ Whole.Is n → T b × T (inRange m) × (m ≡ n)
-by-parts true m n h = let k = held-is (inRange m) m n h in (tt, k .0, k .1)
-by-parts false m n h = absurd (held-is false m n h .0)
+by-parts : (b : Bool) (m n : ℤ) → cond b (wholeInRange m) Whole.Outside ≡ Whole.Is n → T b × T (inRange m) × (m ≡ n)
+by-parts true m n h = let k = whole-in-range-is (inRange m) m n h in (tt, k .0, k .1)
+by-parts false m n h = absurd (whole-in-range-is false m n h .0)
 
 module _ (x : Float) (u : Unit) where
   pub number-says : (n : ℤ) → part x u ≡ Whole.Is n → Numbered x u n

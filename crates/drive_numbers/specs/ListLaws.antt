@@ -12,7 +12,7 @@ use Rattle.common.specs.Iter.{iter}
 use Rattle.common.specs.declared.Fate.{Fate}
 use Rattle.common.specs.declared.Fate.the-variants as Fate
 use Rattle.drive_numbers.specs.declared.Driven.{Driven}
-use Rattle.drive_numbers.specs.Lists.{Listing, ended, onwardBy, onward, listing}
+use Rattle.drive_numbers.specs.Lists.{Listing, listingWith, onwardBy, onward, listing}
 
 -- row k is sample number k's
 abbrev pub RowsOf : (ℕ → Driven) → List (List ℤ) → Type 0
@@ -20,8 +20,8 @@ RowsOf sample rows = (k : ℕ) → k < length rows → (sample k .fate ≡ Fate.
 
 -- the first n samples: all of them have rows, or the list ended before sample number length rows, with that sample's refusal
 pub data Upto (sample : ℕ → Driven) (n : ℕ) : Listing → Type 0 where
-  whole : {rows : List (List ℤ)} → length rows ≡ n → RowsOf sample rows → Upto sample n (ended Fate.Going rows)
-  cut : {rows : List (List ℤ)} {m p : ℕ} → length rows < n → sample (length rows) .fate ≡ Fate.Refused m p → RowsOf sample rows → Upto sample n (ended (Fate.Refused m p) rows)
+  whole : {rows : List (List ℤ)} → length rows ≡ n → RowsOf sample rows → Upto sample n (listingWith Fate.Going rows)
+  cut : {rows : List (List ℤ)} {m p : ℕ} → length rows < n → sample (length rows) .fate ≡ Fate.Refused m p → RowsOf sample rows → Upto sample n (listingWith (Fate.Refused m p) rows)
 
 one-more : (rows : List (List ℤ)) (row : List ℤ) → length (rows ++ row ∷ []) ≡ suc (length rows)
 one-more rows row = length-append rows (row ∷ []) ∙ omega arith

@@ -24,17 +24,17 @@ pub record Listing : Type 0 where
   pub fate : Fate
   pub rows : List (List ℤ)
 
-abbrev pub ended : Fate → List (List ℤ) → Listing
-ended f rows = record { fate = f; rows = rows }
+abbrev pub listingWith : Fate → List (List ℤ) → Listing
+listingWith f rows = record { fate = f; rows = rows }
 
 -- one more sample: its row, or its refusal
 abbrev pub addedBy : Fate → List ℤ → List (List ℤ) → Listing
-addedBy Fate.Going row rows = ended Fate.Going (rows ++ row ∷ [])
-addedBy (Fate.Refused n place) row rows = ended (Fate.Refused n place) rows
+addedBy Fate.Going row rows = listingWith Fate.Going (rows ++ row ∷ [])
+addedBy (Fate.Refused n place) row rows = listingWith (Fate.Refused n place) rows
 
 abbrev pub onwardBy : Fate → List (List ℤ) → Driven → Listing
 onwardBy Fate.Going rows d = addedBy (d .fate) (d .numbers) rows
-onwardBy (Fate.Refused n place) rows d = ended (Fate.Refused n place) rows
+onwardBy (Fate.Refused n place) rows d = listingWith (Fate.Refused n place) rows
 
 -- a list that ended stays
 unfoldable pub onward : (ℕ → Driven) → ℕ → Listing → Listing
@@ -42,12 +42,12 @@ onward sample k l = onwardBy (l .fate) (l .rows) (sample k)
 
 -- the list of the first n samples
 unfoldable pub listing : (ℕ → Driven) → ℕ → Listing
-listing sample n = iter (onward sample) (ended Fate.Going []) n
+listing sample n = iter (onward sample) (listingWith Fate.Going []) n
 
 -- `lent` rows are lent: fewer than there are samples get nothing, and 99 is told, which is no refusal's number
 abbrev pub driveListBy : Count → (ℕ → Driven) → ℕ → Listing
-driveListBy Count.TooMany sample lent = ended (Fate.Refused 20 0) []
-driveListBy (Count.Of count) sample lent = cond (ltb lent count) (ended (Fate.Refused 99 0) []) (listing sample count)
+driveListBy Count.TooMany sample lent = listingWith (Fate.Refused 20 0) []
+driveListBy (Count.Of count) sample lent = cond (ltb lent count) (listingWith (Fate.Refused 99 0) []) (listing sample count)
 
 unfoldable pub driveList : List (List Float) → Float → Float → List (List Float) → ℕ → Float → ℕ → Listing
 driveList j tol duration nodes requested alpha lent =
@@ -58,11 +58,11 @@ abbrev pub ofListing : Listing → Answer (List (List ℤ))
 ofListing l = ofFate (l .rows) (l .fate)
 
 -- the lent rows at exit: the list's rows, then what stood after them
-abbrev pub over : Listing → List (List ℤ) → List (List ℤ)
-over l out = l .rows ++ drop (length (l .rows)) out
+abbrev pub overRows : Listing → List (List ℤ) → List (List ℤ)
+overRows l out = l .rows ++ drop (length (l .rows)) out
 
 -- what is told of a list, and the lent rows
 pub record Lists (l : Listing) (out : List (List ℤ)) (r : Listed) (out′ : List (List ℤ)) : Type 0 where
   pub fate : r .fate ≡ l .fate
   pub count : r .rows ≡ length (l .rows)
-  pub rows : out′ ≡ over l out
+  pub rows : out′ ≡ overRows l out

@@ -13,13 +13,13 @@ use lib.Arith.{lt→nleb}
 use lib.Ieee.Fits.{down-pos}
 use lib.Ieee.Nearest.{closest}
 use Rattle.float.specs.Ops.{abs}
-use Rattle.laws.specs.Place.{mag, mag-exact}
-use Rattle.laws.specs.Exact.{exact, signed}
+use Rattle.float_laws.specs.Place.{mag, mag-exact}
+use Rattle.float_laws.specs.Exact.{exact, signed}
 use Rattle.drive_numbers.specs.declared.Unit.{Unit}
 use Rattle.drive_numbers.specs.declared.Unit.the-variants as Unit
 use Rattle.drive_numbers.specs.declared.Whole.{Whole}
 use Rattle.drive_numbers.specs.declared.Whole.the-variants as Whole
-use Rattle.drive_numbers.specs.Numbers.{weight, rounded, held, placed, part}
+use Rattle.drive_numbers.specs.Numbers.{weight, rounded, wholeInRange, placed, part}
 use Rattle.drive_numbers.specs.Inner.{size}
 use Rattle.drive_numbers.specs.NearestLaws.{closest-ge, closest-whole}
 use Rattle.drive_numbers.specs.SumLaws.{count-le, sum-bits, sum-no-nan}
@@ -33,9 +33,9 @@ rounded-signed u p false a = refl
 rounded-signed u p true zero = ap pos (closest-zero u p) ∙ ap (λ (z : ℕ). negℤ (pos z)) (sym (closest-zero u p))
 rounded-signed u p true (suc a) = refl
 
-pub part-fin : (s : Bool) (m : ℕ) (e : ℤ) (u : Unit) → part (fin s m e) u ≡ held (signed s (closest (mag binary64 (fin s m e)) (2 ^ weight u)))
+pub part-fin : (s : Bool) (m : ℕ) (e : ℤ) (u : Unit) → part (fin s m e) u ≡ wholeInRange (signed s (closest (mag binary64 (fin s m e)) (2 ^ weight u)))
 unfolding part exact
-part-fin s m e u = ap held (rounded-signed (2 ^ weight u) (pow-pos (weight u)) s (mag binary64 (fin s m e)))
+part-fin s m e u = ap wholeInRange (rounded-signed (2 ^ weight u) (pow-pos (weight u)) s (mag binary64 (fin s m e)))
 
 mag-plain : (s : Bool) (m : ℕ) (e : ℤ) → mag binary64 (fin s m e) ≡ mag binary64 (fin false m e)
 unfolding mag
@@ -83,24 +83,24 @@ from-limit n a d c l D L h k =
 
 -- by the bounds of 32 bits
 module _ (n : ℕ) where
-  pub inside-plus : n ≤ 2 ^ 31 - 1 → Whole.Is (pos n) ≡ held (pos n)
+  pub inside-plus : n ≤ 2 ^ 31 - 1 → Whole.Is (pos n) ≡ wholeInRange (pos n)
   inside-plus h = rw (is-true (leb n (2 ^ 31 - 1)) (le→leb n (2 ^ 31 - 1) h))
 
-  pub outside-plus : 2 ^ 31 - 1 < n → Whole.Outside ≡ held (pos n)
+  pub outside-plus : 2 ^ 31 - 1 < n → Whole.Outside ≡ wholeInRange (pos n)
   outside-plus h = rw (is-false (leb n (2 ^ 31 - 1)) (lt→nleb n (2 ^ 31 - 1) h))
 
-pub inside-minus : (n : ℕ) → n ≤ 2 ^ 31 → Whole.Is (negℤ (pos n)) ≡ held (negℤ (pos n))
+pub inside-minus : (n : ℕ) → n ≤ 2 ^ 31 → Whole.Is (negℤ (pos n)) ≡ wholeInRange (negℤ (pos n))
 inside-minus zero h = refl
 inside-minus (suc n) h = rw (is-true (leb n (2 ^ 31 - 1)) (le→leb n (2 ^ 31 - 1) (omega arith)))
 
-pub outside-minus : (n : ℕ) → 2 ^ 31 < n → Whole.Outside ≡ held (negℤ (pos n))
+pub outside-minus : (n : ℕ) → 2 ^ 31 < n → Whole.Outside ≡ wholeInRange (negℤ (pos n))
 outside-minus zero h = absurd (none h)
   where
     none : 2 ^ 31 < 0 → ⊥
     none h = omega arith
 outside-minus (suc n) h = rw (is-false (leb n (2 ^ 31 - 1)) (lt→nleb n (2 ^ 31 - 1) (omega arith)))
 
-outside : (s : Bool) (n : ℕ) → 2 ^ 32 ≤ n → Whole.Outside ≡ held (signed s n)
+outside : (s : Bool) (n : ℕ) → 2 ^ 32 ≤ n → Whole.Outside ≡ wholeInRange (signed s n)
 outside false n h = outside-plus n (omega arith)
 outside true n h = outside-minus n (omega arith)
 
@@ -143,7 +143,7 @@ module _ (u : Unit) (b c : ℕ) (B : b + 1074 ≡ 32 + weight u) (C : c + 1074 �
           number = sum-no-nan m e c (weight u) P C K A;
           from = omega arith;
           small = omega (arith, count-le a (weight u) K (within h));
-          is = ap (λ (z : ℕ). held (signed (lt (fin s m e) (ofBits binary64 0)) z)) d ∙ ap held (sign-is m e (2 ^ weight u) (pow-pos (weight u)) s F) ∙ sym (part-fin s m e u);
+          is = ap (λ (z : ℕ). wholeInRange (signed (lt (fin s m e) (ofBits binary64 0)) z)) d ∙ ap wholeInRange (sign-is m e (2 ^ weight u) (pow-pos (weight u)) s F) ∙ sym (part-fin s m e u);
         }
 
     outside-fin : lt (fin false m e) (fin false 1 (pos b)) ≡ false → Whole.Outside ≡ part (fin s m e) u

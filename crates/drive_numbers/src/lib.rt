@@ -6,6 +6,7 @@ ghost use Rattle.drive_numbers.specs.Numbers as Numbers;
 ghost use Rattle.drive_numbers.specs.Drive as Drive;
 ghost use Rattle.drive_numbers.specs.Inner as Inner;
 use common::Fate;
+use common::SOLVER_NODES;
 use geom::Quat;
 use samples::PathSample;
 use samples::Sampled;
@@ -230,7 +231,7 @@ pub fn drive_sample(
     inertia: [[f64; 3]; 3],
     tolerance: f64,
     duration: f64,
-    nodes: &[[f64; 22]; 17],
+    nodes: &[[f64; 22]; SOLVER_NODES],
     requested: usize,
     alpha: f64,
     index: usize,

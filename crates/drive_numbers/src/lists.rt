@@ -5,6 +5,7 @@ ghost use Rattle.drive_numbers.specs.Drive as Drive;
 ghost use Rattle.drive_numbers.specs.Lists as Lists;
 use super::drive_sample;
 use common::Fate;
+use common::SOLVER_NODES;
 use samples::Count;
 use samples::sample_count;
 
@@ -19,14 +20,15 @@ fn put_rows(
     inertia: [[f64; 3]; 3],
     tolerance: f64,
     duration: f64,
-    nodes: &[[f64; 22]; 17],
+    nodes: &[[f64; 22]; SOLVER_NODES],
     requested: usize,
     alpha: f64,
     count: usize,
     out: &mut [[i32; 13]],
 ) -> Listed
     requires { ⌜ count ≤ length (now out) ⌝ }
-    ensures { λ r. ⌜ Lists.Lists (Lists.listing (Drive.driveSample inertia tolerance duration (now (nodes .entry)) requested alpha) count) (now (out .entry)) r (now (out .exit)) ⌝ }
+    ensures { λ r. ⌜ Lists.Lists (Lists.listing (Drive.driveSample inertia tolerance duration (now (nodes .entry)) requested alpha) count)
+        (now (out .entry)) r (now (out .exit)) ⌝ }
 {
     let mut k: usize = 0;
     while k < count {
@@ -56,12 +58,13 @@ pub fn drive_list(
     inertia: [[f64; 3]; 3],
     tolerance: f64,
     duration: f64,
-    nodes: &[[f64; 22]; 17],
+    nodes: &[[f64; 22]; SOLVER_NODES],
     requested: usize,
     alpha: f64,
     out: &mut [[i32; 13]],
 ) -> Listed
-    ensures { λ r. ⌜ Lists.Lists (Lists.driveList inertia tolerance duration (now (nodes .entry)) requested alpha (length (now (out .entry)))) (now (out .entry)) r (now (out .exit)) ⌝ }
+    ensures { λ r. ⌜ Lists.Lists (Lists.driveList inertia tolerance duration (now (nodes .entry)) requested alpha (length (now (out .entry))))
+        (now (out .entry)) r (now (out .exit)) ⌝ }
 {
     let counted = sample_count(duration, requested, alpha);
     match counted {

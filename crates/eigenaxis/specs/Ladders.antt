@@ -3,10 +3,11 @@ use Prim.Native.Nat.{ℕ, _+_}
 use mathlib.Core.Bool.{Bool, true, false, cond}
 use lib.Dec.{eqb}
 use lib.Ieee.{Float, binary64, add, mul, ofBits}
+use Rattle.common.specs.Floats.{plusZero}
 use Rattle.common.specs.Iter.{iter}
 use Rattle.common.specs.declared.Fate.{Fate}
 use Rattle.common.specs.declared.Fate.the-variants.{Going, Refused}
-use Rattle.geom.specs.Vec.{plusZero, half, two}
+use Rattle.geom.specs.Vec.{half, two}
 use Rattle.problem.specs.Problems.{check}
 use Rattle.problem.specs.declared.Problem.{Problem}
 use Rattle.planner.specs.Plans as Plans

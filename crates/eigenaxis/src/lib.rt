@@ -83,7 +83,9 @@ fn seed_at(q: Problem, shape: Shape, t: f64) -> Seeding
 
 // The planner's answer from a seed.
 fn tried(q: Problem, t: f64, s: Seeding, ws: &mut [f64]) -> Planned
-    ensures { λ r. ⌜ ((r ≡ Ladders.tried q (length (now (ws .entry))) t s) × (r .runs ≤ 7802)) × ((now (ws .exit) ≡ Plans.leaves (r .runs) (now (ws .entry))) × Promises.Answers q (Plans.seedOf (Problems.check q .problem) t (s .torques)) r) ⌝ }
+    ensures { λ r. ⌜ ((r ≡ Ladders.tried q (length (now (ws .entry))) t s) × (r .runs ≤ 7802))
+        × ((now (ws .exit) ≡ Plans.leaves (r .runs) (now (ws .entry)))
+        × Promises.Answers q (Plans.seedOf (Problems.check q .problem) t (s .torques)) r) ⌝ }
 {
     let rates = s.rates;
     let torques = s.torques;
@@ -152,7 +154,8 @@ fn climb_turn(q: Problem, shape: Shape, s: Ladder, ws: &mut [f64]) -> Ladder
 // The climb: 20 durations, each twice the one before, until one is answered.
 fn climb(q: Problem, shape: Shape, first: Ladder, ws: &mut [f64]) -> Ladder
     requires { ⌜ first .runs ≤ 7802 ⌝ }
-    ensures { λ r. ⌜ (r ≡ iter (Ladders.climbTurn q shape (length (now (ws .entry)))) first 20) × Keeps.Keeps q shape first r (now (ws .entry)) (now (ws .exit)) ⌝ }
+    ensures { λ r. ⌜ (r ≡ iter (Ladders.climbTurn q shape (length (now (ws .entry)))) first 20)
+        × Keeps.Keeps q shape first r (now (ws .entry)) (now (ws .exit)) ⌝ }
 {
     let mut s = first;
     let mut k: usize = 0;
@@ -186,7 +189,8 @@ fn narrow_turn(q: Problem, shape: Shape, s: Ladder, ws: &mut [f64]) -> Ladder
 // The narrowing: 8 turns.
 fn narrow(q: Problem, shape: Shape, first: Ladder, ws: &mut [f64]) -> Ladder
     requires { ⌜ first .runs ≤ 163842 ⌝ }
-    ensures { λ r. ⌜ (r ≡ iter (Ladders.narrowTurn q shape (length (now (ws .entry)))) first 8) × Keeps.Keeps q shape first r (now (ws .entry)) (now (ws .exit)) ⌝ }
+    ensures { λ r. ⌜ (r ≡ iter (Ladders.narrowTurn q shape (length (now (ws .entry)))) first 8)
+        × Keeps.Keeps q shape first r (now (ws .entry)) (now (ws .exit)) ⌝ }
 {
     let mut s = first;
     let mut k: usize = 0;
@@ -222,7 +226,9 @@ fn start(q: Problem, shape: Shape, ws: &mut [f64]) -> Ladder
 
 // The planner's answer from the eigenaxis seed of the shortest duration that the ladder finds, with the weights at 0.
 pub fn plan_eigenaxis(p: Problem, shape: Shape, ws: &mut [f64]) -> Eigenaxis
-    ensures { λ r. ⌜ (r ≡ Ladders.planEigenaxis p shape (length (now (ws .entry)))) × ((now (ws .exit) ≡ Plans.leaves (r .runs) (now (ws .entry))) × Keeps.Answers p shape r) ⌝ }
+    ensures { λ r. ⌜ (r ≡ Ladders.planEigenaxis p shape (length (now (ws .entry))))
+        × ((now (ws .exit) ≡ Plans.leaves (r .runs) (now (ws .entry)))
+        × Keeps.Answers p shape r) ⌝ }
 {
     let q = unweighted(p);
     let first = start(q, shape, ws);

@@ -2,12 +2,13 @@
 use Prim.Native.Nat.{ℕ, _+_}
 use mathlib.Core.List.{List}
 use lib.Ieee.{Float, binary64, div}
+use Rattle.common.specs.Floats.{plusZero}
 use Rattle.common.specs.Iter.{iter}
 use Rattle.float.specs.Ops.{max}
-use Rattle.geom.specs.Vec.{plusZero}
 use Rattle.forward.specs.Decisions.{sixteen}
 use Rattle.forward.specs.declared.Node.{Node}
-use Rattle.residuals.specs.Sums.{nodeAt, change}
+use Rattle.forward.specs.Runs.{nodeAt}
+use Rattle.residuals.specs.Sums.{change}
 use Rattle.planner.specs.declared.Planned.{Planned}
 use Rattle.problem_text.specs.Reader.{readProblem}
 use Rattle.sample_text.specs.SampleTexts.{courseOf}

@@ -3,6 +3,7 @@ ghost use mathlib.Core.Path.{_≡_};
 ghost use lib.ListN.{length};
 ghost use Rattle.planner.specs.Plans as Plans;
 ghost use Rattle.eigenaxis_samples.specs.Courses as Courses;
+use common::SOLVER_NODES;
 use eigenaxis_seed::Shape;
 use eigenaxis_text::plan_eigenaxis_read;
 use forward::Node;
@@ -19,7 +20,7 @@ fn steeper(w: [f64; 3], w2: [f64; 3], dt: f64, a: f64) -> f64
 }
 
 // The largest change of rate over the 16 steps, over a step's time.
-pub fn steepest(nodes: [Node; 17], dt: f64) -> f64
+pub fn steepest(nodes: [Node; SOLVER_NODES], dt: f64) -> f64
     ensures { λ r. ⌜ r ≡ Courses.steepest nodes dt ⌝ }
 {
     let mut a = 0.0;

@@ -1,10 +1,11 @@
 -- The eigenaxis seed: for each of the 16 steps the torque that takes the rate reached so far to the next rate of the shape. The motion is followed by the step law's
--- own operations (controls `Operations`, forward `Steps`), on the row that the planner runs: allocated and held to its limits. Definitions only.
+-- own operations (controls `Controls`, forward `Steps`), on the row that the planner runs: allocated and held to its limits. Definitions only.
 use Prim.Native.Nat.{ℕ, _+_, _*_}
 use mathlib.Core.Bool.{Bool, true, false, cond}
 use mathlib.Core.List.{List, [], _∷_}
 use lib.ListN.{set, replicate}
 use lib.Ieee.{Float, binary64, add, mul, div, neg, eq}
+use Rattle.common.specs.Floats as Floats
 use Rattle.common.specs.Iter.{iter}
 use Rattle.common.specs.Lists.{at}
 use Rattle.geom.specs.Vec as Vec
@@ -44,7 +45,7 @@ aim shape k duration phi i = Vec.scale3 phi (pace shape k duration i)
 -- the body torque that takes the rate reached to the target in a step of dt: J (target - w) / dt + w × (J w + h)
 unfoldable pub netTorque : CheckedProblem → Float → List Float → Motion → List Float
 netTorque p dt target m =
-    Vec.eulerLhs (Vec.tensor (p .inertia)) (Vec.scale3 (Vec.sub3 target (m .w)) (div binary64 Vec.one dt)) (m .w) (m .h)
+    Vec.eulerLhs (Vec.tensor (p .inertia)) (Vec.scale3 (Vec.sub3 target (m .w)) (div binary64 Floats.one dt)) (m .w) (m .h)
 
 -- a row of four times each row of a matrix
 abbrev pub against : List Float → List (List Float) → List Float
@@ -64,7 +65,7 @@ pyramidBy momentum a a0 net = Vec.scale3 (Vec.applyTensor (Pyramid.gram a0) (pyr
 
 abbrev pub pyramidTorque : CmgPyramid → List Float → List Float → List Float
 pyramidTorque p d net =
-    pyramidBy (p .«wheel_momentum_nms») (Pyramid.rows (Pyramid.pyramidA (p .«skew_rad») d .a)) (Pyramid.rows (Pyramid.pyramidA (p .«skew_rad») (replicate 4 Vec.plusZero) .a)) net
+    pyramidBy (p .«wheel_momentum_nms») (Pyramid.rows (Pyramid.pyramidA (p .«skew_rad») d .a)) (Pyramid.rows (Pyramid.pyramidA (p .«skew_rad») (replicate 4 Floats.plusZero) .a)) net
 
 -- what the allocation must be handed so that the step has the torque net
 abbrev pub handed : Cmgs → List Float → List Float → List Float
@@ -149,9 +150,9 @@ step p dt i target s = stepBy p dt i target (seedTorque p dt target (s .motion))
 unfoldable pub start : CheckedProblem → Seeding
 start p = record {
   fits = true;
-  rates = replicate 51 Vec.plusZero;
-  torques = replicate 51 Vec.plusZero;
-  motion = record { w = Vec.zero3; h = Controls.bodyMomentum (p .map) (p .momenta); hw = p .momenta; delta = replicate 4 Vec.plusZero };
+  rates = replicate 51 Floats.plusZero;
+  torques = replicate 51 Floats.plusZero;
+  motion = record { w = Vec.zero3; h = Controls.bodyMomentum (p .map) (p .momenta); hw = p .momenta; delta = replicate 4 Floats.plusZero };
 }
 
 abbrev pub turn : CheckedProblem → Shape → ℕ → Float → List Float → ℕ → Seeding → Seeding

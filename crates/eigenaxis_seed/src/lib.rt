@@ -12,6 +12,7 @@ use actuators::Cmgs;
 use actuators::allocate_body_torque;
 use actuators::pyramid_a;
 use common::Limit;
+use common::STEPS;
 use geom::Rotation;
 use problem::CheckedProblem;
 
@@ -434,7 +435,7 @@ pub fn seed(p: CheckedProblem, shape: Shape, phi: [f64; 3], duration: f64) -> Se
     let k = rising(slew, geom::norm3(phi), duration);
     let mut s = start(p);
     let mut i: usize = 0;
-    while i < 16 {
+    while i < STEPS {
         s = turn(p, shape, k, duration, phi, i, s);
         i += 1;
     }

@@ -10,7 +10,7 @@ use Rattle.normal_equations.specs.Tab.{tab}
 use Rattle.normal_equations.specs.Normal.{line, cell, normalMatrix, rightSide}
 use Rattle.float.specs.Ops.{abs}
 
--- of rows p and i the one with the larger number in column k, the first of equals: `if mag > best { pivot = i; }`
+-- of rows p and i the one with the larger number in column k, the first of equals: `if mag > best { pivot = i; }`; a NaN in row p stays, one in row i is passed over
 abbrev pub larger : ℕ → List (List Float) → ℕ → ℕ → ℕ
 larger k a i p = cond (lt (abs (cell a p k)) (abs (cell a i k))) i p
 
@@ -64,13 +64,15 @@ pub data Stage : Type 0 where
   going : List (List Float) → List Float → Stage
   stopped : Stage
 
--- column k with the pivot in row p: swap, divide, eliminate
+-- column k of a matrix whose row k is divided: eliminated
 abbrev pub clearedBy : ℕ → ℕ → List (List Float) → List Float → Stage
 clearedBy n k a b = going (eliminate n k a) (eliminateRight n k a b)
 
+-- its row k divided, then the same
 abbrev pub dividedBy : ℕ → ℕ → List (List Float) → List Float → Stage
 dividedBy n k a b = clearedBy n k (divideRow n k a) (divideRight n k (cell a k k) b)
 
+-- column k with the pivot in row p: swap, divide, eliminate
 unfoldable pub reduce : ℕ → ℕ → ℕ → List (List Float) → List Float → Stage
 reduce n k p a b = dividedBy n k (swapRows n k p a) (swapRight n k p b)
 
@@ -86,6 +88,7 @@ abbrev pub column : ℕ → ℕ → Stage → Stage
 column n k (going a b) = columnBy n k (pivot n k a) a b
 column n k stopped = stopped
 
+-- what a function that answers whether it went on has left
 abbrev pub after : Bool → List (List Float) → List Float → Stage
 after true a b = going a b
 after false a b = stopped

@@ -9,9 +9,10 @@ use lib.ListN.{length, set, length-set}
 use lib.Ieee.{Float, nan, binary64, sub, mul, div, lt, ofBits}
 use borrow.Author.Tests.{eqb-true, eqb-false, eq-eqb}
 use Rattle.common.specs.Lists.{at}
-use Rattle.normal_equations.specs.Tab.{tab-same, tab-of, getD-tab}
-use Rattle.normal_equations.specs.Rows.{row, rows, line-rows}
-use Rattle.normal_equations.specs.Filled.{OneRow, one-set}
+use Rattle.normal_equations.specs.TabLaws.{tab-same, tab-of, getD-tab}
+use Rattle.normal_equations.specs.Rows.{row, rows}
+use Rattle.normal_equations.specs.RowsLaws.{line-rows}
+use Rattle.normal_equations.specs.FilledInner.{OneRow, one-set}
 use Rattle.normal_equations.specs.Normal.{line, cell}
 use Rattle.elimination.specs.Elimination.{exchanged, swapRows, swapRight, dividedAt, divided, divideRow, divideRight, lessAt, less, eliminatedRow, eliminate, going, stopped, column, columnBy, reduce}
 use Rattle.elimination.specs.Inner.{Pivot}

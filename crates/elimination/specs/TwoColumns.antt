@@ -12,9 +12,11 @@ use borrow.Author.Tests.{eqb-true, eqb-false, eq-eqb, ne-eqb, le-leb, lt-leb, lt
 use Rattle.common.specs.Iter.{iter}
 use Rattle.common.specs.Lists.{at}
 use Rattle.float.specs.Ops.{abs}
-use Rattle.normal_equations.specs.Tab.{tab, tab-same, tab-of, getD-tab}
-use Rattle.normal_equations.specs.Rows.{row, rows, line-rows, cell-rows}
-use Rattle.normal_equations.specs.Filled.{Filled, OneRow}
+use Rattle.normal_equations.specs.Tab.{tab}
+use Rattle.normal_equations.specs.TabLaws.{tab-same, tab-of, getD-tab}
+use Rattle.normal_equations.specs.Rows.{row, rows}
+use Rattle.normal_equations.specs.RowsLaws.{line-rows, cell-rows}
+use Rattle.normal_equations.specs.FilledInner.{Filled, OneRow}
 use Rattle.normal_equations.specs.Normal.{line, cell}
 use Rattle.elimination.specs.Elimination.{larger, pivot, exchanged, swapRows, divided, divideRow, lessAt, less, eliminatedRow, eliminate, eliminateRight}
 use Rattle.elimination.specs.EliminationLaws.{swap-cell, divide-cell, eliminate-cell, choice-within}

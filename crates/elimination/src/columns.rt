@@ -31,7 +31,8 @@ fn take_right(b: &mut [f64], col: &[f64], k: usize)
 // Numbers k and p of the right side change places, and number k is divided by d.
 fn scale_right(b: &mut [f64], k: usize, p: usize, d: f64)
     requires { ⌜ (k < length (now b)) × (p < length (now b)) ⌝ }
-    ensures { λ _. ⌜ now (b .exit) ≡ Elimination.divideRight (length (now (b .entry))) k d (Elimination.swapRight (length (now (b .entry))) k p (now (b .entry))) ⌝ }
+    ensures { λ _. ⌜ now (b .exit)
+        ≡ Elimination.divideRight (length (now (b .entry))) k d (Elimination.swapRight (length (now (b .entry))) k p (now (b .entry))) ⌝ }
 {
     let y = b[p] / d;
     b[p] = b[k];
@@ -48,8 +49,12 @@ fn place(
     k: usize,
     p: usize,
 )
-    requires { ⌜ (Inner.Sized (length (now b)) (now a) (now top) (now spare)) × (length (now col) ≡ length (now b)) × (k < length (now b)) × (p < length (now b)) ⌝ }
-    ensures { λ _. ⌜ Inner.PlacedBoth (length (now (b .entry))) k p (now (a .entry)) (now (a .exit)) (now (top .exit)) (now (col .entry)) (now (b .entry)) (now (b .exit)) ⌝ }
+    requires { ⌜ (Inner.Sized (length (now b)) (now a) (now top) (now spare))
+        × (length (now col) ≡ length (now b))
+        × (k < length (now b))
+        × (p < length (now b)) ⌝ }
+    ensures { λ _. ⌜ Inner.PlacedBoth (length (now (b .entry))) k p (now (a .entry)) (now (a .exit)) (now (top .exit)) (now (col .entry)) (now (b .entry))
+        (now (b .exit)) ⌝ }
 {
     let d = place_rows(a, top, spare, k, p);
     scale_right(b, k, p, d);
@@ -89,7 +94,9 @@ pub fn column(
     k: usize,
 ) -> bool
     requires { ⌜ (Inner.Sized (length (now b)) (now a) (now top) (now spare)) × (length (now col) ≡ length (now b)) × (k < length (now b)) ⌝ }
-    ensures { λ r. ⌜ Elimination.column (length (now (b .entry))) k (Elimination.going (rows (length (now (b .entry))) (length (now (b .entry))) (now (a .entry))) (now (b .entry))) ≡ Elimination.after r (rows (length (now (b .entry))) (length (now (b .entry))) (now (a .exit))) (now (b .exit)) ⌝ }
+    ensures { λ r. ⌜ Elimination.column (length (now (b .entry))) k
+        (Elimination.going (rows (length (now (b .entry))) (length (now (b .entry))) (now (a .entry))) (now (b .entry)))
+        ≡ Elimination.after r (rows (length (now (b .entry))) (length (now (b .entry))) (now (a .exit))) (now (b .exit)) ⌝ }
 {
     if !begin(a, b, top, spare, col, k) {
         return false;
@@ -108,8 +115,14 @@ fn finish(
     col: &mut [f64],
     k: usize,
 ) -> bool
-    requires { ⌜ (Inner.Sized (length (now b)) (now a) (now next) (now spare)) × (length (now col) ≡ length (now b)) × (k + 1 < length (now b)) × (length (now top) ≡ length (now b)) × (now top ≡ row (length (now b)) (now a) k) ⌝ }
-    ensures { λ r. ⌜ Elimination.column (length (now (b .entry))) (k + 1) (Elimination.going (Elimination.eliminate (length (now (b .entry))) k (rows (length (now (b .entry))) (length (now (b .entry))) (now (a .entry)))) (now (b .entry))) ≡ Elimination.after r (rows (length (now (b .entry))) (length (now (b .entry))) (now (a .exit))) (now (b .exit)) ⌝ }
+    requires { ⌜ (Inner.Sized (length (now b)) (now a) (now next) (now spare))
+        × (length (now col) ≡ length (now b))
+        × (k + 1 < length (now b))
+        × (length (now top) ≡ length (now b))
+        × (now top ≡ row (length (now b)) (now a) k) ⌝ }
+    ensures { λ r. ⌜ Elimination.column (length (now (b .entry))) (k + 1)
+        (Elimination.going (Elimination.eliminate (length (now (b .entry))) k (rows (length (now (b .entry))) (length (now (b .entry))) (now (a .entry)))) (now (b .entry)))
+        ≡ Elimination.after r (rows (length (now (b .entry))) (length (now (b .entry))) (now (a .exit))) (now (b .exit)) ⌝ }
 {
     let l = k + 1;
     column_after(col, a, top, k);
@@ -134,8 +147,13 @@ pub fn columns(
     col: &mut [f64],
     k: usize,
 ) -> bool
-    requires { ⌜ (Inner.Sized (length (now b)) (now a) (now top) (now spare)) × (length (now next) ≡ length (now b)) × (length (now col) ≡ length (now b)) × (k + 1 < length (now b)) ⌝ }
-    ensures { λ r. ⌜ Elimination.column (length (now (b .entry))) (k + 1) (Elimination.column (length (now (b .entry))) k (Elimination.going (rows (length (now (b .entry))) (length (now (b .entry))) (now (a .entry))) (now (b .entry)))) ≡ Elimination.after r (rows (length (now (b .entry))) (length (now (b .entry))) (now (a .exit))) (now (b .exit)) ⌝ }
+    requires { ⌜ (Inner.Sized (length (now b)) (now a) (now top) (now spare))
+        × (length (now next) ≡ length (now b))
+        × (length (now col) ≡ length (now b))
+        × (k + 1 < length (now b)) ⌝ }
+    ensures { λ r. ⌜ Elimination.column (length (now (b .entry))) (k + 1)
+        (Elimination.column (length (now (b .entry))) k (Elimination.going (rows (length (now (b .entry))) (length (now (b .entry))) (now (a .entry))) (now (b .entry))))
+        ≡ Elimination.after r (rows (length (now (b .entry))) (length (now (b .entry))) (now (a .exit))) (now (b .exit)) ⌝ }
 {
     if !begin(a, b, top, spare, col, k) {
         return false;

@@ -7,6 +7,7 @@ ghost use Rattle.normal_equations.specs.Rows.{rows};
 ghost use Rattle.elimination.specs.Elimination as Elimination;
 use self::columns::column;
 use self::columns::columns;
+use common::DECISION_NUMBERS;
 use normal_equations::equations;
 
 pub mod columns;
@@ -17,13 +18,15 @@ pub mod rows;
 // What is left in a is free either way.
 pub fn solve_dense(a: &mut [f64], b: &mut [f64]) -> bool
     requires { ⌜ (length (now b) ≤ 193) × (length (now a) ≡ length (now b) * length (now b)) ⌝ }
-    ensures { λ r. ⌜ Elimination.told r (now (b .exit)) ≡ Elimination.solveDense (length (now (b .entry))) (rows (length (now (b .entry))) (length (now (b .entry))) (now (a .entry))) (now (b .entry)) ⌝ }
+    ensures { λ r. ⌜ Elimination.told r (now (b .exit))
+        ≡ Elimination.solveDense (length (now (b .entry))) (rows (length (now (b .entry))) (length (now (b .entry))) (now (a .entry)))
+        (now (b .entry)) ⌝ }
 {
     let n = b.len();
-    let mut top = [0.0; 193];
-    let mut next = [0.0; 193];
-    let mut spare = [0.0; 193];
-    let mut col = [0.0; 193];
+    let mut top = [0.0; DECISION_NUMBERS];
+    let mut next = [0.0; DECISION_NUMBERS];
+    let mut spare = [0.0; DECISION_NUMBERS];
+    let mut col = [0.0; DECISION_NUMBERS];
     let mut k = 0;
     while 2 <= n - k {
         if !columns(
@@ -49,7 +52,10 @@ pub fn solve_dense(a: &mut [f64], b: &mut [f64]) -> bool
 // afterwards; g becomes the step. False where the equations are singular: what g holds then is free.
 pub fn damped_step(v: &mut [f64], m: usize, r: &[f64], lambda: f64, g: &mut [f64]) -> bool
     requires { ⌜ (length (now g) ≤ 193) × (m ≤ length (now r)) × (length (now v) ≡ length (now g) * m + length (now g) * length (now g)) ⌝ }
-    ensures { λ x. ⌜ (take (length (now (g .entry)) * m) (now (v .exit)) ≡ take (length (now (g .entry)) * m) (now (v .entry))) × (Elimination.told x (now (g .exit)) ≡ Elimination.dampedStep (length (now (g .entry))) m (rows (length (now (g .entry))) m (take (length (now (g .entry)) * m) (now (v .entry)))) (now (r .entry)) lambda) ⌝ }
+    ensures { λ x. ⌜ (take (length (now (g .entry)) * m) (now (v .exit)) ≡ take (length (now (g .entry)) * m) (now (v .entry)))
+        × (Elimination.told x (now (g .exit))
+        ≡ Elimination.dampedStep (length (now (g .entry))) m (rows (length (now (g .entry))) m (take (length (now (g .entry)) * m) (now (v .entry))))
+        (now (r .entry)) lambda) ⌝ }
 {
     let n = g.len();
     let o = n * m;

@@ -59,7 +59,8 @@ pub fn pivot(col: &[f64], k: usize) -> Best
 // Column k of the rows in a.
 pub fn column_at(col: &mut [f64], a: &[f64], k: usize)
     requires { ⌜ (k < length (now col)) × (length (now a) ≡ length (now col) * length (now col)) ⌝ }
-    ensures { λ _. ⌜ Inner.Column (length (now (col .entry))) k (rows (length (now (col .entry))) (length (now (col .entry))) (now (a .entry))) (now (col .exit)) ⌝ }
+    ensures { λ _. ⌜ Inner.Column (length (now (col .entry))) k (rows (length (now (col .entry))) (length (now (col .entry))) (now (a .entry)))
+        (now (col .exit)) ⌝ }
 {
     let n = col.len();
     let mut i = 0;
@@ -71,8 +72,13 @@ pub fn column_at(col: &mut [f64], a: &[f64], k: usize)
 
 // Column k + 1 as elimination in column k will leave it, top being row k: the rows in a are still to be changed.
 pub fn column_after(col: &mut [f64], a: &[f64], top: &[f64], k: usize)
-    requires { ⌜ (k + 1 < length (now col)) × (length (now top) ≡ length (now col)) × (length (now a) ≡ length (now col) * length (now col)) × (now top ≡ row (length (now col)) (now a) k) ⌝ }
-    ensures { λ _. ⌜ Inner.Column (length (now (col .entry))) (k + 1) (Elimination.eliminate (length (now (col .entry))) k (rows (length (now (col .entry))) (length (now (col .entry))) (now (a .entry)))) (now (col .exit)) ⌝ }
+    requires { ⌜ (k + 1 < length (now col))
+        × (length (now top) ≡ length (now col))
+        × (length (now a) ≡ length (now col) * length (now col))
+        × (now top ≡ row (length (now col)) (now a) k) ⌝ }
+    ensures { λ _. ⌜ Inner.Column (length (now (col .entry))) (k + 1)
+        (Elimination.eliminate (length (now (col .entry))) k (rows (length (now (col .entry))) (length (now (col .entry))) (now (a .entry))))
+        (now (col .exit)) ⌝ }
 {
     let n = col.len();
     let l = k + 1;

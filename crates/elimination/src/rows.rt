@@ -2,7 +2,7 @@
 ghost use mathlib.Core.Path.{_≡_};
 ghost use Prim.Native.Nat.{_+_, _*_, _≤_, _<_};
 ghost use lib.ListN.{length};
-ghost use Rattle.normal_equations.specs.Filled.{OneRow};
+ghost use Rattle.normal_equations.specs.FilledInner.{OneRow};
 ghost use Rattle.normal_equations.specs.Rows.{row, rows};
 ghost use Rattle.elimination.specs.Inner as Inner;
 ghost use Rattle.elimination.specs.Elimination as Elimination;
@@ -37,7 +37,9 @@ fn take_row(row: &mut [f64], top: &[f64], f: f64, k: usize)
 // Row i of elimination in column k, top being row k.
 pub fn elim_row(a: &mut [f64], top: &[f64], k: usize, i: usize)
     requires { ⌜ (k < length (now top)) × (i * length (now top) + length (now top) ≤ length (now a)) ⌝ }
-    ensures { λ _. ⌜ OneRow i (Elimination.eliminatedRow (length (now (top .entry))) k (now (top .entry)) i (row (length (now (top .entry))) (now (a .entry)) i)) (row (length (now (top .entry))) (now (a .entry))) (row (length (now (top .entry))) (now (a .exit))) ⌝ }
+    ensures { λ _. ⌜ OneRow i
+        (Elimination.eliminatedRow (length (now (top .entry))) k (now (top .entry)) i (row (length (now (top .entry))) (now (a .entry)) i))
+        (row (length (now (top .entry))) (now (a .entry))) (row (length (now (top .entry))) (now (a .exit))) ⌝ }
 {
     if i == k {
         return;
@@ -51,7 +53,8 @@ pub fn elim_row(a: &mut [f64], top: &[f64], k: usize, i: usize)
 // Elimination in column k, top being row k.
 pub fn eliminate(a: &mut [f64], top: &[f64], k: usize)
     requires { ⌜ (k < length (now top)) × (length (now a) ≡ length (now top) * length (now top)) × (now top ≡ row (length (now top)) (now a) k) ⌝ }
-    ensures { λ _. ⌜ rows (length (now (top .entry))) (length (now (top .entry))) (now (a .exit)) ≡ Elimination.eliminate (length (now (top .entry))) k (rows (length (now (top .entry))) (length (now (top .entry))) (now (a .entry))) ⌝ }
+    ensures { λ _. ⌜ rows (length (now (top .entry))) (length (now (top .entry))) (now (a .exit))
+        ≡ Elimination.eliminate (length (now (top .entry))) k (rows (length (now (top .entry))) (length (now (top .entry))) (now (a .entry))) ⌝ }
 {
     let n = top.len();
     let mut i = 0;
@@ -80,7 +83,9 @@ fn take_two(row: &mut [f64], t: &[f64], u: &[f64], k: usize)
 // Row i of elimination in columns k and k + 1, t and u being the rows by which it is done.
 fn two_row(a: &mut [f64], t: &[f64], u: &[f64], k: usize, i: usize)
     requires { ⌜ (k + 1 < length (now t)) × (length (now u) ≡ length (now t)) × (i * length (now t) + length (now t) ≤ length (now a)) ⌝ }
-    ensures { λ _. ⌜ OneRow i (Inner.twoRow (length (now (t .entry))) k (now (t .entry)) (now (u .entry)) i (row (length (now (t .entry))) (now (a .entry)) i)) (row (length (now (t .entry))) (now (a .entry))) (row (length (now (t .entry))) (now (a .exit))) ⌝ }
+    ensures { λ _. ⌜ OneRow i
+        (Inner.twoRow (length (now (t .entry))) k (now (t .entry)) (now (u .entry)) i (row (length (now (t .entry))) (now (a .entry)) i))
+        (row (length (now (t .entry))) (now (a .entry))) (row (length (now (t .entry))) (now (a .exit))) ⌝ }
 {
     if i == k {
         elim_row(a, u, k + 1, i);
@@ -97,7 +102,8 @@ fn two_row(a: &mut [f64], t: &[f64], u: &[f64], k: usize, i: usize)
 // Elimination in columns k and k + 1, each number being read and written once for both.
 pub fn eliminate_two(a: &mut [f64], t: &[f64], u: &[f64], k: usize)
     requires { ⌜ (k + 1 < length (now t)) × (length (now u) ≡ length (now t)) × (length (now a) ≡ length (now t) * length (now t)) ⌝ }
-    ensures { λ _. ⌜ rows (length (now (t .entry))) (length (now (t .entry))) (now (a .exit)) ≡ Inner.eliminateTwo (length (now (t .entry))) k (now (t .entry)) (now (u .entry)) (now (a .entry)) ⌝ }
+    ensures { λ _. ⌜ rows (length (now (t .entry))) (length (now (t .entry))) (now (a .exit))
+        ≡ Inner.eliminateTwo (length (now (t .entry))) k (now (t .entry)) (now (u .entry)) (now (a .entry)) ⌝ }
 {
     let n = t.len();
     let mut i = 0;
@@ -109,7 +115,10 @@ pub fn eliminate_two(a: &mut [f64], t: &[f64], u: &[f64], k: usize)
 
 // Rows k and p change places and row k is divided, by the number that is returned; top is row k then, spare is scratch.
 pub fn place_rows(a: &mut [f64], top: &mut [f64], spare: &mut [f64], k: usize, p: usize) -> f64
-    requires { ⌜ (k < length (now top)) × (p < length (now top)) × (length (now spare) ≡ length (now top)) × (length (now a) ≡ length (now top) * length (now top)) ⌝ }
+    requires { ⌜ (k < length (now top))
+        × (p < length (now top))
+        × (length (now spare) ≡ length (now top))
+        × (length (now a) ≡ length (now top) * length (now top)) ⌝ }
     ensures { λ r. ⌜ Inner.Placed (length (now (top .entry))) k p (now (a .entry)) (now (a .exit)) (now (top .exit)) r ⌝ }
 {
     let n = top.len();

@@ -46,7 +46,7 @@ pub extern "C" fn slew_sample(
     index: usize,
     out: &mut [f64],
 ) -> u64
-    ensures { λ r. ⌜ SampleTexts.Gives (SampleTexts.planCourse (now (text .entry)) (length (now (workspace .entry)))) requested alpha index
+    ensures { λ r. ⌜ SampleTexts.Gives (SampleTexts.planCourse (now (text .entry))) requested alpha index
         (now (workspace .entry)) (now (out .entry)) r (now (workspace .exit)) (now (out .exit)) ⌝ }
 {
     sample_text(text, workspace, requested, alpha, index, out)

@@ -5,7 +5,7 @@ use mathlib.Core.List.{List}
 use lib.IntN.{ℤ}
 use lib.ListN.{length}
 use Rattle.drive_numbers.specs.Drive.{ofDriven}
-use Rattle.drive_numbers.specs.Lists.{Listing, ofListing, over}
+use Rattle.drive_numbers.specs.Lists.{Listing, ofListing, overRows}
 use Rattle.drive_numbers.specs.declared.Driven.{Driven}
 use Rattle.export_leaves.specs.Outcomes.{Placed}
 
@@ -18,4 +18,4 @@ pub record SampleTold (d : Driven) (n k : ℕ) (out : List ℤ) : Type 0 where
 pub record ListTold (l : Listing) (n k rows : ℕ) (out out′ : List (List ℤ)) : Type 0 where
   pub placed : Placed (ofListing l) n k
   pub rows-are : rows ≡ length (l .rows)
-  pub out-is : out′ ≡ over l out
+  pub out-is : out′ ≡ overRows l out

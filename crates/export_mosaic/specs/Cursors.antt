@@ -107,10 +107,10 @@ leaves c ws = Plans.leaves (c .runs + c .«refused_runs») ws
 pub record Fills (f : Flight) (r : Cursor) (counts counts′ : List (List ℕ)) (times times′ decisions decisions′ : List (List Float))
     (nodes nodes′ : List (List (List Float))) (ws ws′ : List Float) : Type 0 where
   pub cursor : r ≡ f .cursor
-  pub counts-as : counts′ ≡ Layout.over Layout.counts (f .legs) counts
-  pub times-as : times′ ≡ Layout.over Layout.times (f .legs) times
-  pub decisions-as : decisions′ ≡ Layout.over Layout.decision (f .legs) decisions
-  pub nodes-as : nodes′ ≡ Layout.over Layout.nodes (f .legs) nodes
+  pub counts-as : counts′ ≡ Layout.legRows Layout.counts (f .legs) counts
+  pub times-as : times′ ≡ Layout.legRows Layout.times (f .legs) times
+  pub decisions-as : decisions′ ≡ Layout.legRows Layout.decision (f .legs) decisions
+  pub nodes-as : nodes′ ≡ Layout.legRows Layout.nodes (f .legs) nodes
   pub left : ws′ ≡ leaves (f .cursor) ws
 
 -- what a call tells of it: its cursor, and in each lent list a row for each leg

@@ -9,7 +9,7 @@ use Rattle.common.specs.Lists.{at}
 use Rattle.common.specs.declared.Fate.the-variants.{Going}
 use Rattle.forward.specs.declared.Node.{Node}
 use Rattle.problem.specs.declared.Momenta.{Momenta}
-use Rattle.residuals.specs.Sums.{nodeAt}
+use Rattle.forward.specs.Runs.{nodeAt}
 use Rattle.samples.specs.Rows.{row, rows}
 use Rattle.sample_laws.specs.Rows.{row-is}
 use Rattle.planner.specs.Plans as Plans

@@ -4,9 +4,9 @@ use mathlib.Core.Path.{_≡_}
 use mathlib.Core.Bool.{Bool}
 use mathlib.Core.List.{List}
 use lib.Ieee.{Float}
-use Rattle.forward.specs.Operations as Forward
+use Rattle.forward.specs.Reconstruct as Forward
 use Rattle.forward.specs.declared.Reconstructed.{Reconstructed}
-use Rattle.residuals.specs.Operations as Residuals
+use Rattle.residuals.specs.MeasuredResiduals as Residuals
 use Rattle.residuals.specs.declared.Measured.{Measured}
 use Rattle.samples.specs.Rows.{rows}
 use Rattle.export_leaves.specs.Outcomes.{Counted}

@@ -5,9 +5,9 @@ use mathlib.Core.List.{List}
 use lib.Ieee.{Float}
 use Rattle.common.specs.declared.Fate.{Fate}
 use Rattle.common.specs.declared.Fate.the-variants.{Going, Refused}
-use Rattle.forward.specs.Operations as Forward
+use Rattle.forward.specs.Reconstruct as Forward
 use Rattle.forward.specs.declared.Reconstructed.{Reconstructed}
-use Rattle.residuals.specs.Operations as Residuals
+use Rattle.residuals.specs.MeasuredResiduals as Residuals
 use Rattle.residuals.specs.declared.Measured.{Measured}
 use Rattle.samples.specs.Rows.{rows}
 use Rattle.export_leaves.specs.Outcomes.{fateNumber, fatePlace}

@@ -1,10 +1,6 @@
 // The C interface of a path's dense samples as one list, thin over the proved library. `rt staticlib export_samples` makes the archive.
 //
 // In C an `&mut [[f64; 14]]` is a pointer to rows of 14 numbers and a count of rows. The function answers the refusal's number, or 0 where the list is whole.
-ghost use mathlib.Core.Path.{_≡_};
-ghost use Rattle.geom.specs.Vec as Vec;
-ghost use Rattle.sample_lists.specs.Lists as Lists;
-ghost use Rattle.export_leaves.specs.Outcomes as Outcomes;
 ghost use Rattle.export_samples.specs.Entries as Entries;
 use export_leaves::pack::number_of;
 use export_leaves::pack::place_of;
@@ -22,11 +18,20 @@ pub extern "C" fn slew_sample_list(
     rows: &mut usize,
     place: &mut usize,
 ) -> usize
-    ensures { λ r. ⌜ Entries.Told (Entries.asked (now (j .entry)) tolerance duration (now (nodes .entry)) requested alpha (now (out .entry))) r (now (place .exit)) ⌝ }
-    ensures { λ _. ⌜ Entries.Written (Entries.asked (now (j .entry)) tolerance duration (now (nodes .entry)) requested alpha (now (out .entry))) (now (out .entry)) (now (rows .exit)) (now (out .exit)) ⌝ }
+    ensures { λ r. ⌜ Entries.Tells (now (j .entry)) tolerance duration (now (nodes .entry)) requested alpha (now (out .entry)) r (now (place .exit)) ⌝ }
+    ensures { λ _. ⌜ Entries.Writes (now (j .entry)) tolerance duration (now (nodes .entry)) requested alpha (now (out .entry))
+        (now (rows .exit)) (now (out .exit)) ⌝ }
 {
     let inertia = geom::tensor(*j);
-    let made = sample_lists::sample_list(inertia, tolerance, duration, nodes, requested, alpha, out);
+    let made = sample_lists::sample_list(
+        inertia,
+        tolerance,
+        duration,
+        nodes,
+        requested,
+        alpha,
+        out,
+    );
     let fate = made.fate;
     *rows = made.rows;
     *place = place_of(fate);

@@ -1,51 +1,65 @@
 -- A run part of the way, as the code keeps it, with its nodes in lent rows, and the rest of its steps. Assumes nothing.
 use Prim.Native.Nat.{ℕ, zero, suc, _+_, _-_, _≤_, _<_}
 use mathlib.Core.Path.{_≡_, refl, sym, ap, subst, _∙_}
+use mathlib.Core.Bool.{true}
 use mathlib.Core.List.{List}
 use native.Mathlib.Nat.{zero-add, suc-add}
 use native.Mathlib.Omega.{arith}
 use lib.Dec.{T}
-use lib.ListN.{length, getD, set, replicate, length-set}
+use lib.ListN.{length, getD, set, length-set}
 use lib.Seq.{ext-getD, getD-set-same, getD-set-other}
 use lib.Ieee.{Float, binary64, ofBits}
 use borrow.Author.Count.{below-more}
-use Rattle.common.specs.Iter.{iter, iter-none, iter-next, iter-stays}
+use Rattle.common.specs.Floats as Floats
+use Rattle.common.specs.Iter.{iter}
+use Rattle.common.specs.IterLaws.{iter-none, iter-next, iter-stays}
 use Rattle.common.specs.declared.Fate.{Fate}
 use Rattle.common.specs.declared.Fate.the-variants.{Going, Refused}
 use Rattle.float.specs.Sqrt.{sqrt}
 use Rattle.geom.specs.Vec as Vec
+use Rattle.actuators.specs.Maps.{controlDim, isSized}
 use Rattle.control_rows.specs.declared.Rig.{Rig}
-use Rattle.forward.specs.Decisions.{rowOf}
-use Rattle.forward.specs.Defects.{upright}
-use Rattle.forward.specs.Steps.{Body, step}
-use Rattle.forward.specs.StepLaws.{Made}
-use Rattle.forward.specs.Runs.{Course, advance, courseBy, courseTurn, startCourse, course, onward, endBy, endOf, ended, runFrom, refusedRun, nodeOf, blankNode, noNode}
-use Rattle.forward.specs.RunLaws.{going, turn-refused}
+use Rattle.control_rows.specs.declared.WheelLaw.{WheelLaw}
+use Rattle.controls.specs.Controls.{rigUnder}
+use Rattle.problem.specs.declared.CheckedProblem.{CheckedProblem}
+use Rattle.forward.specs.Decisions.{stepTime}
+use Rattle.forward.specs.DefectLaws.{upright}
+use Rattle.forward.specs.Steps.{Body}
+use Rattle.forward.specs.StepLaws.{SkewOf, Made}
+use Rattle.forward.specs.Runs.{Rollout, advance, rolloutTurn, startRollout, rollout, onward, endBy, endOf, endedRun, runFrom, refusedRun, nodeOf, noNode, bodyUnder}
+use Rattle.forward.specs.RunLaws.{goingRollout, turn-refused}
 use Rattle.forward.specs.Rows.{torqueIn, nodeFrom, nodesFrom, rowAt, SameBelow}
 use Rattle.forward.specs.RowLaws.{nodes-set, nodes-at, nodes-length, below-set}
-use Rattle.forward.specs.declared.State.{State}
-use Rattle.forward.specs.declared.Stepped.{Stepped}
+use Rattle.forward.specs.declared.Skew.{Skew}
+use Rattle.forward.specs.declared.BodyState.{BodyState}
 use Rattle.forward.specs.declared.Node.{Node}
 use Rattle.forward.specs.declared.Partway.{Partway}
 use Rattle.forward.specs.declared.Went.{Went}
 use Rattle.forward.specs.declared.Run.{Run}
 
--- the course that it stands for with the rows v: the largest defect is kept squared
-abbrev pub courseOf : Partway → List (List Float) → Course
-courseOf c v = going (c .s) (sqrt binary64 (c .square)) (nodesFrom v)
+-- the rollout that it stands for with the rows v: the largest defect is kept squared
+abbrev pub rolloutOf : Partway → List (List Float) → Rollout
+rolloutOf c v = goingRollout (c .s) (sqrt binary64 (c .square)) (nodesFrom v)
 
-abbrev pub unbegun : State → List Float → Partway
-unbegun s a = record { s = s; a = a; square = Vec.plusZero }
+abbrev pub unbegun : BodyState → List Float → Partway
+unbegun s a = record { s = s; a = a; square = Floats.plusZero }
 
 -- the pyramid's matrix is that of the state, and the square has a plus sign
 pub record Sound (r : Rig) (c : Partway) : Type 0 where
   pub matrix : Made (r .cmgs) (c .s .delta) (c .a)
   pub plus : T (upright (c .square))
 
+-- a problem that runs may take, the sine and cosine of its pyramid's skew, and a run of it part of the way
+pub record Fits (law : WheelLaw) (p : CheckedProblem) (skew : Skew) (c : Partway) : Type 0 where
+  pub sized : isSized (p .map) ≡ true
+  pub narrow : controlDim (p .map) ≤ 12
+  pub skewed : SkewOf (p .map .cmgs) skew
+  pub sound : Sound (rigUnder law (p .map)) c
+
 -- x with the rows u is what steps k up to `end` make of c with the rows v
 pub record Reached (b : Body) (n : ℕ) (z : List Float) (k end : ℕ) (c : Partway) (v : List (List Float)) (x : Went) (u : List (List Float)) : Type 0 where
-  pub fates : x .fate ≡ onward b n z k (courseOf c v) (end - k) .fate
-  pub goes : x .fate ≡ Going → courseOf (x .at) u ≡ onward b n z k (courseOf c v) (end - k)
+  pub fates : x .fate ≡ onward b n z k (rolloutOf c v) (end - k) .fate
+  pub goes : x .fate ≡ Going → rolloutOf (x .at) u ≡ onward b n z k (rolloutOf c v) (end - k)
   pub sound : x .fate ≡ Going → Sound (b .rig) (x .at)
   pub below : SameBelow k v u
   pub size : length u ≡ length v
@@ -53,20 +67,24 @@ pub record Reached (b : Body) (n : ℕ) (z : List Float) (k end : ℕ) (c : Part
 never : {A : Type 0} {u v : ℕ} → Refused u v ≡ Going → A
 never w = let t : _≡_ {A = ℕ} 0 1 = cc in absurd (omega arith)
 
+-- of a problem and a decision
+abbrev pub ReachedUnder : WheelLaw → CheckedProblem → List Float → ℕ → ℕ → Partway → List (List Float) → Went → List (List Float) → Type 0
+ReachedUnder law p z k end c v x u = Reached (bodyUnder law p (stepTime z)) (controlDim (p .map)) z k end c v x u
+
 -- ---- how steps end
 module _ (b : Body) (n : ℕ) (z : List Float) (k end : ℕ) (c : Partway) (v : List (List Float)) where
   -- step i is refused
-  pub reached-refused : (i : ℕ) (p : Course) {x : Went} {u : List (List Float)} {h j : ℕ} → k < i → i ≤ end → p ≡ iter (λ (d : ℕ). courseTurn b n z (d + k)) (courseOf c v) (i - k - 1)
-      → courseTurn b n z (i - 1) p .fate ≡ Refused h j → x .fate ≡ Refused h j → SameBelow k v u → length u ≡ length v → Reached b n z k end c v x u
+  pub reached-refused : (i : ℕ) (p : Rollout) {x : Went} {u : List (List Float)} {h j : ℕ} → k < i → i ≤ end → p ≡ iter (λ (d : ℕ). rolloutTurn b n z (d + k)) (rolloutOf c v) (i - k - 1)
+      → rolloutTurn b n z (i - 1) p .fate ≡ Refused h j → x .fate ≡ Refused h j → SameBelow k v u → length u ≡ length v → Reached b n z k end c v x u
   unfolding onward
   reached-refused i p {x} {u} {h} {j} l m e q f s t =
-      let p2 : Course = courseTurn b n z (i - 1) p in
+      let p2 : Rollout = rolloutTurn b n z (i - 1) p in
       let o : i - 1 ≡ i - k - 1 + k = omega arith in
-      let next : p2 ≡ courseTurn b n z (i - k - 1 + k) p = ap (λ (d : ℕ). courseTurn b n z d p) o in
-      let all : p2 ≡ iter (λ (d : ℕ). courseTurn b n z (d + k)) (courseOf c v) (end - k) =
+      let next : p2 ≡ rolloutTurn b n z (i - k - 1 + k) p = ap (λ (d : ℕ). rolloutTurn b n z d p) o in
+      let all : p2 ≡ iter (λ (d : ℕ). rolloutTurn b n z (d + k)) (rolloutOf c v) (end - k) =
       iter-stays _ _ (i - k - 1 + 1) (end - k) (omega arith) (iter-next _ _ (i - k - 1) e next) (λ d. turn-refused b n z (d + k) p2 q) in
       record {
-        fates = f ∙ (sym q ∙ ap (λ (y : Course). y .fate) all);
+        fates = f ∙ (sym q ∙ ap (λ (y : Rollout). y .fate) all);
         goes = λ g. never (sym f ∙ g);
         sound = λ g. never (sym f ∙ g);
         below = s;
@@ -74,13 +92,13 @@ module _ (b : Body) (n : ℕ) (z : List Float) (k end : ℕ) (c : Partway) (v : 
       }
 
   -- all of them went on
-  pub reached-going : {x : Went} {u : List (List Float)} → x .fate ≡ Going → courseOf (x .at) u ≡ iter (λ (d : ℕ). courseTurn b n z (d + k)) (courseOf c v) (end - k) → Sound (b .rig) (x .at)
+  pub reached-going : {x : Went} {u : List (List Float)} → x .fate ≡ Going → rolloutOf (x .at) u ≡ iter (λ (d : ℕ). rolloutTurn b n z (d + k)) (rolloutOf c v) (end - k) → Sound (b .rig) (x .at)
       → SameBelow k v u → length u ≡ length v → Reached b n z k end c v x u
   unfolding onward
-  reached-going {x} f e s o t = record { fates = f ∙ ap (λ (y : Course). y .fate) e; goes = λ g. e; sound = λ g. s; below = o; size = t }
+  reached-going {x} f e s o t = record { fates = f ∙ ap (λ (y : Rollout). y .fate) e; goes = λ g. e; sound = λ g. s; below = o; size = t }
 
--- ---- courses whose first nodes are the same: what stands in the others no step reads
-pub record Alike (k : ℕ) (x y : Course) : Type 0 where
+-- ---- rollouts whose first nodes are the same: what stands in the others no step reads
+pub record Alike (k : ℕ) (x y : Rollout) : Type 0 where
   pub fates : x .fate ≡ y .fate
   pub states : x .fate ≡ Going → x .s ≡ y .s
   pub defects : x .fate ≡ Going → x .defect ≡ y .defect
@@ -98,8 +116,8 @@ nodes-more k l m a h o e =
 
 module _ (b : Body) (n : ℕ) (z : List Float) where
   -- one step more
-  alike-goes : (k : ℕ) (x y : Course) → x .fate ≡ Going → k < 17 → Alike k x y → Alike (k + 1) (courseTurn b n z k x) (courseTurn b n z k y)
-  unfolding courseTurn advance
+  alike-goes : (k : ℕ) (x y : Rollout) → x .fate ≡ Going → k < 17 → Alike k x y → Alike (k + 1) (rolloutTurn b n z k x) (rolloutTurn b n z k y)
+  unfolding rolloutTurn advance
   alike-goes k x y e h o =
       rw (← o .fates, e, ← o .states e, ← o .defects e)
       (record {
@@ -111,7 +129,7 @@ module _ (b : Body) (n : ℕ) (z : List Float) where
         size = length-set (y .nodes) k _ ∙ o .size;
       })
 
-  alike-by : (k : ℕ) (x y : Course) (f : Fate) → x .fate ≡ f → k < 17 → Alike k x y → Alike (k + 1) (courseTurn b n z k x) (courseTurn b n z k y)
+  alike-by : (k : ℕ) (x y : Rollout) (f : Fate) → x .fate ≡ f → k < 17 → Alike k x y → Alike (k + 1) (rolloutTurn b n z k x) (rolloutTurn b n z k y)
   alike-by k x y Going e h o = alike-goes k x y e h o
   alike-by k x y (Refused i j) e h o =
       rw (turn-refused b n z k x e, turn-refused b n z k y (sym (o .fates) ∙ e))
@@ -125,7 +143,7 @@ module _ (b : Body) (n : ℕ) (z : List Float) where
       })
 
   -- d steps more
-  alike-on : (k : ℕ) (x y : Course) (d : ℕ) → d + k ≤ 17 → Alike k x y → Alike (d + k) (iter (λ (j : ℕ). courseTurn b n z (j + k)) x d) (iter (λ (j : ℕ). courseTurn b n z (j + k)) y d)
+  alike-on : (k : ℕ) (x y : Rollout) (d : ℕ) → d + k ≤ 17 → Alike k x y → Alike (d + k) (iter (λ (j : ℕ). rolloutTurn b n z (j + k)) x d) (iter (λ (j : ℕ). rolloutTurn b n z (j + k)) y d)
   unfolding iter
   alike-on k x y zero h o = rw zero-add o
   alike-on k x y (suc d) h o =
@@ -146,10 +164,10 @@ unfolding iter
 iter-on f a k zero = rw zero-add refl
 iter-on f a k (suc d) = rw suc-add (ap (f (d + k)) (iter-on f a k d))
 
-module _ (b : Body) (n : ℕ) (z : List Float) (from : State) where
+module _ (b : Body) (n : ℕ) (z : List Float) (from : BodyState) where
   -- c with the first k of the rows v is the run from `from` after k steps
   abbrev pub Stands : ℕ → Partway → List (List Float) → Type 0
-  Stands k c v = Alike k (courseOf c v) (iter (courseTurn b n z) (startCourse from) k)
+  Stands k c v = Alike k (rolloutOf c v) (iter (rolloutTurn b n z) (startRollout from) k)
 
   pub stands-first : (a : List Float) (v : List (List Float)) → length v ≡ 17 → Stands 0 (unbegun from a) v
   unfolding sqrt ofBits iter
@@ -170,11 +188,11 @@ module _ (b : Body) (n : ℕ) (z : List Float) (from : State) where
   }
 
   module _ {k end : ℕ} {c : Partway} {v u : List (List Float)} {x : Went} (h : Stands k c v) (l : k ≤ end) (m : end ≤ 16) (r : Reached b n z k end c v x u) where
-    further : Alike end (onward b n z k (courseOf c v) (end - k)) (iter (courseTurn b n z) (startCourse from) end)
+    further : Alike end (onward b n z k (rolloutOf c v) (end - k)) (iter (rolloutTurn b n z) (startRollout from) end)
     unfolding onward
     further =
         let e : end - k + k ≡ end = omega arith in
-        rw e at (rw (iter-on (courseTurn b n z) (startCourse from) k (end - k)) at (alike-on b n z k (courseOf c v) (iter (courseTurn b n z) (startCourse from) k) (end - k) (omega arith) h))
+        rw e at (rw (iter-on (rolloutTurn b n z) (startRollout from) k (end - k)) at (alike-on b n z k (rolloutOf c v) (iter (rolloutTurn b n z) (startRollout from) k) (end - k) (omega arith) h))
 
     pub stands-on : x .fate ≡ Going → Stands end (x .at) u
     stands-on g = rw (r .goes g) further
@@ -188,8 +206,8 @@ last-same l m a h o e =
 abbrev ending : Float → List Node → Run
 ending d ns = record { fate = Going; defect = d; nodes = ns }
 
-ended-alike : (b : Body) (x y : Course) → x .fate ≡ Going → Alike 16 x y → ended b x ≡ ended b y
-ended-alike b x y e o =
+ended-run-alike : (b : Body) (x y : Rollout) → x .fate ≡ Going → Alike 16 x y → endedRun b x ≡ endedRun b y
+ended-run-alike b x y e o =
     rw (← o .states e, ← o .defects e, ← o .nodes e 15 (omega arith))
     (ap (λ (ns : List Node). ending (x .defect) ns) (last-same (x .nodes) (y .nodes) _ (o .long) (o .size) (o .nodes e)))
 
@@ -203,26 +221,26 @@ unfolding nodeFrom
 lasts-set dt x v r h t e g =
     nodes-set v 16 r ∙ ap (λ (a : Node). set (nodesFrom v) 16 a) (e ∙ ap (nodeOf dt 16 (x .at .s)) (t ∙ sym (ap (λ (a : Node). a .tau) (nodes-at v 15 h))))
 
-module _ (b : Body) (n : ℕ) (z : List Float) (from : State) where
+module _ (b : Body) (n : ℕ) (z : List Float) (from : BodyState) where
   module _ {k : ℕ} {c : Partway} {v u : List (List Float)} {x : Went} (h : Stands b n z from k c v) (l : k ≤ 16) (r : Reached b n z k 16 c v x u) where
-    ended-by : (w : List (List Float)) (f : Fate) → x .fate ≡ f → Lasts (b .frame .dt) x u w → told x w ≡ endOf b (course b n z from)
-    unfolding told endOf course
-    ended-by w Going e last =
+    ended-run-by : (w : List (List Float)) (f : Fate) → x .fate ≡ f → Lasts (b .frame .dt) x u w → told x w ≡ endOf b (rollout b n z from)
+    unfolding told endOf rollout
+    ended-run-by w Going e last =
         let a = stands-on b n z from h l (omega arith) r e in
-        let goes = ap (λ (g : Fate). endBy g b (iter (courseTurn b n z) (startCourse from) 16)) (sym (a .fates)) in
-        rw (e, last e) (ended-alike b (courseOf (x .at) u) (iter (courseTurn b n z) (startCourse from) 16) refl a ∙ sym goes)
-    ended-by w (Refused i j) e last =
+        let goes = ap (λ (g : Fate). endBy g b (iter (rolloutTurn b n z) (startRollout from) 16)) (sym (a .fates)) in
+        rw (e, last e) (ended-run-alike b (rolloutOf (x .at) u) (iter (rolloutTurn b n z) (startRollout from) 16) refl a ∙ sym goes)
+    ended-run-by w (Refused i j) e last =
         let a = further b n z from h l (omega arith) r in
-        rw (e) (sym (ap (λ (g : Fate). endBy g b (iter (courseTurn b n z) (startCourse from) 16)) (sym (a .fates) ∙ (sym (r .fates) ∙ e))))
+        rw (e) (sym (ap (λ (g : Fate). endBy g b (iter (rolloutTurn b n z) (startRollout from) 16)) (sym (a .fates) ∙ (sym (r .fates) ∙ e))))
 
     -- a run that goes on from there is the whole run
     ends-whole : (w : List (List Float)) → Lasts (b .frame .dt) x u w → told x w ≡ runFrom b n z from
     unfolding runFrom
-    ends-whole w last = ended-by w (x .fate) refl last
+    ends-whole w last = ended-run-by w (x .fate) refl last
 
 -- x with the rows u is the rest of the run after its first k steps, which are c with the rows v
 pub record Ran (b : Body) (n : ℕ) (z : List Float) (k : ℕ) (c : Partway) (v : List (List Float)) (x : Went) (u : List (List Float)) : Type 0 where
-  pub whole : (from : State) → Stands b n z from k c v → told x u ≡ runFrom b n z from
+  pub whole : (from : BodyState) → Stands b n z from k c v → told x u ≡ runFrom b n z from
   pub below : SameBelow k v u
   pub size : length u ≡ length v
 
@@ -237,3 +255,7 @@ module _ (b : Body) (n : ℕ) (z : List Float) (k : ℕ) (c : Partway) (v : List
     below = below-set k v u 16 row few (r .below);
     size = length-set u 16 row ∙ r .size;
   }
+
+-- of a problem and a decision
+abbrev pub RanUnder : WheelLaw → CheckedProblem → List Float → ℕ → Partway → List (List Float) → Went → List (List Float) → Type 0
+RanUnder law p z k c v x u = Ran (bodyUnder law p (stepTime z)) (controlDim (p .map)) z k c v x u

@@ -11,7 +11,7 @@ use Rattle.common.specs.Lists.{at}
 use Rattle.forward.specs.Runs.{noNode, nodeOf}
 use Rattle.forward.specs.Rows.{nodeFrom, nodesFrom, rowAt, SameBelow}
 use Rattle.forward.specs.declared.Node.{Node}
-use Rattle.forward.specs.declared.State.{State}
+use Rattle.forward.specs.declared.BodyState.{BodyState}
 
 map-set : {A B : Type 0} (f : A → B) (l : List A) (i : ℕ) (x : A) → map f (set l i x) ≡ set (map f l) i (f x)
 map-set f [] i x = refl
@@ -56,7 +56,7 @@ eight (a ∷ b ∷ c ∷ d ∷ []) h = absurd (omega arith)
 eight (a ∷ b ∷ c ∷ d ∷ e ∷ l) h = ap (λ (x : List Float). a ∷ b ∷ c ∷ d ∷ e ∷ x) (three l (omega arith))
 
 -- the numbers of node k: the state at its time, with the torque tau
-abbrev pub numbers : Float → ℕ → State → List Float → List Float
+abbrev pub numbers : Float → ℕ → BodyState → List Float → List Float
 numbers dt k s tau =
     mul binary64 (ofInt binary64 (pos k)) dt ∷ s .q .w ∷ s .q .x ∷ s .q .y ∷ s .q .z
     ∷ at (s .w) 0 ∷ at (s .w) 1 ∷ at (s .w) 2
@@ -65,6 +65,6 @@ numbers dt k s tau =
     ∷ at (s .hw) 0 ∷ at (s .hw) 1 ∷ at (s .hw) 2 ∷ at (s .hw) 3 ∷ at (s .hw) 4 ∷ at (s .hw) 5 ∷ at (s .hw) 6 ∷ at (s .hw) 7
     ∷ []
 
-pub numbers-node : (dt : Float) (k : ℕ) (s : State) (tau : List Float) → length (s .w) ≡ 3 → length tau ≡ 3 → length (s .h) ≡ 3 → length (s .hw) ≡ 8 → nodeFrom (numbers dt k s tau) ≡ nodeOf dt k s tau
+pub numbers-node : (dt : Float) (k : ℕ) (s : BodyState) (tau : List Float) → length (s .w) ≡ 3 → length tau ≡ 3 → length (s .h) ≡ 3 → length (s .hw) ≡ 8 → nodeFrom (numbers dt k s tau) ≡ nodeOf dt k s tau
 unfolding nodeFrom nodeOf
 numbers-node dt k s tau w u h m = rw (three (s .w) w, three tau u, three (s .h) h, eight (s .hw) m)

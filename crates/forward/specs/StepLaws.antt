@@ -26,10 +26,10 @@ use Rattle.control_limits.specs.Limits.{powerExcess}
 use Rattle.control_rows.specs.Parts as Parts
 use Rattle.control_rows.specs.Parts.{Sized, width, rowTorque, momentaNext}
 use Rattle.control_rows.specs.declared.Rig.{Rig}
-use Rattle.forward.specs.Steps.{Body, matrixAt, swing, swingBy, swungBy, noSwing, gimbalsNext, gimbalRow, stop, slack, attitudeStep, powered, wheelMomenta, bodyMomentum, rateDot, rateNext, defectOf, turnOf, turnedStep, ratedStep, torquedStep, step}
+use Rattle.forward.specs.Steps.{Body, matrixAt, stepGimbals, swingBy, gimbalsBy, refuseGimbals, gimbalsNext, gimbalRow, stop, slack, attitudeStep, powered, wheelMomenta, bodyMomentum, rateDot, rateNext, defectOf, turnOf, turnedStep, ratedStep, torquedStep, step}
 use Rattle.forward.specs.declared.Skew.{Skew}
-use Rattle.forward.specs.declared.Swung.{Swung}
-use Rattle.forward.specs.declared.State.{State}
+use Rattle.forward.specs.declared.GimbalStep.{GimbalStep}
+use Rattle.forward.specs.declared.BodyState.{BodyState}
 use Rattle.forward.specs.declared.Stepped.{Stepped}
 
 -- the sine and the cosine of the pyramid's skew
@@ -45,7 +45,7 @@ Made c d a = matrixAt c d ≡ record { fate = Going; a = a }
 abbrev pub rooted : Stepped → Stepped
 rooted g = record { fate = g .fate; s = g .s; tau = g .tau; defect = sqrt binary64 (g .defect) }
 
-pub rooted-stop : (n i : ℕ) (s : State) → rooted (stop n i s) ≡ stop n i s
+pub rooted-stop : (n i : ℕ) (s : BodyState) → rooted (stop n i s) ≡ stop n i s
 unfolding sqrt ofBits
 rooted-stop n i s = refl
 
@@ -56,31 +56,31 @@ refused-going h = let z : _≡_ {A = ℕ} 0 1 = cc in omega arith
 pub made : (m : Jacobian) {e : Fate} {a : List Float} → m .fate ≡ e → m .a ≡ a → m ≡ record { fate = e; a = a }
 made m f g = rw (← f, ← g) refl
 
-swung-matrix : (p : CmgPyramid) (d : List Float) (k : ℕ) (e : Fate) (a : List Float) → pyramidA (p .«skew_rad») d .fate ≡ e → pyramidA (p .«skew_rad») d .a ≡ a → swungBy e a p d k .fate ≡ Going
-    → Made (With p) (swungBy e a p d k .delta) (swungBy e a p d k .a)
-swung-matrix p d k (Refused n i) a f g h = absurd (refused-going h)
-swung-matrix p d k Going a f g h = go (lt (singularityOf a) (p .«singularity_eps»)) h
+pyramid-matrix : (p : CmgPyramid) (d : List Float) (k : ℕ) (e : Fate) (a : List Float) → pyramidA (p .«skew_rad») d .fate ≡ e → pyramidA (p .«skew_rad») d .a ≡ a → gimbalsBy e a p d k .fate ≡ Going
+    → Made (With p) (gimbalsBy e a p d k .delta) (gimbalsBy e a p d k .a)
+pyramid-matrix p d k (Refused n i) a f g h = absurd (refused-going h)
+pyramid-matrix p d k Going a f g h = go (lt (singularityOf a) (p .«singularity_eps»)) h
   where
-    out : Swung
+    out : GimbalStep
     out = record { fate = Going; delta = d; a = a }
 
-    go : (b : Bool) → cond b (noSwing 12 k) out .fate ≡ Going → Made (With p) (cond b (noSwing 12 k) out .delta) (cond b (noSwing 12 k) out .a)
+    go : (b : Bool) → cond b (refuseGimbals 12 k) out .fate ≡ Going → Made (With p) (cond b (refuseGimbals 12 k) out .delta) (cond b (refuseGimbals 12 k) out .a)
     go true h = absurd (refused-going h)
     go false h = made (pyramidA (p .«skew_rad») d) f g
 
-swing-matrix-by : (c : Cmgs) (u d : List Float) (dt : Float) (k : ℕ) → swingBy c u d dt k .fate ≡ Going → Made c (swingBy c u d dt k .delta) (swingBy c u d dt k .a)
-swing-matrix-by Without u d dt k h = refl
-swing-matrix-by (With p) u d dt k h = swung-matrix p (gimbalsNext u d dt) k _ _ refl refl h
+gimbals-matrix-by : (c : Cmgs) (u d : List Float) (dt : Float) (k : ℕ) → swingBy c u d dt k .fate ≡ Going → Made c (swingBy c u d dt k .delta) (swingBy c u d dt k .a)
+gimbals-matrix-by Without u d dt k h = refl
+gimbals-matrix-by (With p) u d dt k h = pyramid-matrix p (gimbalsNext u d dt) k _ _ refl refl h
 
-pub swing-matrix : (c : Cmgs) (u d : List Float) (dt : Float) (k : ℕ) → swing c u d dt k .fate ≡ Going → Made c (swing c u d dt k .delta) (swing c u d dt k .a)
-unfolding swing
-swing-matrix c u d dt k h = swing-matrix-by c u d dt k h
+pub gimbals-matrix : (c : Cmgs) (u d : List Float) (dt : Float) (k : ℕ) → stepGimbals c u d dt k .fate ≡ Going → Made c (stepGimbals c u d dt k .delta) (stepGimbals c u d dt k .a)
+unfolding stepGimbals
+gimbals-matrix c u d dt k h = gimbals-matrix-by c u d dt k h
 
 -- what the code works out is the swing: the angles e, and the matrix m there from the skew's sine and cosine
-pub swung-is : (p : CmgPyramid) (u d : List Float) (dt : Float) (k : ℕ) (skew : Skew) {e : List Float} {m : Jacobian}
-    → SkewOf (With p) skew → e ≡ gimbalsNext u d dt → m ≡ pyramidFrom (skew .sine) (skew .cosine) e → swungBy (m .fate) (m .a) p e k ≡ swing (With p) u d dt k
-unfolding swing
-swung-is p u d dt k skew h q r = rw (r, q, pyramid-once (p .«skew_rad») (skew .sine) (skew .cosine) (gimbalsNext u d dt) h) refl
+pub pyramid-steps : (p : CmgPyramid) (u d : List Float) (dt : Float) (k : ℕ) (skew : Skew) {e : List Float} {m : Jacobian}
+    → SkewOf (With p) skew → e ≡ gimbalsNext u d dt → m ≡ pyramidFrom (skew .sine) (skew .cosine) e → gimbalsBy (m .fate) (m .a) p e k ≡ stepGimbals (With p) u d dt k
+unfolding stepGimbals
+pyramid-steps p u d dt k skew h q r = rw (r, q, pyramid-once (p .«skew_rad») (skew .sine) (skew .cosine) (gimbalsNext u d dt) h) refl
 
 -- ---- a row that has its three parts
 room-by : (nw nt : ℕ) (c : Cmgs) (n : ℕ) → cond (eqb nw 0 && eqb nt 0 && noCmgs c) 3 (nw + nt + gimbals c) ≤ n → nw + nt + gimbals c ≤ n
@@ -96,29 +96,29 @@ row-room r n s = room-by (r .«wheel_count») (r .«thruster_count») (r .cmgs) 
 
 -- ---- the end of a step, by the parts that the code works out
 
-module _ (b : Body) (u : List Float) (k : ℕ) (s : State) (tau : List Float) (defect : Float) (w2 : List Float) (q2 : Quat) {g : Swung}
-    (is : g ≡ swing (b .rig .cmgs) (gimbalRow (b .rig) u) (s .delta) (b .frame .dt) k) where
-  pub ends-swung : {n i : ℕ} → g .fate ≡ Refused n i → stop n i s ≡ attitudeStep b u k s tau defect w2 q2
+module _ (b : Body) (u : List Float) (k : ℕ) (s : BodyState) (tau : List Float) (defect : Float) (w2 : List Float) (q2 : Quat) {g : GimbalStep}
+    (is : g ≡ stepGimbals (b .rig .cmgs) (gimbalRow (b .rig) u) (s .delta) (b .frame .dt) k) where
+  pub ends-gimbals : {n i : ℕ} → g .fate ≡ Refused n i → stop n i s ≡ attitudeStep b u k s tau defect w2 q2
   unfolding attitudeStep
-  ends-swung t = rw (← is, t) refl
+  ends-gimbals t = rw (← is, t) refl
 
   pub ends-powered : {e : Float} → g .fate ≡ Going → e ≡ powerExcess (b .wheels) (b .powers) (b .rig .«wheel_count») (slice 0 (b .rig .«wheel_count») u) (s .w) → lt slack e ≡ true
       → stop 13 k s ≡ attitudeStep b u k s tau defect w2 q2
   unfolding attitudeStep powered
   ends-powered t p o = rw (← is, t, ← p, o) refl
 
-  pub ends-settled : {e : Float} {hw h : List Float} → g .fate ≡ Going → e ≡ powerExcess (b .wheels) (b .powers) (b .rig .«wheel_count») (slice 0 (b .rig .«wheel_count») u) (s .w) → lt slack e ≡ false
+  pub ends-finished : {e : Float} {hw h : List Float} → g .fate ≡ Going → e ≡ powerExcess (b .wheels) (b .powers) (b .rig .«wheel_count») (slice 0 (b .rig .«wheel_count») u) (s .w) → lt slack e ≡ false
       → hw ≡ momentaNext (b .rig .«wheel_count») (s .hw) (slice 0 (b .rig .«wheel_count») u) (b .frame .dt) → h ≡ Parts.bodyMomentum (b .wheels) (b .rig .«wheel_count») hw
       → _≡_ {A = Stepped} (record { fate = Going; s = record { q = q2; w = w2; h = h; hw = hw; delta = g .delta }; tau = tau; defect = defect }) (attitudeStep b u k s tau defect w2 q2)
   unfolding attitudeStep powered wheelMomenta bodyMomentum
-  ends-settled t p o m n = rw (← is, t, ← p, o, n, m) refl
+  ends-finished t p o m n = rw (← is, t, ← p, o, n, m) refl
 
 -- the matrix at its end
-pub hands-on : (c : Cmgs) (u d : List Float) (dt : Float) (k : ℕ) {g : Swung} → g ≡ swing c u d dt k → g .fate ≡ Going → Made c (g .delta) (g .a)
-hands-on c u d dt k is t = rw is (swing-matrix c u d dt k (rw is at t))
+pub hands-on : (c : Cmgs) (u d : List Float) (dt : Float) (k : ℕ) {g : GimbalStep} → g ≡ stepGimbals c u d dt k → g .fate ≡ Going → Made c (g .delta) (g .a)
+hands-on c u d dt k is t = rw is (gimbals-matrix c u d dt k (rw is at t))
 
 -- ---- the start of a step, by the parts that the code works out
-module _ (b : Body) (u : List Float) (k : ℕ) (s : State) {a tau wd w2 v : List Float} {defect : Float} (m : Made (b .rig .cmgs) (s .delta) a)
+module _ (b : Body) (u : List Float) (k : ℕ) (s : BodyState) {a tau wd w2 v : List Float} {defect : Float} (m : Made (b .rig .cmgs) (s .delta) a)
     (t : tau ≡ rowTorque (b .rig) (b .wheels) (b .thrusters) u (s .w) (s .h) a) (d : wd ≡ rateDot (b .frame .j) (b .frame .jinv) (s .w) (s .h) tau)
     (n : w2 ≡ rateNext (s .w) wd (b .frame .dt)) (f : defect ≡ defectOf (b .frame .j) (s .w) (s .h) tau wd) (g : v ≡ turnOf (s .w) w2 (b .frame .dt)) where
   pub turned-is : turnedStep (expSo3 v) b u k s tau defect w2 ≡ step b u k s

@@ -2,8 +2,11 @@
 // Carried over from quatopsy-plan/src/scvx.rs (Apache-2.0), changed: a decision is packed in one array, a refusal is a number and a place, the run keeps
 // its state in locals and lends the actuators' tables to its steps.
 ghost use mathlib.Core.Path.{_≡_};
-ghost use Rattle.forward.specs.Operations as Operations;
+ghost use Rattle.forward.specs.Reconstruct as Reconstruct;
+use common::Decision;
 use common::Fate;
+use common::MAX_CONTROLS;
+use common::SOLVER_NODES;
 use control_rows::WheelLaw;
 use geom::Quat;
 use problem::Checked;
@@ -17,7 +20,7 @@ pub mod runs;
 pub mod steps;
 
 // A run's state: attitude, rate, body momentum, the wheels' momenta, the gimbals' angles.
-pub struct State {
+pub struct BodyState {
     pub q: Quat,
     pub w: [f64; 3],
     pub h: [f64; 3],
@@ -34,7 +37,7 @@ pub struct Frame {
 }
 
 // The gimbals after a step, with the pyramid's matrix there; blank where the step is refused.
-pub struct Swung {
+pub struct GimbalStep {
     pub fate: Fate,
     pub delta: [f64; 4],
     pub a: [f64; 12],
@@ -43,19 +46,19 @@ pub struct Swung {
 // One step: how it ended, the state after it, the torque over it, its defect.
 pub struct Stepped {
     pub fate: Fate,
-    pub s: State,
+    pub s: BodyState,
     pub tau: [f64; 3],
     pub defect: f64,
 }
 
 // What a step gives but for the attitude, on which no rate waits: how it ends where the attitude is not refused, the torque, the defect squared, the turn,
 // the state at its end (with any attitude), the pyramid's matrix there.
-pub struct Lead {
+pub struct Dynamics {
     pub fate: Fate,
     pub tau: [f64; 3],
     pub square: f64,
     pub turn: [f64; 3],
-    pub s: State,
+    pub s: BodyState,
     pub a: [f64; 12],
 }
 
@@ -73,7 +76,7 @@ pub struct Skew {
 }
 
 // What a run makes once: the skew's sine and cosine, and the pyramid's matrix at the start.
-pub struct Launched {
+pub struct GimbalStart {
     pub fate: Fate,
     pub skew: Skew,
     pub a: [f64; 12],
@@ -93,12 +96,12 @@ pub struct Node {
 pub struct Run {
     pub fate: Fate,
     pub defect: f64,
-    pub nodes: [Node; 17],
+    pub nodes: [Node; SOLVER_NODES],
 }
 
 // A run after some of its steps, all of which went on: the state, the pyramid's matrix there, the largest defect squared. Its nodes are lent beside it.
 pub struct Partway {
-    pub s: State,
+    pub s: BodyState,
     pub a: [f64; 12],
     pub square: f64,
 }
@@ -117,27 +120,27 @@ pub struct Reconstructed {
 
 // Checks 1 to 6 and 22, and that a row has at most 12 controls: no actuators with more are served, and 16 such rows would not fit a packed decision.
 pub fn admit(p: Problem) -> Checked
-    ensures { λ r. ⌜ r ≡ Operations.admit p ⌝ }
+    ensures { λ r. ⌜ r ≡ Reconstruct.admit p ⌝ }
 {
     let checked = check(p);
     let problem = checked.problem;
     let map = problem.map;
-    if actuators::control_dim(map) > 12 {
+    if actuators::control_dim(map) > MAX_CONTROLS {
         return refused(8, 0);
     }
     checked
 }
 
 // The step law on a problem as a user gives it and any decision: the checks, then one forward run.
-pub fn reconstruct(p: Problem, z: [f64; 193]) -> Reconstructed
-    ensures { λ r. ⌜ r ≡ Operations.reconstruct p z ⌝ }
+pub fn reconstruct(p: Problem, z: Decision) -> Reconstructed
+    ensures { λ r. ⌜ r ≡ Reconstruct.reconstruct p z ⌝ }
 {
     reconstruct_under(WheelLaw::Once, p, z)
 }
 
 // The same under a law of the wheels' torque: the comparison with the unaltered Rust asks for the published one.
-pub fn reconstruct_under(law: WheelLaw, p: Problem, z: [f64; 193]) -> Reconstructed
-    ensures { λ r. ⌜ r ≡ Operations.reconstructUnder law p z ⌝ }
+pub fn reconstruct_under(law: WheelLaw, p: Problem, z: Decision) -> Reconstructed
+    ensures { λ r. ⌜ r ≡ Reconstruct.reconstructUnder law p z ⌝ }
 {
     let checked = admit(p);
     let fate = checked.fate;

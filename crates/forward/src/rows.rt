@@ -4,12 +4,13 @@ ghost use Prim.Native.Nat.{_<_};
 ghost use lib.ListN.{length};
 ghost use Rattle.forward.specs.Runs as Runs;
 ghost use Rattle.forward.specs.Rows as Rows;
+use super::BodyState;
 use super::Node;
-use super::State;
+use common::SOLVER_NODES;
 use geom::Quat;
 
 // Node k: the state at its time, with the torque tau.
-pub fn node_row(dt: f64, k: usize, s: State, tau: [f64; 3]) -> [f64; 22]
+pub fn node_row(dt: f64, k: usize, s: BodyState, tau: [f64; 3]) -> [f64; 22]
     requires { ⌜ k < 17 ⌝ }
     ensures { λ r. ⌜ Rows.nodeFrom r ≡ Runs.nodeOf dt k s tau ⌝ }
 {
@@ -97,14 +98,14 @@ fn node_in(r: [f64; 22]) -> Node
 }
 
 // The 17 nodes in rows.
-pub fn nodes_in(rows: &[[f64; 22]; 17]) -> [Node; 17]
+pub fn nodes_in(rows: &[[f64; 22]; SOLVER_NODES]) -> [Node; SOLVER_NODES]
     requires { ⌜ length (now rows) ≡ 17 ⌝ }
     ensures { λ ns. ⌜ ns ≡ Rows.nodesFrom (now (rows .entry)) ⌝ }
 {
     let first = node_in(rows[0]);
     let mut nodes = [first; 17];
     let mut k: usize = 1;
-    while k < 17 {
+    while k < SOLVER_NODES {
         let node = node_in(rows[k]);
         nodes[k] = node;
         k += 1;

@@ -1,5 +1,5 @@
 // Forward runs: 16 steps from the problem's start, and their 17 nodes. Carried over from `reconstruct` of quatopsy-plan/src/scvx.rs (Apache-2.0), changed:
-// the wheels begin with the problem's momenta, the state and the nodes are locals of one loop, the largest defect is found by squares, and a refused run answers blank nodes.
+// the wheels begin with the problem's momenta, the state is a local of one loop, which writes the nodes into lent rows, the largest defect is found by squares, and a refused run answers blank nodes.
 ghost use mathlib.Core.Path.{_≡_};
 ghost use Prim.Native.Nat.{_+_, _*_, _≤_, _<_};
 ghost use lib.ListN.{length};
@@ -11,31 +11,29 @@ ghost use lib.Dec.{T};
 ghost use lib.Ieee.{binary64};
 ghost use Rattle.float.specs.Ops as Ops;
 ghost use Rattle.float.specs.Sqrt.{sqrt};
-ghost use Rattle.forward.specs.Defects.{upright};
+ghost use Rattle.forward.specs.DefectLaws.{upright};
 ghost use Rattle.forward.specs.Steps as Steps;
 ghost use Rattle.forward.specs.StepLaws.{SkewOf, Made};
-ghost use Rattle.forward.specs.Launch as Launch;
-ghost use Rattle.forward.specs.Leads as Leads;
-ghost use Rattle.controls.specs.Controls.{rigUnder};
-ghost use Rattle.forward.specs.Decisions.{stepTime};
+ghost use Rattle.forward.specs.GimbalStartInner as GimbalStartInner;
+ghost use Rattle.forward.specs.StepPartInner as StepPartInner;
 ghost use Rattle.forward.specs.Runs as Runs;
 ghost use Rattle.forward.specs.PartLaws as PartLaws;
+use super::BodyState;
+use super::Dynamics;
 use super::Frame;
-use super::Launched;
-use super::Lead;
+use super::GimbalStart;
 use super::Node;
 use super::Partway;
 use super::Run;
 use super::Skew;
-use super::State;
 use super::Went;
 use super::rows::node_row;
 use super::rows::nodes_in;
 use super::rows::torque_in;
 use super::steps::attitude;
+use super::steps::dynamics;
+use super::steps::dynamics_from;
 use super::steps::join;
-use super::steps::lead;
-use super::steps::lead_from;
 use actuators::CmgPyramid;
 use actuators::Cmgs;
 use actuators::Power;
@@ -43,7 +41,10 @@ use actuators::control_dim;
 use actuators::pyramid::pyramid_from;
 use angles::Both;
 use angles::sin_cos;
+use common::Decision;
 use common::Fate;
+use common::SOLVER_NODES;
+use common::STEPS;
 use control_rows::Rig;
 use control_rows::WheelLaw;
 use control_rows::body_momentum;
@@ -52,14 +53,14 @@ use geom::Quat;
 use problem::CheckedProblem;
 
 // The start of a run: at q0, at rest, n wheels with the momenta hw and the body momentum that they make, the gimbals at +0.
-pub fn start(wheels: &[f64; 24], n: usize, q0: Quat, hw: [f64; 8]) -> State
+pub fn start(wheels: &[f64; 24], n: usize, q0: Quat, hw: [f64; 8]) -> BodyState
     requires { ⌜ n ≤ 8 ⌝ }
     ensures { λ r. ⌜ r ≡ Runs.start (now (wheels .entry)) n q0 hw ⌝ }
 {
     let three = [0.0; 3];
     let four = [0.0; 4];
     let h = body_momentum(wheels, n, &hw);
-    State {
+    BodyState {
         q: q0,
         w: three,
         h: h,
@@ -95,7 +96,7 @@ pub fn refused_run(number: usize, place: usize) -> Run
     ensures { λ r. ⌜ r ≡ Runs.refusedRun number place ⌝ }
 {
     let blank = blank_node();
-    let nodes = [blank; 17];
+    let nodes = [blank; SOLVER_NODES];
     Run {
         fate: Fate::Refused(number, place),
         defect: 0.0,
@@ -111,8 +112,8 @@ pub fn larger_square(a: f64, x: f64) -> f64
     if a < x { x } else { a }
 }
 
-// The lead of step i from where the lead l ends; from step `end` on there is none, and l stays.
-pub fn ahead(
+// The dynamics of step i from where the dynamics l ends; from step `end` on there is none, and l stays.
+pub fn next_dynamics(
     r: Rig,
     wheels: &[f64; 24],
     powers: [Power; 8],
@@ -123,23 +124,23 @@ pub fn ahead(
     z: &[f64],
     i: usize,
     end: usize,
-    l: Lead,
-) -> Lead
+    l: Dynamics,
+) -> Dynamics
     requires { ⌜ (Sized r (gimbals (r .cmgs)) n) × (((n ≤ 12) × (length (now z) ≡ 193)) × ((end ≤ 16) × SkewOf (r .cmgs) skew)) ⌝ }
-    ensures { λ x. ⌜ Leads.Next (Steps.bodyWith r (now (wheels .entry)) powers (now (thrusters .entry)) f) n (now (z .entry)) i end l x ⌝ }
+    ensures { λ x. ⌜ StepPartInner.Next (Steps.bodyWith r (now (wheels .entry)) powers (now (thrusters .entry)) f) n (now (z .entry)) i end l x ⌝ }
 {
     if i < end {
         let at = 1 + i * n;
         let past = at + n;
         let s = l.s;
         let a = l.a;
-        return lead(r, wheels, powers, thrusters, f, skew, &z[at..past], i, s, a);
+        return dynamics(r, wheels, powers, thrusters, f, skew, &z[at..past], i, s, a);
     }
     l
 }
 
 // A run before its first step, from a state whose pyramid matrix is a.
-pub fn unbegun(from: State, a: [f64; 12]) -> Partway
+pub fn unbegun(from: BodyState, a: [f64; 12]) -> Partway
     ensures { λ x. ⌜ x ≡ PartLaws.unbegun from a ⌝ }
 {
     Partway {
@@ -149,7 +150,7 @@ pub fn unbegun(from: State, a: [f64; 12]) -> Partway
     }
 }
 
-// Steps k up to `end` of a run after k steps, n controls a row; their nodes go into the lent rows, of which no other is changed. A turn of the loop has the lead of step i, the sine and cosine of the step before, the length
+// Steps k up to `end` of a run after k steps, n controls a row; their nodes go into the lent rows, of which no other is changed. A turn of the loop has the dynamics of step i, the sine and cosine of the step before, the length
 // of step i's turn, the attitude after the step before: in this order, since none waits for the one before it but the attitude for the sine and cosine.
 pub fn steps_on(
     r: Rig,
@@ -159,24 +160,25 @@ pub fn steps_on(
     f: Frame,
     skew: Skew,
     n: usize,
-    z: &[f64; 193],
+    z: &Decision,
     k: usize,
     end: usize,
     c: Partway,
-    nodes: &mut [[f64; 22]; 17],
+    nodes: &mut [[f64; 22]; SOLVER_NODES],
 ) -> Went
     requires { ⌜ (Sized r (gimbals (r .cmgs)) n) × ((n ≤ 12) × (SkewOf (r .cmgs) skew × (PartLaws.Sound r c × ((k ≤ end) × (end ≤ 16))))) ⌝ }
-    ensures { λ x. ⌜ PartLaws.Reached (Steps.bodyWith r (now (wheels .entry)) powers (now (thrusters .entry)) f) n (now (z .entry)) k end c (now (nodes .entry)) x (now (nodes .exit)) ⌝ }
+    ensures { λ x. ⌜ PartLaws.Reached (Steps.bodyWith r (now (wheels .entry)) powers (now (thrusters .entry)) f) n (now (z .entry)) k end c
+        (now (nodes .entry)) x (now (nodes .exit)) ⌝ }
 {
     let dt = f.dt;
     let mut s = c.s;
     let a = c.a;
-    let mut l = lead_from([0.0; 3], 0.0, [0.0; 3], s, a);
+    let mut l = dynamics_from([0.0; 3], 0.0, [0.0; 3], s, a);
     let mut length = 0.0;
     let mut square = c.square;
     let mut i: usize = k;
     while i <= end {
-        let next = ahead(r, wheels, powers, thrusters, f, skew, n, z, i, end, l);
+        let next = next_dynamics(r, wheels, powers, thrusters, f, skew, n, z, i, end, l);
         let turn = l.turn;
         let turned = geom::exp_at(turn, length);
         let next_turn = next.turn;
@@ -213,14 +215,14 @@ pub fn steps_on(
 }
 
 // The skew's sine and cosine and the pyramid's matrix at the start, from the pyramid's skew.
-fn launch_pyramid(p: CmgPyramid) -> Launched
-    ensures { λ l. ⌜ l ≡ Launch.launch (With p) ⌝ }
+fn start_pyramid(p: CmgPyramid) -> GimbalStart
+    ensures { λ l. ⌜ l ≡ GimbalStartInner.startGimbals (With p) ⌝ }
 {
     let pair = sin_cos(p.skew_rad);
     match pair {
         Both::Outside => {
             let a = [0.0; 12];
-            Launched {
+            GimbalStart {
                 fate: Fate::Refused(11, 0),
                 skew: Skew {
                     sine: 0.0,
@@ -233,7 +235,7 @@ fn launch_pyramid(p: CmgPyramid) -> Launched
             let m = pyramid_from(s, c, [0.0; 4]);
             let a = m.a;
             let fate = m.fate;
-            Launched {
+            GimbalStart {
                 fate: fate,
                 skew: Skew { sine: s, cosine: c },
                 a: a,
@@ -243,13 +245,13 @@ fn launch_pyramid(p: CmgPyramid) -> Launched
 }
 
 // What a run makes once, before its steps.
-pub fn launch(c: Cmgs) -> Launched
-    ensures { λ l. ⌜ l ≡ Launch.launch c ⌝ }
+pub fn start_gimbals(c: Cmgs) -> GimbalStart
+    ensures { λ l. ⌜ l ≡ GimbalStartInner.startGimbals c ⌝ }
 {
     match c {
         Cmgs::Without => {
             let a = [0.0; 12];
-            Launched {
+            GimbalStart {
                 fate: Fate::Going,
                 skew: Skew {
                     sine: 0.0,
@@ -258,7 +260,7 @@ pub fn launch(c: Cmgs) -> Launched
                 a: a,
             }
         }
-        Cmgs::With(p) => launch_pyramid(p),
+        Cmgs::With(p) => start_pyramid(p),
     }
 }
 
@@ -280,15 +282,15 @@ pub fn frame_of(p: CheckedProblem, dt: f64) -> Frame
 pub fn steps_under(
     law: WheelLaw,
     p: CheckedProblem,
-    z: &[f64; 193],
+    z: &Decision,
     skew: Skew,
     k: usize,
     end: usize,
     c: Partway,
-    nodes: &mut [[f64; 22]; 17],
+    nodes: &mut [[f64; 22]; SOLVER_NODES],
 ) -> Went
-    requires { ⌜ (isSized (p .map) ≡ true) × ((controlDim (p .map) ≤ 12) × (SkewOf (p .map .cmgs) skew × (PartLaws.Sound (rigUnder law (p .map)) c × ((k ≤ end) × (end ≤ 16))))) ⌝ }
-    ensures { λ x. ⌜ PartLaws.Reached (Runs.bodyUnder law p (stepTime (now (z .entry)))) (controlDim (p .map)) (now (z .entry)) k end c (now (nodes .entry)) x (now (nodes .exit)) ⌝ }
+    requires { ⌜ PartLaws.Fits law p skew c × ((k ≤ end) × (end ≤ 16)) ⌝ }
+    ensures { λ x. ⌜ PartLaws.ReachedUnder law p (now (z .entry)) k end c (now (nodes .entry)) x (now (nodes .exit)) ⌝ }
 {
     let map = p.map;
     let n = control_dim(map);
@@ -317,14 +319,14 @@ pub fn steps_under(
 pub fn run_on(
     law: WheelLaw,
     p: CheckedProblem,
-    z: &[f64; 193],
+    z: &Decision,
     skew: Skew,
     k: usize,
     c: Partway,
-    nodes: &mut [[f64; 22]; 17],
+    nodes: &mut [[f64; 22]; SOLVER_NODES],
 ) -> Went
-    requires { ⌜ (isSized (p .map) ≡ true) × ((controlDim (p .map) ≤ 12) × (SkewOf (p .map .cmgs) skew × (PartLaws.Sound (rigUnder law (p .map)) c × (k ≤ 16)))) ⌝ }
-    ensures { λ x. ⌜ PartLaws.Ran (Runs.bodyUnder law p (stepTime (now (z .entry)))) (controlDim (p .map)) (now (z .entry)) k c (now (nodes .entry)) x (now (nodes .exit)) ⌝ }
+    requires { ⌜ PartLaws.Fits law p skew c × (k ≤ 16) ⌝ }
+    ensures { λ x. ⌜ PartLaws.RanUnder law p (now (z .entry)) k c (now (nodes .entry)) x (now (nodes .exit)) ⌝ }
 {
     let w = steps_under(law, p, z, skew, k, 16, c, nodes);
     let fate = w.fate;
@@ -336,7 +338,7 @@ pub fn run_on(
     let s = at.s;
     let tau = torque_in(nodes[15]);
     let last = node_row(z[0] / 16.0, 16, s, tau);
-    nodes[16] = last;
+    nodes[STEPS] = last;
     w
 }
 
@@ -344,8 +346,8 @@ pub fn run_on(
 pub fn run_into(
     law: WheelLaw,
     p: CheckedProblem,
-    z: &[f64; 193],
-    nodes: &mut [[f64; 22]; 17],
+    z: &Decision,
+    nodes: &mut [[f64; 22]; SOLVER_NODES],
 ) -> Went
     requires { ⌜ (isSized (p .map) ≡ true) × ((controlDim (p .map) ≤ 12) × (length (now nodes) ≡ 17)) ⌝ }
     ensures { λ x. ⌜ (PartLaws.told x (now (nodes .exit)) ≡ Runs.runUnder law p (now (z .entry))) × (length (now (nodes .exit)) ≡ 17) ⌝ }
@@ -355,7 +357,7 @@ pub fn run_into(
     let wheels = map.wheel_axes;
     let momenta = p.momenta;
     let from = start(&wheels, map.wheel_count, p.q0, momenta);
-    let l = launch(cmgs);
+    let l = start_gimbals(cmgs);
     let a = l.a;
     let skew = l.skew;
     let c = unbegun(from, a);
@@ -370,7 +372,7 @@ pub fn run_into(
 }
 
 // One forward run of a checked problem and a decision.
-pub fn run_of(p: CheckedProblem, z: [f64; 193]) -> Run
+pub fn run_of(p: CheckedProblem, z: Decision) -> Run
     requires { ⌜ (isSized (p .map) ≡ true) × (controlDim (p .map) ≤ 12) ⌝ }
     ensures { λ r. ⌜ r ≡ Runs.runOf p z ⌝ }
 {
@@ -378,7 +380,7 @@ pub fn run_of(p: CheckedProblem, z: [f64; 193]) -> Run
 }
 
 // The same under a law of the wheels' torque.
-pub fn run_under(law: WheelLaw, p: CheckedProblem, z: [f64; 193]) -> Run
+pub fn run_under(law: WheelLaw, p: CheckedProblem, z: Decision) -> Run
     requires { ⌜ (isSized (p .map) ≡ true) × (controlDim (p .map) ≤ 12) ⌝ }
     ensures { λ r. ⌜ r ≡ Runs.runUnder law p z ⌝ }
 {

@@ -1,6 +1,6 @@
 // One step of a forward run, in stages. Carried over from `reconstruct` of quatopsy-plan/src/scvx.rs (Apache-2.0), changed: the actuators' tables are
-// lent, the pyramid's matrix that the singularity test makes is handed to the next step's torque, and a step is worked out in two parts, its lead and its
-// attitude: no lead waits for an attitude, so the machine works on one step's attitude and the next step's lead at once.
+// lent, the pyramid's matrix that the singularity test makes is handed to the next step's torque, and a step is worked out in two parts, its dynamics and its
+// attitude: no dynamics waits for an attitude, so the machine works on one step's attitude and the next step's dynamics at once.
 ghost use mathlib.Core.Path.{_≡_};
 ghost use Prim.Native.Nat.{_+_, _≤_};
 ghost use lib.ListN.{length};
@@ -10,16 +10,16 @@ ghost use Rattle.control_limits.specs.Limits.{powerExcess};
 ghost use Rattle.actuators.specs.declared.Cmgs.the-variants.{With};
 ghost use Rattle.forward.specs.Steps as Steps;
 ghost use Rattle.forward.specs.StepLaws.{SkewOf, Made, rooted};
-ghost use Rattle.forward.specs.Leads as Leads;
+ghost use Rattle.forward.specs.StepPartInner as StepPartInner;
 ghost use lib.Ieee.{binary64, lt};
 ghost use Rattle.float.specs.Sqrt.{sqrt};
 use super::Attitude;
+use super::BodyState;
+use super::Dynamics;
 use super::Frame;
-use super::Lead;
+use super::GimbalStep;
 use super::Skew;
-use super::State;
 use super::Stepped;
-use super::Swung;
 use actuators::CmgPyramid;
 use actuators::Cmgs;
 use actuators::Power;
@@ -30,7 +30,7 @@ use geom::Quat;
 use geom::Turned;
 
 // A step that ends the run.
-pub fn stop(number: usize, place: usize, s: State) -> Stepped
+pub fn stop(number: usize, place: usize, s: BodyState) -> Stepped
     ensures { λ r. ⌜ r ≡ Steps.stop number place s ⌝ }
 {
     let tau = [0.0; 3];
@@ -86,12 +86,12 @@ pub fn gimbals_next(u: &[f64], d: [f64; 4], dt: f64) -> [f64; 4]
 }
 
 // Gimbals that refuse the step.
-pub fn no_swing(number: usize, k: usize) -> Swung
-    ensures { λ r. ⌜ r ≡ Steps.noSwing number k ⌝ }
+pub fn refuse_gimbals(number: usize, k: usize) -> GimbalStep
+    ensures { λ r. ⌜ r ≡ Steps.refuseGimbals number k ⌝ }
 {
     let d = [0.0; 4];
     let a = [0.0; 12];
-    Swung {
+    GimbalStep {
         fate: Fate::Refused(number, k),
         delta: d,
         a: a,
@@ -99,21 +99,28 @@ pub fn no_swing(number: usize, k: usize) -> Swung
 }
 
 // The pyramid's gimbals after step k, its matrix there, and whether it is singular.
-pub fn swing_pyramid(p: CmgPyramid, skew: Skew, u: &[f64], d: [f64; 4], dt: f64, k: usize) -> Swung
+pub fn step_pyramid(
+    p: CmgPyramid,
+    skew: Skew,
+    u: &[f64],
+    d: [f64; 4],
+    dt: f64,
+    k: usize,
+) -> GimbalStep
     requires { ⌜ (4 ≤ length (now u)) × SkewOf (With p) skew ⌝ }
-    ensures { λ r. ⌜ r ≡ Steps.swing (With p) (now (u .entry)) d dt k ⌝ }
+    ensures { λ r. ⌜ r ≡ Steps.stepGimbals (With p) (now (u .entry)) d dt k ⌝ }
 {
     let e = gimbals_next(u, d, dt);
     let m = actuators::pyramid::pyramid_from(skew.sine, skew.cosine, e);
     let fate = m.fate;
     match fate {
-        Fate::Refused(_, _) => no_swing(11, k),
+        Fate::Refused(_, _) => refuse_gimbals(11, k),
         Fate::Going => {
             let a = m.a;
             if actuators::pyramid::singularity_of(a) < p.singularity_eps {
-                return no_swing(12, k);
+                return refuse_gimbals(12, k);
             }
-            Swung {
+            GimbalStep {
                 fate: Fate::Going,
                 delta: e,
                 a: a,
@@ -123,20 +130,20 @@ pub fn swing_pyramid(p: CmgPyramid, skew: Skew, u: &[f64], d: [f64; 4], dt: f64,
 }
 
 // The gimbals after step k; with no pyramid they stay.
-pub fn swing(c: Cmgs, skew: Skew, u: &[f64], d: [f64; 4], dt: f64, k: usize) -> Swung
+pub fn step_gimbals(c: Cmgs, skew: Skew, u: &[f64], d: [f64; 4], dt: f64, k: usize) -> GimbalStep
     requires { ⌜ (gimbals c ≤ length (now u)) × SkewOf c skew ⌝ }
-    ensures { λ r. ⌜ r ≡ Steps.swing c (now (u .entry)) d dt k ⌝ }
+    ensures { λ r. ⌜ r ≡ Steps.stepGimbals c (now (u .entry)) d dt k ⌝ }
 {
     match c {
         Cmgs::Without => {
             let a = [0.0; 12];
-            Swung {
+            GimbalStep {
                 fate: Fate::Going,
                 delta: d,
                 a: a,
             }
         }
-        Cmgs::With(p) => swing_pyramid(p, skew, u, d, dt, k),
+        Cmgs::With(p) => step_pyramid(p, skew, u, d, dt, k),
     }
 }
 
@@ -151,15 +158,15 @@ fn over_power(wheels: &[f64; 24], powers: [Power; 8], n: usize, u: &[f64], w: [f
     control_limits::power_excess(wheels, powers, n, u, w) > 1.0e-9
 }
 
-// A lead whose gimbals or power refuse the step.
-pub fn barred(number: usize, place: usize, l: Lead) -> Lead
-    ensures { λ r. ⌜ r ≡ Leads.barred number place l ⌝ }
+// A dynamics whose gimbals or power refuse the step.
+pub fn refuse_dynamics(number: usize, place: usize, l: Dynamics) -> Dynamics
+    ensures { λ r. ⌜ r ≡ StepPartInner.refuseDynamics number place l ⌝ }
 {
     let tau = l.tau;
     let turn = l.turn;
     let s = l.s;
     let a = l.a;
-    Lead {
+    Dynamics {
         fate: Fate::Refused(number, place),
         tau: tau,
         square: l.square,
@@ -169,11 +176,17 @@ pub fn barred(number: usize, place: usize, l: Lead) -> Lead
     }
 }
 
-// A lead of these parts that goes on.
-pub fn lead_from(tau: [f64; 3], square: f64, turn: [f64; 3], s: State, a: [f64; 12]) -> Lead
-    ensures { λ r. ⌜ r ≡ Leads.leadFrom tau square turn s a ⌝ }
+// A dynamics of these parts that goes on.
+pub fn dynamics_from(
+    tau: [f64; 3],
+    square: f64,
+    turn: [f64; 3],
+    s: BodyState,
+    a: [f64; 12],
+) -> Dynamics
+    ensures { λ r. ⌜ r ≡ StepPartInner.dynamicsFrom tau square turn s a ⌝ }
 {
-    Lead {
+    Dynamics {
         fate: Fate::Going,
         tau: tau,
         square: square,
@@ -183,33 +196,33 @@ pub fn lead_from(tau: [f64; 3], square: f64, turn: [f64; 3], s: State, a: [f64; 
     }
 }
 
-// A lead with the rate at its end, and the rest of the state as it was.
-pub fn lead_at(
+// A dynamics with the rate at its end, and the rest of the state as it was.
+pub fn dynamics_at(
     tau: [f64; 3],
     square: f64,
     w2: [f64; 3],
     turn: [f64; 3],
-    s: State,
+    s: BodyState,
     a: [f64; 12],
-) -> Lead
-    ensures { λ r. ⌜ r ≡ Leads.leadAt tau square w2 turn s a ⌝ }
+) -> Dynamics
+    ensures { λ r. ⌜ r ≡ StepPartInner.dynamicsAt tau square w2 turn s a ⌝ }
 {
     let q = s.q;
     let h = s.h;
     let hw = s.hw;
     let d = s.delta;
-    let s2 = State {
+    let s2 = BodyState {
         q: q,
         w: w2,
         h: h,
         hw: hw,
         delta: d,
     };
-    lead_from(tau, square, turn, s2, a)
+    dynamics_from(tau, square, turn, s2, a)
 }
 
-// The lead l, whose torque, defect, turn and rate are known, with momenta, gimbals and power: of the step from s.
-pub fn settle(
+// The dynamics l, whose torque, defect, turn and rate are known, with momenta, gimbals and power: of the step from s.
+pub fn finish_dynamics(
     r: Rig,
     wheels: &[f64; 24],
     powers: [Power; 8],
@@ -218,11 +231,11 @@ pub fn settle(
     skew: Skew,
     u: &[f64],
     k: usize,
-    s: State,
-    l: Lead,
-) -> Lead
+    s: BodyState,
+    l: Dynamics,
+) -> Dynamics
     requires { ⌜ (Sized r (gimbals (r .cmgs)) (length (now u))) × SkewOf (r .cmgs) skew ⌝ }
-    ensures { λ x. ⌜ Leads.Settled (Steps.bodyWith r (now (wheels .entry)) powers (now (thrusters .entry)) f) (now (u .entry)) k s l x ⌝ }
+    ensures { λ x. ⌜ StepPartInner.Finished (Steps.bodyWith r (now (wheels .entry)) powers (now (thrusters .entry)) f) (now (u .entry)) k s l x ⌝ }
 {
     let dt = f.dt;
     let nw = r.wheel_count;
@@ -232,14 +245,14 @@ pub fn settle(
     let hw = s.hw;
     let w = s.w;
     let d = s.delta;
-    let g = swing(cmgs, skew, &u[at..end], d, dt, k);
+    let g = step_gimbals(cmgs, skew, &u[at..end], d, dt, k);
     let fate = g.fate;
     match fate {
-        Fate::Refused(number, place) => return barred(number, place, l),
+        Fate::Refused(number, place) => return refuse_dynamics(number, place, l),
         Fate::Going => {}
     }
     if over_power(wheels, powers, nw, &u[0..nw], w) {
-        return barred(13, k, l);
+        return refuse_dynamics(13, k, l);
     }
     let hw2 = control_rows::momenta_next(nw, hw, &u[0..nw], dt);
     let h2 = control_rows::body_momentum(wheels, nw, &hw2);
@@ -250,18 +263,18 @@ pub fn settle(
     let w2 = e.w;
     let d2 = g.delta;
     let a2 = g.a;
-    let s2 = State {
+    let s2 = BodyState {
         q: q,
         w: w2,
         h: h2,
         hw: hw2,
         delta: d2,
     };
-    lead_from(tau, l.square, turn, s2, a2)
+    dynamics_from(tau, l.square, turn, s2, a2)
 }
 
-// The lead of step k with the control row u, from the state s, whatever its attitude, whose pyramid matrix is a.
-pub fn lead(
+// The dynamics of step k with the control row u, from the state s, whatever its attitude, whose pyramid matrix is a.
+pub fn dynamics(
     r: Rig,
     wheels: &[f64; 24],
     powers: [Power; 8],
@@ -270,11 +283,12 @@ pub fn lead(
     skew: Skew,
     u: &[f64],
     k: usize,
-    s: State,
+    s: BodyState,
     a: [f64; 12],
-) -> Lead
+) -> Dynamics
     requires { ⌜ (Sized r (gimbals (r .cmgs)) (length (now u))) × SkewOf (r .cmgs) skew ⌝ }
-    ensures { λ x. ⌜ (Made (r .cmgs) (s .delta) a → Leads.Leads (Steps.bodyWith r (now (wheels .entry)) powers (now (thrusters .entry)) f) (now (u .entry)) k s x) ⌝ }
+    ensures { λ x. ⌜ (Made (r .cmgs) (s .delta) a → StepPartInner.DynamicsOf (Steps.bodyWith r (now (wheels .entry)) powers (now (thrusters .entry)) f)
+        (now (u .entry)) k s x) ⌝ }
 {
     let w = s.w;
     let h = s.h;
@@ -286,13 +300,13 @@ pub fn lead(
     let w2 = rate_next(w, wd, dt);
     let square = defect_square(j, w, h, tau, wd);
     let turn = turn_of(w, w2, dt);
-    let l = lead_at(tau, square, w2, turn, s, a);
-    settle(r, wheels, powers, thrusters, f, skew, u, k, s, l)
+    let l = dynamics_at(tau, square, w2, turn, s, a);
+    finish_dynamics(r, wheels, powers, thrusters, f, skew, u, k, s, l)
 }
 
 // The attitude q after a turn, whose quaternion is made.
 pub fn attitude(q: Quat, turned: Turned, tolerance: f64) -> Attitude
-    ensures { λ r. ⌜ r ≡ Leads.turnedTo turned tolerance q ⌝ }
+    ensures { λ r. ⌜ r ≡ StepPartInner.turnedTo turned tolerance q ⌝ }
 {
     let Turned::Is(e) = turned else {
         return Attitude::Outside;
@@ -303,9 +317,9 @@ pub fn attitude(q: Quat, turned: Turned, tolerance: f64) -> Attitude
     Attitude::Is(q2)
 }
 
-// The step from s that a lead and the attitude q2 give; its defect stays squared.
-pub fn joined_at(q2: Quat, l: Lead, s: State) -> Stepped
-    ensures { λ r. ⌜ rooted r ≡ Leads.joinedAt (l .fate) q2 l s ⌝ }
+// The step from s that a dynamics and the attitude q2 give; its defect stays squared.
+pub fn joined_at(q2: Quat, l: Dynamics, s: BodyState) -> Stepped
+    ensures { λ r. ⌜ rooted r ≡ StepPartInner.joinedAt (l .fate) q2 l s ⌝ }
 {
     let fate = l.fate;
     match fate {
@@ -317,7 +331,7 @@ pub fn joined_at(q2: Quat, l: Lead, s: State) -> Stepped
             let h = e.h;
             let hw = e.hw;
             let delta = e.delta;
-            let s2 = State {
+            let s2 = BodyState {
                 q: q2,
                 w: w,
                 h: h,
@@ -334,9 +348,9 @@ pub fn joined_at(q2: Quat, l: Lead, s: State) -> Stepped
     }
 }
 
-// Step k from s, of its lead and its attitude.
-pub fn join(t: Attitude, k: usize, l: Lead, s: State) -> Stepped
-    ensures { λ r. ⌜ rooted r ≡ Leads.joined t k l s ⌝ }
+// Step k from s, of its dynamics and its attitude.
+pub fn join(t: Attitude, k: usize, l: Dynamics, s: BodyState) -> Stepped
+    ensures { λ r. ⌜ rooted r ≡ StepPartInner.joined t k l s ⌝ }
 {
     match t {
         Attitude::Outside => stop(11, k, s),

@@ -3,6 +3,7 @@ use mathlib.Core.List.{List, [], _∷_}
 use mathlib.Core.Bool.{Bool, not, cond, _&&_, _||_}
 use lib.Ieee.{Float, binary64, add, sub, mul, div, neg, lt, eq, ofBits}
 use lib.Ieee.Scale.{finite}
+use Rattle.common.specs.Floats.{one, plusZero}
 use Rattle.common.specs.Lists.{at}
 use Rattle.float.specs.Ops.{abs, clamp}
 use Rattle.float.specs.Sqrt.{sqrt}
@@ -10,7 +11,7 @@ use Rattle.angles.specs.declared.Angle.{Angle}
 use Rattle.angles.specs.declared.Angle.the-variants as Angle
 use Rattle.angles.specs.Angles.{sinOf, cosOf}
 use Rattle.angles.specs.Arcs.{acosOf}
-use Rattle.geom.specs.Vec.{dot3, plusZero, half, one, two, minusOne}
+use Rattle.geom.specs.Vec.{dot3, half, two, minusOne}
 use Rattle.geom.specs.Halves.{onBoth}
 use Rattle.geom.specs.declared.Quat.{Quat}
 use Rattle.geom.specs.declared.Normal.{Normal}

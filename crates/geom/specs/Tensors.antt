@@ -3,11 +3,12 @@ use mathlib.Core.List.{List, [], _∷_}
 use mathlib.Core.Bool.{Bool, not, cond, _&&_, _||_}
 use lib.Ieee.{Float, binary64, sub, div, lt, ofBits}
 use lib.Ieee.Scale.{finite}
+use Rattle.common.specs.Floats.{one, plusZero}
 use Rattle.common.specs.Lists.{at}
 use Rattle.float.specs.Ops.{abs}
 use Rattle.common.specs.declared.Fate.{Fate}
 use Rattle.common.specs.declared.Fate.the-variants as Fate
-use Rattle.geom.specs.Vec.{row, plusZero, one, minor, scale3, det3, isPositive}
+use Rattle.geom.specs.Vec.{row, minor, scale3, det3, isPositive}
 use Rattle.geom.specs.Quats.{least}
 use Rattle.geom.specs.declared.Inverse.{Inverse}
 

@@ -5,6 +5,7 @@ use lib.ListN.{getD}
 use mathlib.Core.Bool.{Bool, _&&_}
 use lib.Ieee.{Float, binary64, add, sub, mul, lt, le, ofBits}
 use lib.Ieee.Scale.{finite}
+use Rattle.common.specs.Floats.{plusZero}
 use Rattle.common.specs.Lists.{at}
 use Rattle.float.specs.Ops.{abs, max}
 
@@ -12,17 +13,9 @@ use Rattle.float.specs.Ops.{abs, max}
 abbrev pub row : List (List Float) → ℕ → List Float
 row m k = getD m k []
 
--- +0
-abbrev pub plusZero : Float
-plusZero = ofBits binary64 0
-
 -- 0.5
 abbrev pub half : Float
 half = ofBits binary64 0x3fe0_0000_0000_0000
-
--- 1
-abbrev pub one : Float
-one = ofBits binary64 0x3ff0_0000_0000_0000
 
 -- 2
 abbrev pub two : Float

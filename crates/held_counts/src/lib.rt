@@ -8,6 +8,8 @@ ghost use Rattle.controls.specs.Controls.{rigOf};
 ghost use Rattle.held_counts.specs.Counts as Counts;
 use actuators::ActuatorMap;
 use actuators::control_dim;
+use common::Decision;
+use common::STEPS;
 use control_limits::gimbal_rate;
 use control_limits::hold;
 use control_rows::is_bare;
@@ -52,13 +54,13 @@ fn counted(limit: f64, x: f64, n: usize) -> usize
 }
 
 // How many of the 16 controls at place i are changed, n to a row.
-fn held_at(limit: f64, n: usize, z: &[f64; 193], i: usize) -> usize
+fn held_at(limit: f64, n: usize, z: &Decision, i: usize) -> usize
     requires { ⌜ (n ≤ 12) × (i < n) ⌝ }
     ensures { λ r. ⌜ r ≡ Counts.heldAt limit n (now (z .entry)) i ⌝ }
 {
     let mut count: usize = 0;
     let mut k: usize = 0;
-    while k < 16 {
+    while k < STEPS {
         count = counted(limit, z[1 + k * n + i], count);
         k += 1;
     }
@@ -66,7 +68,7 @@ fn held_at(limit: f64, n: usize, z: &[f64; 193], i: usize) -> usize
 }
 
 // How many of the 16 controls at each place are changed; past a row's controls stands 0. The duration is not counted.
-pub fn held_counts(map: ActuatorMap, torque_limit: [f64; 3], z: &[f64; 193]) -> [usize; 12]
+pub fn held_counts(map: ActuatorMap, torque_limit: [f64; 3], z: &Decision) -> [usize; 12]
     requires { ⌜ controlDim map ≤ 12 ⌝ }
     ensures { λ r. ⌜ r ≡ Counts.heldCounts map «torque_limit» (now (z .entry)) ⌝ }
 {

@@ -7,10 +7,10 @@ use mathlib.Core.Bool.{Bool, true, false, cond}
 use mathlib.Core.List.{List}
 use lib.Dec.{eqb, ltb}
 use lib.Ieee.{Float}
+use Rattle.common.specs.Floats.{plusZero}
 use Rattle.common.specs.Lists.{at}
 use Rattle.normal_equations.specs.Tab.{tab}
 use Rattle.normal_equations.specs.Rows.{row}
-use Rattle.normal_equations.specs.Normal.{zero64}
 
 -- a vector of residuals, without pointing rows or with them
 abbrev pub Laid : ℕ → Type 0
@@ -41,11 +41,11 @@ pub record Gathered (m : ℕ) (r x : List Float) : Type 0 where
 
 -- the rows left out are +0.0 in r
 pub record Zeros (m : ℕ) (r : List Float) : Type 0 where
-  pub out : (i : ℕ) → i < m → leftOut m i ≡ true → at r i ≡ zero64
+  pub out : (i : ℕ) → i < m → leftOut m i ≡ true → at r i ≡ plusZero
 
 -- all m rows again: those left out are +0.0
 unfoldable pub scatter : ℕ → List Float → List Float
-scatter m x = tab m (λ i. cond (leftOut m i) zero64 (at x (place m i)))
+scatter m x = tab m (λ i. cond (leftOut m i) plusZero (at x (place m i)))
 
 -- n columns of m rows, of which v has the kept rows, one column after the other
 unfoldable pub columns : ℕ → ℕ → List Float → List (List Float)

@@ -11,12 +11,15 @@ use borrow.Author.Tests.{ltb-true, ltb-false}
 use lib.Dec.{T, eqb}
 use lib.Ieee.{Float, nan, binary64, add, sub, mul, div, neg, round, units, odd, sum, fits, size, ofBits}
 use lib.Ieee.Fits.{add-fits, mul-fits}
-use Rattle.laws.specs.Zeros.{isZero, isMinusZero, add-zero, add-not-minus, zero-times}
+use Rattle.common.specs.Floats.{plusZero}
+use Rattle.float_laws.specs.Zeros.{isZero, isMinusZero, add-zero, add-not-minus, zero-times}
 use Rattle.common.specs.Iter.{iter}
 use Rattle.common.specs.Lists.{at}
-use Rattle.normal_equations.specs.Tab.{tab, getD-tab, tab-same}
-use Rattle.normal_equations.specs.Rows.{row, rows, line-rows}
-use Rattle.normal_equations.specs.Normal.{zero64, line, fdEps, slopes, normalMatrix, rightSide, dot}
+use Rattle.normal_equations.specs.Tab.{tab}
+use Rattle.normal_equations.specs.TabLaws.{getD-tab, tab-same}
+use Rattle.normal_equations.specs.Rows.{row, rows}
+use Rattle.normal_equations.specs.RowsLaws.{line-rows}
+use Rattle.normal_equations.specs.Normal.{line, fdEps, slopes, normalMatrix, rightSide, dot}
 use Rattle.normal_equations.specs.NormalLaws.{normal-sums, right-sums}
 use Rattle.kept_rows.specs.Kept.{Laid, beforeBy, before, leftOut, place, kept, Gathered, Zeros, scatter, columns}
 
@@ -70,10 +73,10 @@ module _ (p q : List Float) where
       (add-not-minus (dot k p q) (mul binary64 (at p k) (at q k)) (h .1) (mul-fits binary64 (at p k) (at q k)) (h .0), add-fits binary64 (dot k p q) (mul binary64 (at p k) (at q k)))
 
   -- so +0.0 times +0.0 changes nothing in it
-  dot-zero : (k : ℕ) → at p k ≡ zero64 → at q k ≡ zero64 → dot (suc k) p q ≡ dot k p q
+  dot-zero : (k : ℕ) → at p k ≡ plusZero → at q k ≡ plusZero → dot (suc k) p q ≡ dot k p q
   unfolding iter
   dot-zero k e f =
-      let none : T (isZero (mul binary64 (at p k) (at q k))) = rw (e, f) (zero-times binary64 zero64 zero64 (unfold ofBits in tt) (unfold ofBits in tt)) in
+      let none : T (isZero (mul binary64 (at p k) (at q k))) = rw (e, f) (zero-times binary64 plusZero plusZero (unfold ofBits in tt) (unfold ofBits in tt)) in
       add-zero binary64 (dot k p q) (mul binary64 (at p k) (at q k)) (dot-plain k .1) (dot-plain k .0) none
 
 module _ (m : ℕ) (p q x y : List Float) (gp : Gathered m p x) (gq : Gathered m q y) (zp : Zeros m p) (zq : Zeros m q) where
@@ -97,26 +100,26 @@ module _ (m : ℕ) (p q x y : List Float) (gp : Gathered m p x) (gq : Gathered m
 
 -- ---- the kept rows of all rows
 module _ (m : ℕ) (x : List Float) where
-  at-scatter : (i : ℕ) → i < m → at (scatter m x) i ≡ cond (leftOut m i) zero64 (at x (place m i))
+  at-scatter : (i : ℕ) → i < m → at (scatter m x) i ≡ cond (leftOut m i) plusZero (at x (place m i))
   unfolding scatter
-  at-scatter i h = getD-tab m (λ k. cond (leftOut m k) zero64 (at x (place m k))) nan i h
+  at-scatter i h = getD-tab m (λ k. cond (leftOut m k) plusZero (at x (place m k))) nan i h
 
   scatter-gathered : Gathered m (scatter m x) x
-  scatter-gathered = record { own = λ i h e. sym (at-scatter i h ∙ ap (λ b. cond b zero64 (at x (place m i))) e) }
+  scatter-gathered = record { own = λ i h e. sym (at-scatter i h ∙ ap (λ b. cond b plusZero (at x (place m i))) e) }
 
   scatter-zeros : Zeros m (scatter m x)
-  scatter-zeros = record { out = λ i h e. at-scatter i h ∙ ap (λ b. cond b zero64 (at x (place m i))) e }
+  scatter-zeros = record { out = λ i h e. at-scatter i h ∙ ap (λ b. cond b plusZero (at x (place m i))) e }
 
 -- ---- slopes
 abbrev slope : List Float → List Float → ℕ → Float
 slope p q i = div binary64 (sub binary64 (at p i) (at q i)) fdEps
 
-zero-slope : zero64 ≡ div binary64 (sub binary64 zero64 zero64) fdEps
+zero-slope : plusZero ≡ div binary64 (sub binary64 plusZero plusZero) fdEps
 unfolding ofBits sub add neg sum div round units odd size
 zero-slope = refl
 
 module _ (m : ℕ) (rp r0 x y : List Float) (l : Laid m) (gp : Gathered m rp x) (g0 : Gathered m r0 y) (zp : Zeros m rp) (z0 : Zeros m r0) where
-  by-row : (i : ℕ) → i < m → (b : Bool) → leftOut m i ≡ b → cond b zero64 (at (tab (kept m) (slope x y)) (place m i)) ≡ slope rp r0 i
+  by-row : (i : ℕ) → i < m → (b : Bool) → leftOut m i ≡ b → cond b plusZero (at (tab (kept m) (slope x y)) (place m i)) ≡ slope rp r0 i
   by-row i h true e = rw (zp .out i h e, z0 .out i h e) zero-slope
   by-row i h false e =
       let below : place m i < kept m = rw (← place-kept m l) (place-below m i m h e) in

@@ -9,7 +9,8 @@ use lib.Dec.{eqb}
 use lib.ListN.{set, replicate, getD-replicate}
 use lib.Seq.{getD-set-other}
 use lib.Ieee.{Float, nan, lt}
-use Rattle.laws.specs.Below.{below-turns}
+use Rattle.common.specs.Floats as Floats
+use Rattle.float_laws.specs.Below.{below-turns}
 use Rattle.common.specs.Lists.{at}
 use Rattle.common.specs.declared.Fate.{Fate}
 use Rattle.common.specs.declared.Fate.the-variants.{Going, Refused}
@@ -20,7 +21,7 @@ use Rattle.geom.specs.declared.Rotation.the-variants as Rotation
 use Rattle.problem.specs.declared.CheckedProblem.{CheckedProblem}
 use Rattle.forward.specs.Runs.{runOf}
 use Rattle.forward.specs.declared.Node.{Node}
-use Rattle.residuals.specs.Sums.{nodeAt}
+use Rattle.forward.specs.Runs.{nodeAt}
 use Rattle.residuals.specs.Residuals as Residuals
 use Rattle.residuals.specs.declared.Target.{Target}
 use Rattle.residuals.specs.declared.ResidualVector.{ResidualVector}
@@ -37,8 +38,8 @@ put3-zeros : {m : ℕ} {r : List Float} (j : ℕ) (v : List Float) → leftOut m
 put3-zeros j v a b c z = set-zeros (j + 2) (at v 2) c (set-zeros (j + 1) (at v 1) b (set-zeros j (at v 0) a z))
 
 -- nothing is written yet
-none-zeros : {m : ℕ} → m ≤ 79 → Zeros m (replicate 79 Vec.plusZero)
-none-zeros l = record { out = λ i h e. getD-replicate 79 i Vec.plusZero nan (omega arith) }
+none-zeros : {m : ℕ} → m ≤ 79 → Zeros m (replicate 79 Floats.plusZero)
+none-zeros l = record { out = λ i h e. getD-replicate 79 i Floats.plusZero nan (omega arith) }
 
 -- ---- which rows are left out: 6 to 22 of 28, 6 + 4k of 79
 pub short-out : (i : ℕ) → 6 ≤ i → i < 23 → leftOut 28 i ≡ true
@@ -109,7 +110,7 @@ module _ (t : Target) (z : List Float) (ns : List Node) where
 
   -- how many residuals there are
   abbrev count : ℕ
-  count = cond (lt Vec.plusZero (t .weights .pointing)) 79 28
+  count = cond (lt Floats.plusZero (t .weights .pointing)) 79 28
 
   either : (b : Bool) (e w : List Float) → Zeros (cond b 79 28) (cond b (Residuals.withPointing t z ns (Residuals.ends e w)) (Residuals.withoutPointing t z ns (Residuals.ends e w)) .r)
   either true e w = with-zeros _ (ends-zeros (omega arith) e w)
@@ -120,15 +121,15 @@ module _ (t : Target) (z : List Float) (ns : List Node) where
   refused-zeros false n place = none-zeros (omega arith)
 
   error-zeros : (x : Rotation) → Zeros count (Residuals.errorBy x t z ns .r)
-  error-zeros Rotation.Outside = refused-zeros (lt Vec.plusZero (t .weights .pointing)) 11 0
-  error-zeros (Rotation.By a b c) = either (lt Vec.plusZero (t .weights .pointing)) (a ∷ b ∷ c ∷ []) (nodeAt ns 16 .w)
+  error-zeros Rotation.Outside = refused-zeros (lt Floats.plusZero (t .weights .pointing)) 11 0
+  error-zeros (Rotation.By a b c) = either (lt Floats.plusZero (t .weights .pointing)) (a ∷ b ∷ c ∷ []) (nodeAt ns 16 .w)
 
   run-zeros : (f : Fate) → Zeros count (Residuals.ofRunBy f t z ns .r)
   unfolding Residuals.ofNodes
-  run-zeros (Refused n place) = refused-zeros (lt Vec.plusZero (t .weights .pointing)) n place
+  run-zeros (Refused n place) = refused-zeros (lt Floats.plusZero (t .weights .pointing)) n place
   run-zeros Going = error-zeros (Residuals.errorOf (nodeAt ns 16 .q) (t .qf))
 
 -- of every decision
-pub residuals-zeros : (p : CheckedProblem) (z : List Float) → Zeros (cond (lt Vec.plusZero (p .weights .pointing)) 79 28) (Residuals.residualsOf p z .r)
+pub residuals-zeros : (p : CheckedProblem) (z : List Float) → Zeros (cond (lt Floats.plusZero (p .weights .pointing)) 79 28) (Residuals.residualsOf p z .r)
 unfolding Residuals.residualsOf Residuals.ofRun
 residuals-zeros p z = run-zeros (Residuals.targetOf p) z (runOf p z .nodes) (runOf p z .fate)

@@ -3,10 +3,11 @@ use mathlib.Core.Path.{_≡_, refl, sym, _∙_}
 use mathlib.Core.Bool.{false}
 use mathlib.Core.List.{List, [], _∷_}
 use lib.Ieee.{Float, inf, binary64, ofBits, lt, fits, neg, isNan}
+use Rattle.common.specs.Floats.{one}
 use Rattle.common.specs.Iter.{iter}
 use Rattle.common.specs.Lists.{at}
 use Rattle.float.specs.Ops as Ops
-use Rattle.laws.specs.Below.{below-three}
+use Rattle.float_laws.specs.Below.{below-three}
 use Rattle.actuators.specs.Maps as Maps
 use Rattle.control_rows.specs.Parts.{width}
 use Rattle.control_limits.specs.Limits.{hold, limitOf, projected}
@@ -24,9 +25,6 @@ half = ofBits binary64 0x3fe0_0000_0000_0000
 
 abbrev threeQuarters : Float
 threeQuarters = ofBits binary64 0x3fe8_0000_0000_0000
-
-abbrev one : Float
-one = ofBits binary64 0x3ff0_0000_0000_0000
 
 abbrev lessTwo : Float
 lessTwo = ofBits binary64 0xc000_0000_0000_0000

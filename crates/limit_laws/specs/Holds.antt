@@ -10,13 +10,13 @@ use lib.Ieee.Scale.{finite}
 use lib.Ieee.Bits.{is-true, is-false}
 use Rattle.float.specs.Ops as Ops
 use Rattle.float.specs.Ops.{number, abs}
-use Rattle.laws.specs.Numbers.{lt-r, clamp-n}
-use Rattle.laws.specs.Finite.{finite-number}
-use Rattle.laws.specs.Limits as Limits
-use Rattle.laws.specs.Place.{mid, place}
-use Rattle.laws.specs.Order.{Held, held, lt-up, nlt-up, le-up, neg-held, abs-held, place-neg, place-abs, le-trans, lt-le, not-above}
-use Rattle.laws.specs.Signs.{place-plus, above-zero-plus}
-use Rattle.laws.specs.Clamp.{test, clamp-same, sym-abs, sym-idem, sym-neg, clamp-mono, clamp-wider, clamp-narrower}
+use Rattle.float_laws.specs.Numbers.{lt-r, clamp-n}
+use Rattle.float_laws.specs.Finite.{finite-number}
+use Rattle.float_laws.specs.Limits as Limits
+use Rattle.float_laws.specs.Place.{mid, place}
+use Rattle.float_laws.specs.Order.{Held, held, lt-up, nlt-up, le-up, neg-held, abs-held, place-neg, place-abs, le-trans, lt-le, not-above}
+use Rattle.float_laws.specs.Signs.{place-plus, above-zero-plus}
+use Rattle.float_laws.specs.Clamp.{test, clamp-same, sym-abs, sym-idem, sym-neg, clamp-mono, clamp-wider, clamp-narrower}
 use Rattle.control_limits.specs.Limits.{hold, changed}
 
 -- a limit: an f64 above 0

@@ -1,4 +1,4 @@
--- The laws of a whole row held to its limits, over `projectControls`, which the contract of `controls::project_controls` cites: done twice, of the negated row, and in
+-- The laws of a whole row holdAt to its limits, over `projectControls`, which the contract of `controls::project_controls` cites: done twice, of the negated row, and in
 -- order. They are of every row: one that is too short stays as it is, and so do the numbers past a row's controls. Assumes nothing.
 use Prim.Native.Nat.{ℕ, _<_, _≤_}
 use mathlib.Core.Path.{_≡_, refl, sym, ap, _∙_}
@@ -13,7 +13,7 @@ use Rattle.common.specs.Lists.{at}
 use Rattle.actuators.specs.Maps.{gimbals}
 use Rattle.actuators.specs.declared.ActuatorMap.{ActuatorMap}
 use Rattle.control_rows.specs.Parts.{width}
-use Rattle.control_limits.specs.Limits.{held, fewer, projected}
+use Rattle.control_limits.specs.Limits.{holdAt, fewer, projected}
 use Rattle.controls.specs.Controls.{rigOf, rowFits, projectControls}
 use Rattle.control_rows.specs.Stored.{stored}
 use Rattle.control_rows.specs.StoredLaws.{stored-length}
@@ -21,7 +21,7 @@ use Rattle.limit_laws.specs.Holds.{hold-twice, hold-neg, hold-mono}
 use Rattle.limit_laws.specs.Rows.{rowLimit, heldOf, Limited, Numbers}
 use Rattle.limit_laws.specs.StoreInner.{stored-every, stored-then, stored-neg}
 
--- ---- a projected row is the row with its first controls held
+-- ---- a projected row is the row with its first controls holdAt
 fewer-le : (a b : ℕ) → fewer a b ≤ b
 fewer-le a b = go (ltb a b) (ltb→lt a b)
   where
@@ -36,31 +36,31 @@ held-le m n = go (rowFits (rigOf m) 0 n)
     go true = fewer-le (width (rigOf m) (gimbals (m .cmgs))) n
     go false = omega arith
 
-project-is : (m : ActuatorMap) (box u : List Float) → projectControls m box u ≡ stored (held (rowLimit m box)) u (heldOf m (length u))
+project-is : (m : ActuatorMap) (box u : List Float) → projectControls m box u ≡ stored (holdAt (rowLimit m box)) u (heldOf m (length u))
 unfolding projectControls projected iter
 project-is m box u = go (rowFits (rigOf m) 0 (length u))
   where
     w : ℕ
     w = fewer (width (rigOf m) (gimbals (m .cmgs))) (length u)
 
-    go : (c : Bool) → cond c (stored (held (rowLimit m box)) u w) u ≡ stored (held (rowLimit m box)) u (cond c w 0)
+    go : (c : Bool) → cond c (stored (holdAt (rowLimit m box)) u w) u ≡ stored (holdAt (rowLimit m box)) u (cond c w 0)
     go true = refl
     go false = refl
 
 project-length : (m : ActuatorMap) (box u : List Float) → length (projectControls m box u) ≡ length u
-project-length m box u = ap length (project-is m box u) ∙ stored-length (held (rowLimit m box)) u (heldOf m (length u))
+project-length m box u = ap length (project-is m box u) ∙ stored-length (holdAt (rowLimit m box)) u (heldOf m (length u))
 
 -- two projections, one after the other, of maps that hold as many controls
 pub project-then : (m k s : ActuatorMap) (box lab both u : List Float) → heldOf k (length u) ≡ heldOf m (length u) → heldOf s (length u) ≡ heldOf m (length u)
-    → ((i : ℕ) → i < heldOf m (length u) → held (rowLimit k lab) i (held (rowLimit m box) i (at u i)) ≡ held (rowLimit s both) i (at u i))
+    → ((i : ℕ) → i < heldOf m (length u) → holdAt (rowLimit k lab) i (holdAt (rowLimit m box) i (at u i)) ≡ holdAt (rowLimit s both) i (at u i))
     → projectControls k lab (projectControls m box u) ≡ projectControls s both u
 project-then m k s box lab both u ek es same =
     project-is k lab (projectControls m box u)
-    ∙ ap (λ n. stored (held (rowLimit k lab)) (projectControls m box u) (heldOf k n)) (project-length m box u)
-    ∙ ap (λ n. stored (held (rowLimit k lab)) (projectControls m box u) n) ek
-    ∙ ap (λ l. stored (held (rowLimit k lab)) l (heldOf m (length u))) (project-is m box u)
-    ∙ stored-then (held (rowLimit m box)) (held (rowLimit k lab)) (held (rowLimit s both)) u (heldOf m (length u)) (held-le m (length u)) same
-    ∙ ap (stored (held (rowLimit s both)) u) (sym es)
+    ∙ ap (λ n. stored (holdAt (rowLimit k lab)) (projectControls m box u) (heldOf k n)) (project-length m box u)
+    ∙ ap (λ n. stored (holdAt (rowLimit k lab)) (projectControls m box u) n) ek
+    ∙ ap (λ l. stored (holdAt (rowLimit k lab)) l (heldOf m (length u))) (project-is m box u)
+    ∙ stored-then (holdAt (rowLimit m box)) (holdAt (rowLimit k lab)) (holdAt (rowLimit s both)) u (heldOf m (length u)) (held-le m (length u)) same
+    ∙ ap (stored (holdAt (rowLimit s both)) u) (sym es)
     ∙ sym (project-is s both u)
 
 module _ (m : ActuatorMap) (box u : List Float) (L : Limited m box (length u)) (N : Numbers m u) where
@@ -72,8 +72,8 @@ module _ (m : ActuatorMap) (box u : List Float) (L : Limited m box (length u)) (
   pub project-neg : projectControls m box (map neg u) ≡ map neg (projectControls m box u)
   project-neg =
       project-is m box (map neg u)
-      ∙ ap (λ n. stored (held (rowLimit m box)) (map neg u) (heldOf m n)) (length-map u neg)
-      ∙ stored-neg (held (rowLimit m box)) u (heldOf m (length u)) (held-le m (length u)) (λ i h. hold-neg (L i h) (N i h))
+      ∙ ap (λ n. stored (holdAt (rowLimit m box)) (map neg u) (heldOf m n)) (length-map u neg)
+      ∙ stored-neg (holdAt (rowLimit m box)) u (heldOf m (length u)) (held-le m (length u)) (λ i h. hold-neg (L i h) (N i h))
       ∙ ap (map neg) (sym (project-is m box u))
 
   -- WHERE A ROW'S NUMBER IS NOT ABOVE ANOTHER'S, IT IS NOT ABOVE IT AFTER PROJECTION
@@ -85,7 +85,7 @@ module _ (m : ActuatorMap) (box u : List Float) (L : Limited m box (length u)) (
       (λ b. stored-every f v n long (λ j y. T (le (at u j) y)) i (λ c. absurd (never c b)) (λ c. h)))
     where
       f : ℕ → Float → Float
-      f = held (rowLimit m box)
+      f = holdAt (rowLimit m box)
 
       n : ℕ
       n = heldOf m (length u)

@@ -7,7 +7,7 @@ use lib.ListN.{length, length-map, List·getD-map}
 use lib.Seq.{ext-getD}
 use lib.Ieee.{Float, nan, neg}
 use Rattle.common.specs.Lists.{at}
-use Rattle.laws.specs.Clamp.{test}
+use Rattle.float_laws.specs.Clamp.{test}
 use Rattle.control_rows.specs.Stored.{stored}
 use Rattle.control_rows.specs.StoredLaws.{stored-length, stored-at, stored-after}
 

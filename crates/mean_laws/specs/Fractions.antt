@@ -11,15 +11,15 @@ use lib.Ieee.{Float, nan, inf, fin, Format, binary64, low, up, down, size, units
 use lib.Ieee.Fits.{up-pos, down-pos, and-r, round-fits, neg-fits}
 use lib.Ieee.Order.{round-mono}
 use lib.Ieee.Scale.{finite}
+use Rattle.common.specs.Floats.{one, plusZero}
 use Rattle.float.specs.Ops.{number}
-use Rattle.laws.specs.Place.{mag, mid, place, place-inf}
-use Rattle.laws.specs.Order.{Held, held, lt-up, le-up, up-le, place-neg}
-use Rattle.laws.specs.Signs.{plus, plus-number, place-plus, round-plus}
-use Rattle.laws.specs.Finite.{finite-number, finite-neg, sub-number}
-use Rattle.laws.specs.Rounding.{add-above, add-below, add-mono}
-use Rattle.laws.specs.Limits.{finite-under}
-use Rattle.laws.specs.Unit.{one}
-use Rattle.mean_laws.specs.Means.{plusZero, Plain, Fraction}
+use Rattle.float_laws.specs.Place.{mag, mid, place, place-inf}
+use Rattle.float_laws.specs.Order.{Held, held, lt-up, le-up, up-le, place-neg}
+use Rattle.float_laws.specs.Signs.{plus, plus-number, place-plus, round-plus}
+use Rattle.float_laws.specs.Finite.{finite-number, finite-neg, sub-number}
+use Rattle.float_laws.specs.Rounding.{add-above, add-below, add-mono}
+use Rattle.float_laws.specs.Limits.{finite-under}
+use Rattle.mean_laws.specs.Means.{Plain, Fraction}
 use Rattle.mean_laws.specs.Weights.{plain-held}
 use Rattle.mean_laws.specs.Rounded.{nil, nil-fits, nil-place}
 

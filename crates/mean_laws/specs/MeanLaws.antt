@@ -12,9 +12,10 @@ use lib.Ieee as Ieee
 use lib.Ieee.{Float, nan, inf, fin, binary64, up, down, units, round, sum, neg, add, sub, mul, eq, fits, ofBits}
 use lib.Ieee.Fits.{up-pos, and-l}
 use lib.Ieee.Scale.{finite}
-use Rattle.laws.specs.Place.{mag}
-use Rattle.laws.specs.Exact.{signed, exact}
-use Rattle.mean_laws.specs.Means.{plusZero, Plain, Fraction, mean, size, Bounded}
+use Rattle.common.specs.Floats.{plusZero}
+use Rattle.float_laws.specs.Place.{mag}
+use Rattle.float_laws.specs.Exact.{signed, exact}
+use Rattle.mean_laws.specs.Means.{Plain, Fraction, mean, size, Bounded}
 use Rattle.mean_laws.specs.Weights.{nought, mean-first}
 use Rattle.mean_laws.specs.Rounded.{Weight, Mean, unit, weight-by, mean-is}
 

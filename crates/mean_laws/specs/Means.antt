@@ -2,14 +2,11 @@
 use Prim.Native.Nat.{ℕ, _+_, _*_, _^_, _≤_, max}
 use lib.IntN.{natAbs}
 use lib.Dec.{T}
-use lib.Ieee.{Float, Format, binary64, add, sub, mul, le, fits, ofBits}
+use lib.Ieee.{Float, Format, binary64, add, sub, mul, le, fits}
 use lib.Ieee.Scale.{finite}
-use Rattle.laws.specs.Exact.{exact}
-use Rattle.laws.specs.Unit.{one}
-
--- +0
-abbrev pub plusZero : Float
-plusZero = ofBits binary64 0
+use Rattle.common.specs.Floats.{one}
+use Rattle.common.specs.Floats.{plusZero}
+use Rattle.float_laws.specs.Exact.{exact}
 
 -- a finite value of the format f; a finite f64
 pub record Value (f : Format) (x : Float) : Type 0 where

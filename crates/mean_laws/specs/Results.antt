@@ -11,12 +11,12 @@ use lib.Ieee.{Float, nan, inf, fin, Format, prec, emax, low, up, down, unlike, r
 use lib.Ieee.Exact.{HasValue}
 use lib.Ieee.Fits.{down-pos, round-fits, add-fits, two, two-le-pos}
 use lib.Ieee.Scale.{grid, finite, round-same, round-val, round-under}
-use Rattle.laws.specs.Place.{mag, mid, place, mag-exact, mag-lt, place-inf}
-use Rattle.laws.specs.Order.{Held, held, mag-neg}
-use Rattle.laws.specs.Signs.{plus, place-plus, round-plus, round-neg}
-use Rattle.laws.specs.Finite.{finite-number, finite-neg, add-number}
-use Rattle.laws.specs.Sizes.{between}
-use Rattle.laws.specs.Rounding.{rnd, rnd-fix, rnd-mono, rnd-ge-mid, Signed, over, less, add-signed}
+use Rattle.float_laws.specs.Place.{mag, mid, place, mag-exact, mag-lt, place-inf}
+use Rattle.float_laws.specs.Order.{Held, held, mag-neg}
+use Rattle.float_laws.specs.Signs.{plus, place-plus, round-plus, round-neg}
+use Rattle.float_laws.specs.Finite.{finite-number, finite-neg, add-number}
+use Rattle.float_laws.specs.Sizes.{between}
+use Rattle.float_laws.specs.Rounding.{rnd, rnd-fix, rnd-mono, rnd-ge-mid, Signed, over, less, add-signed}
 use Rattle.mean_laws.specs.Grids.{Digits, gr-digits}
 
 pub mid-is : (f : Format) → mid f ≡ 2 ^ (low f + suc (emax f))

@@ -10,12 +10,12 @@ use lib.Pow.{pow-add, pow-pos, pow-mono}
 use lib.Ieee.{Float, nan, inf, fin, Format, binary32, binary64, prec, emax, low, add, sub, mul, neg, le, fits}
 use lib.Ieee.Fits.{mul-fits, sub-fits, neg-fits, two}
 use lib.Ieee.Scale.{grid, finite}
-use Rattle.laws.specs.Place.{mag, mid, place, mag-exact, mag-lt}
-use Rattle.laws.specs.Numbers.{le-r}
-use Rattle.laws.specs.Order.{Held, held, le-up, place-neg}
-use Rattle.laws.specs.Signs.{place-plus}
-use Rattle.laws.specs.Finite.{finite-number, finite-neg, between-finite}
-use Rattle.laws.specs.Sizes.{place-high, place-low}
+use Rattle.float_laws.specs.Place.{mag, mid, place, mag-exact, mag-lt}
+use Rattle.float_laws.specs.Numbers.{le-r}
+use Rattle.float_laws.specs.Order.{Held, held, le-up, place-neg}
+use Rattle.float_laws.specs.Signs.{place-plus}
+use Rattle.float_laws.specs.Finite.{finite-number, finite-neg, between-finite}
+use Rattle.float_laws.specs.Sizes.{place-high, place-low}
 use Rattle.mean_laws.specs.Means.{Value}
 use Rattle.mean_laws.specs.Grids.{either, twice, gr-digits, gr-close, gr-half, digits-step}
 use Rattle.mean_laws.specs.Totals.{wl-is, total, weighed, nothing}

@@ -120,7 +120,8 @@ fn moved(c: Cursor, leg: Planned) -> Cursor
 // The plan of the next leg of a mosaic that goes on, and the cursor after it.
 fn advance(p: Problem, way: Way, c: Cursor, from: Quat, to: Quat, ws: &mut [f64]) -> Advanced
     requires { ⌜ Turns.Open c ⌝ }
-    ensures { λ r. ⌜ Turns.Turned (Ways.plannerBy way (length (now (ws .entry))) (Mosaics.legProblem p from to (c .momenta))) way p c from to (now (ws .entry)) r (now (ws .exit)) ⌝ }
+    ensures { λ r. ⌜ Turns.Turned (Ways.plannerBy way (length (now (ws .entry))) (Mosaics.legProblem p from to (c .momenta))) way p c from to
+        (now (ws .entry)) r (now (ws .exit)) ⌝ }
 {
     let m = c.momenta;
     let planned = plan_by(leg_problem(p, from, to, m), way, ws);
@@ -142,7 +143,8 @@ fn is_full(c: Cursor) -> bool
 
 // The next leg of a mosaic that goes on, where it has one.
 fn advance_open(p: Problem, way: Way, c: Cursor, from: Quat, to: Quat, ws: &mut [f64]) -> Advanced
-    ensures { λ r. ⌜ Turns.Turned (Mosaics.opened (Ways.plannerBy way (length (now (ws .entry)))) p c from to) way p c from to (now (ws .entry)) r (now (ws .exit)) ⌝ }
+    ensures { λ r. ⌜ Turns.Turned (Mosaics.opened (Ways.plannerBy way (length (now (ws .entry)))) p c from to) way p c from to (now (ws .entry)) r
+        (now (ws .exit)) ⌝ }
 {
     if is_full(c) {
         return Advanced {

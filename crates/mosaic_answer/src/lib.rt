@@ -1,5 +1,5 @@
-// What is printed of a mosaic's text: a heading and a path for each leg as program `slew` prints one, or the leg's refusal in the path's place; then the sums of
-// the legs that stand. It is written leg by leg into lent buffers.
+// What is printed of a mosaic's text: a heading and a path for each leg as program `slew` prints one, or the leg's refusal in the path's place; then the sums
+// of the legs that stand. It is written leg by leg into lent buffers.
 ghost use mathlib.Core.Path.{_≡_};
 ghost use lib.ListN.{length};
 ghost use Rattle.mosaic.specs.Ways as Ways;
@@ -66,7 +66,8 @@ pub fn write_leg(
     said: &mut [u8],
 ) -> Leg
     ensures { λ r. ⌜ Writes (Ways.plannerBy way (length (now (ws .entry)))) m c
-        (now (ws .entry)) (now (heading .entry)) (now (out .entry)) (now (said .entry)) r (now (ws .exit)) (now (heading .exit)) (now (out .exit)) (now (said .exit)) ⌝ }
+        (now (ws .entry)) (now (heading .entry)) (now (out .entry)) (now (said .entry))
+        r (now (ws .exit)) (now (heading .exit)) (now (out .exit)) (now (said .exit)) ⌝ }
 {
     let k = c.index;
     let tiles = m.tiles;

@@ -7,10 +7,11 @@ use native.Mathlib.Numerals.{add-one}
 use native.Mathlib.Omega.{arith}
 use lib.ListN.{length, getElem?, length-append}
 use lib.Ieee.{Float, binary64, add}
-use Rattle.common.specs.Iter.{iter, iter-next, iter-stays}
+use Rattle.common.specs.Floats.{plusZero}
+use Rattle.common.specs.Iter.{iter}
+use Rattle.common.specs.IterLaws.{iter-next, iter-stays}
 use Rattle.common.specs.declared.Fate.{Fate}
 use Rattle.common.specs.declared.Fate.the-variants.{Going, Refused}
-use Rattle.geom.specs.Vec.{plusZero}
 use Rattle.geom.specs.declared.Quat.{Quat}
 use Rattle.problem.specs.declared.Momenta.{Momenta}
 use Rattle.problem.specs.declared.Problem.{Problem}

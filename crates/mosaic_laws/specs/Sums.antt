@@ -5,8 +5,8 @@ use mathlib.Core.Bool.{not}
 use mathlib.Core.List.{List, [], _∷_}
 use lib.Dec.{T}
 use lib.Ieee.{Float, binary64, add, eq, ofBits}
+use Rattle.common.specs.Floats.{plusZero}
 use Rattle.common.specs.declared.Fate.the-variants.{Going}
-use Rattle.geom.specs.Vec.{plusZero}
 use Rattle.planner.specs.Plans.{blankPath}
 use Rattle.planner.specs.declared.Planned.{Planned}
 use Rattle.mosaic_laws.specs.Legs.{durationsOnto}

@@ -8,7 +8,8 @@ use lib.Dec.{leb, eqb}
 use lib.ListN.{length, set}
 use lib.Ieee.{Float, eq, ne}
 use borrow.Author.Tests.{not-true, not-false}
-use Rattle.common.specs.Iter.{iter, iter-stays}
+use Rattle.common.specs.Iter.{iter}
+use Rattle.common.specs.IterLaws.{iter-stays}
 use Rattle.geom.specs.declared.Quat.{Quat}
 use Rattle.text.specs.Bytes.{bytes}
 use Rattle.text.specs.Forms.{loose}

@@ -5,8 +5,8 @@ use mathlib.Core.List.{List}
 use lib.Dec.{leb}
 use lib.ListN.{length, getD, set, replicate}
 use lib.Ieee.{nan}
+use Rattle.common.specs.Floats.{plusZero}
 use Rattle.common.specs.Iter.{iter}
-use Rattle.geom.specs.Vec.{plusZero}
 use Rattle.geom.specs.declared.Quat.{Quat}
 use Rattle.text.specs.Bytes.{bytes}
 use Rattle.text.specs.Forms.{loose}

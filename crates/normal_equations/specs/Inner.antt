@@ -9,7 +9,7 @@ use lib.Ieee.{Float, binary64, add}
 use Rattle.common.specs.Lists.{at}
 use Rattle.normal_equations.specs.Tab.{tab}
 use Rattle.normal_equations.specs.Rows.{row}
-use Rattle.normal_equations.specs.Filled.{OneRow}
+use Rattle.normal_equations.specs.FilledInner.{OneRow}
 use Rattle.normal_equations.specs.Normal.{dot}
 
 -- the sums of column p with each of the columns that lie one after the other in j

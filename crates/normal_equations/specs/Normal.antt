@@ -6,13 +6,10 @@ use mathlib.Core.List.{List, []}
 use lib.Dec.{eqb}
 use lib.ListN.{getD}
 use lib.Ieee.{Float, binary64, add, sub, mul, div, neg, ofBits}
+use Rattle.common.specs.Floats.{plusZero}
 use Rattle.common.specs.Iter.{iter}
 use Rattle.common.specs.Lists.{at}
 use Rattle.normal_equations.specs.Tab.{tab}
-
--- +0.0
-abbrev pub zero64 : Float
-zero64 = ofBits binary64 0
 
 -- list i of a list of lists
 abbrev pub line : List (List Float) → ℕ → List Float
@@ -36,7 +33,7 @@ rowOnto n j i a = tab n (λ c. tab n (λ d. add binary64 (cell a c d) (mul binar
 
 -- n by n, all +0.0
 unfoldable pub blank : ℕ → List (List Float)
-blank n = tab n (λ c. tab n (λ d. zero64))
+blank n = tab n (λ c. tab n (λ d. plusZero))
 
 -- a[k][k] += lambda
 unfoldable pub damped : ℕ → Float → List (List Float) → List (List Float)
@@ -52,11 +49,11 @@ termOnto n j r i g = tab n (λ c. add binary64 (at g c) (mul binary64 (cell j c 
 
 -- the right side: the m residual rows in order from +0.0, then g[k] = -g[k]
 unfoldable pub rightSide : ℕ → ℕ → List (List Float) → List Float → List Float
-rightSide n m j r = tab n (λ c. neg (at (iter (termOnto n j r) (tab n (λ k. zero64)) m) c))
+rightSide n m j r = tab n (λ c. neg (at (iter (termOnto n j r) (tab n (λ k. plusZero)) m) c))
 
 -- the sum of the products of two columns, over m residual rows in order, from +0.0
 abbrev pub addProduct : List Float → List Float → ℕ → Float → Float
 addProduct p q i s = add binary64 s (mul binary64 (at p i) (at q i))
 
 abbrev pub dot : ℕ → List Float → List Float → Float
-dot m p q = iter (addProduct p q) zero64 m
+dot m p q = iter (addProduct p q) plusZero m

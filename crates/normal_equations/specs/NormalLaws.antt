@@ -4,7 +4,8 @@ use native.Mathlib.Omega.{arith}
 use lib.ListN.{length, take, drop, set, length-set}
 use lib.Seq.{getD-set-same, getD-set-other}
 use borrow.Author.Tests.{le-ltb, ltb-true, ltb-false, eq-eqb, ne-eqb, eqb-true, eqb-false}
-use Rattle.normal_equations.specs.Filled.{Filled, filled-four}
+use Rattle.common.specs.Floats.{plusZero}
+use Rattle.normal_equations.specs.FilledInner.{Filled, filled-four}
 use native.Mathlib.Nat.{mul-comm, add-mul}
 use mathlib.Core.Bool.{Bool, true, false, cond}
 use mathlib.Core.Path.{_≡_, refl, ap, sym, subst, _∙_}
@@ -13,10 +14,12 @@ use lib.Dec.{eqb, ltb}
 use lib.Ieee.{Float, nan, inf, fin, Format, binary64, add, mul, neg, unlike, up, down}
 use Rattle.common.specs.Iter.{iter}
 use Rattle.common.specs.Lists.{at, slice}
-use Rattle.normal_equations.specs.Tab.{tab, getD-tab, tab-same, tab-of}
-use Rattle.normal_equations.specs.Normal.{zero64, line, cell, rowOnto, blank, damped, normalMatrix, termOnto, rightSide, dot}
+use Rattle.normal_equations.specs.Tab.{tab}
+use Rattle.normal_equations.specs.TabLaws.{getD-tab, tab-same, tab-of}
+use Rattle.normal_equations.specs.Normal.{line, cell, rowOnto, blank, damped, normalMatrix, termOnto, rightSide, dot}
 use Rattle.normal_equations.specs.Inner.{cellsOf, Dots, sumsOf, Summed, dampedSum, mirroredAt, mirroredRow}
-use Rattle.normal_equations.specs.Rows.{row, rows, length-row, part-row, line-rows, at-row}
+use Rattle.normal_equations.specs.Rows.{row, rows}
+use Rattle.normal_equations.specs.RowsLaws.{length-row, part-row, line-rows, at-row}
 
 -- a cell of a matrix given by a rule
 pub cell-tab : (n : ℕ) (f : ℕ → ℕ → Float) (c d : ℕ) → c < n → d < n → cell (tab n (λ i. tab n (f i))) c d ≡ f c d
@@ -25,7 +28,7 @@ cell-tab n f c d hc hd = ap (λ r. at r d) (getD-tab n (λ i. tab n (f i)) [] c 
 -- the sums of m residual rows, cell by cell
 pub sum-cell : (n m : ℕ) (j : List (List Float)) (c d : ℕ) → c < n → d < n → cell (iter (rowOnto n j) (blank n) m) c d ≡ dot m (line j c) (line j d)
 unfolding iter rowOnto blank
-sum-cell n zero j c d hc hd = cell-tab n (λ _ _. zero64) c d hc hd
+sum-cell n zero j c d hc hd = cell-tab n (λ _ _. plusZero) c d hc hd
 sum-cell n (suc m) j c d hc hd =
     cell-tab n (λ x y. add binary64 (cell (iter (rowOnto n j) (blank n) m) x y) (mul binary64 (cell j x m) (cell j y m))) c d hc hd
     ∙ ap (λ s. add binary64 s (mul binary64 (cell j c m) (cell j d m))) (sum-cell n m j c d hc hd)
@@ -46,11 +49,11 @@ normal-sums n m j lambda =
     tab-same n _ _ (λ c hc. tab-same n _ _ (λ d hd. ap (λ s. cond (eqb c d) (add binary64 s lambda) s) (sum-cell n m j c d hc hd)))
 
 -- the sums of the right side
-pub right-sum : (n m : ℕ) (j : List (List Float)) (r : List Float) (c : ℕ) → c < n → at (iter (termOnto n j r) (tab n (λ k. zero64)) m) c ≡ dot m (line j c) r
+pub right-sum : (n m : ℕ) (j : List (List Float)) (r : List Float) (c : ℕ) → c < n → at (iter (termOnto n j r) (tab n (λ k. plusZero)) m) c ≡ dot m (line j c) r
 unfolding iter termOnto
-right-sum n zero j r c hc = getD-tab n (λ k. zero64) nan c hc
+right-sum n zero j r c hc = getD-tab n (λ k. plusZero) nan c hc
 right-sum n (suc m) j r c hc =
-    getD-tab n (λ x. add binary64 (at (iter (termOnto n j r) (tab n (λ k. zero64)) m) x) (mul binary64 (cell j x m) (at r m))) nan c hc
+    getD-tab n (λ x. add binary64 (at (iter (termOnto n j r) (tab n (λ k. plusZero)) m) x) (mul binary64 (cell j x m) (at r m))) nan c hc
     ∙ ap (λ s. add binary64 s (mul binary64 (cell j c m) (at r m))) (right-sum n m j r c hc)
 
 pub right-sums : (n m : ℕ) (j : List (List Float)) (r : List Float) → rightSide n m j r ≡ tab n (λ c. neg (dot m (line j c) r))

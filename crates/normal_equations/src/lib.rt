@@ -3,12 +3,15 @@
 ghost use mathlib.Core.Path.{_≡_};
 ghost use Prim.Native.Nat.{_+_, _*_, _≤_};
 ghost use lib.ListN.{length, replicate, take, drop};
+ghost use Rattle.common.specs.Floats as Floats;
 ghost use Rattle.normal_equations.specs.Rows.{rows};
 ghost use Rattle.normal_equations.specs.Normal as Normal;
 ghost use Rattle.normal_equations.specs.Placed.{ColumnPut, Equations};
 use self::matrix::matrix_row;
 use self::matrix::matrix_rows;
 use self::sums::dot;
+use common::DECISION_NUMBERS;
+use common::ResidualNumbers;
 
 pub mod matrix;
 pub mod rows;
@@ -19,7 +22,7 @@ pub const FD_EPS: f64 = 1.0e-6;
 
 // Every number becomes +0.0.
 pub fn clear(v: &mut [f64])
-    ensures { λ _. ⌜ now (v .exit) ≡ replicate (length (now (v .entry))) Normal.zero64 ⌝ }
+    ensures { λ _. ⌜ now (v .exit) ≡ replicate (length (now (v .entry))) Floats.plusZero ⌝ }
 {
     let mut i = 0;
     while i < v.len() {
@@ -29,7 +32,7 @@ pub fn clear(v: &mut [f64])
 }
 
 // The residuals rp of a moved decision against those of the decision, r0.
-fn put_slopes(column: &mut [f64], rp: &[f64; 79], r0: &[f64; 79])
+fn put_slopes(column: &mut [f64], rp: &ResidualNumbers, r0: &ResidualNumbers)
     requires { ⌜ length (now column) ≤ 79 ⌝ }
     ensures { λ _. ⌜ now (column .exit) ≡ Normal.slopes (length (now (column .entry))) (now (rp .entry)) (now (r0 .entry)) ⌝ }
 {
@@ -41,7 +44,7 @@ fn put_slopes(column: &mut [f64], rp: &[f64; 79], r0: &[f64; 79])
 }
 
 // Column c of the columns of m numbers in v, of the residuals rp of the moved decision against r0: all else in v stays.
-pub fn put_column(v: &mut [f64], m: usize, c: usize, rp: &[f64; 79], r0: &[f64; 79])
+pub fn put_column(v: &mut [f64], m: usize, c: usize, rp: &ResidualNumbers, r0: &ResidualNumbers)
     requires { ⌜ (m ≤ 79) × (c * m + m ≤ length (now v)) ⌝ }
     ensures { λ _. ⌜ ColumnPut m c (Normal.slopes m (now (rp .entry)) (now (r0 .entry))) (now (v .entry)) (now (v .exit)) ⌝ }
 {
@@ -53,10 +56,11 @@ pub fn put_column(v: &mut [f64], m: usize, c: usize, rp: &[f64; 79], r0: &[f64; 
 // The normal matrix of n columns of m numbers, which lie in front of it: only the matrix is changed.
 pub fn normal_matrix(v: &mut [f64], n: usize, m: usize, lambda: f64)
     requires { ⌜ (n ≤ 193) × (length (now v) ≡ n * m + n * n) ⌝ }
-    ensures { λ _. ⌜ (take (n * m) (now (v .exit)) ≡ take (n * m) (now (v .entry))) × (rows n n (drop (n * m) (now (v .exit))) ≡ Normal.normalMatrix n m (rows n m (take (n * m) (now (v .entry)))) lambda) ⌝ }
+    ensures { λ _. ⌜ (take (n * m) (now (v .exit)) ≡ take (n * m) (now (v .entry)))
+        × (rows n n (drop (n * m) (now (v .exit))) ≡ Normal.normalMatrix n m (rows n m (take (n * m) (now (v .entry)))) lambda) ⌝ }
 {
-    let mut row = [0.0; 193];
-    let mut next = [0.0; 193];
+    let mut row = [0.0; DECISION_NUMBERS];
+    let mut next = [0.0; DECISION_NUMBERS];
     let mut c = 0;
     while 2 <= n - c {
         matrix_rows(v, m, lambda, c, &mut row[..n], &mut next[..n]);

@@ -3,7 +3,7 @@ ghost use mathlib.Core.Path.{_≡_};
 ghost use Prim.Native.Nat.{_+_, _*_, _<_};
 ghost use lib.ListN.{length, take};
 ghost use Rattle.common.specs.Lists.{at};
-ghost use Rattle.normal_equations.specs.Filled.{Filled};
+ghost use Rattle.normal_equations.specs.FilledInner.{Filled};
 ghost use Rattle.normal_equations.specs.Inner as Inner;
 use super::rows::put_row;
 use super::sums::sum_row;
@@ -24,7 +24,9 @@ fn mirror(a: &[f64], c: usize, row: &mut [f64])
 
 // Row c of the matrix is filled in, the rows above it being filled in: v holds the columns of the Jacobian, then the matrix; row holds the sums from the diagonal on.
 fn put_sums(v: &mut [f64], m: usize, lambda: f64, c: usize, row: &mut [f64])
-    requires { ⌜ (c < length (now row)) × (length (now v) ≡ length (now row) * m + length (now row) * length (now row)) × (Inner.Summed m (take (length (now row) * m) (now v)) c c (length (now row)) (now row)) ⌝ }
+    requires { ⌜ (c < length (now row))
+        × (length (now v) ≡ length (now row) * m + length (now row) * length (now row))
+        × (Inner.Summed m (take (length (now row) * m) (now v)) c c (length (now row)) (now row)) ⌝ }
     ensures { λ _. ⌜ Inner.RowFilled (length (now (row .entry))) m (now (v .entry)) lambda c (now (v .exit)) ⌝ }
 {
     let o = row.len() * m;
@@ -52,7 +54,9 @@ pub fn matrix_rows(
     row: &mut [f64],
     next: &mut [f64],
 )
-    requires { ⌜ (c + 1 < length (now row)) × (length (now next) ≡ length (now row)) × (length (now v) ≡ length (now row) * m + length (now row) * length (now row)) ⌝ }
+    requires { ⌜ (c + 1 < length (now row))
+        × (length (now next) ≡ length (now row))
+        × (length (now v) ≡ length (now row) * m + length (now row) * length (now row)) ⌝ }
     ensures { λ _. ⌜ Inner.RowsFilled (length (now (row .entry))) m (now (v .entry)) lambda c (now (v .exit)) ⌝ }
 {
     let o = row.len() * m;

@@ -2,7 +2,7 @@
 ghost use mathlib.Core.Path.{_≡_};
 ghost use Prim.Native.Nat.{_+_, _*_, _≤_};
 ghost use lib.ListN.{length};
-ghost use Rattle.normal_equations.specs.Filled.{OneRow};
+ghost use Rattle.normal_equations.specs.FilledInner.{OneRow};
 ghost use Rattle.normal_equations.specs.Rows.{row};
 
 // to becomes from.

@@ -3,7 +3,7 @@ ghost use mathlib.Core.Path.{_≡_};
 ghost use Prim.Native.Nat.{_+_, _*_, _≤_, _<_};
 ghost use lib.ListN.{length};
 ghost use Rattle.common.specs.Lists.{at};
-ghost use Rattle.normal_equations.specs.Filled.{Filled};
+ghost use Rattle.normal_equations.specs.FilledInner.{Filled};
 ghost use Rattle.normal_equations.specs.Inner as Inner;
 ghost use Rattle.normal_equations.specs.Normal as Normal;
 
@@ -35,8 +35,13 @@ pub fn dot(p: &[f64], q: &[f64]) -> f64
 
 // The same of two columns, o and p, against four.
 fn dot8(o: &[f64], p: &[f64], q: &[f64], t: &[f64], u: &[f64], v: &[f64]) -> Eight
-    requires { ⌜ (length (now p) ≡ length (now o)) × (length (now o) ≤ length (now q)) × (length (now o) ≤ length (now t)) × (length (now o) ≤ length (now u)) × (length (now o) ≤ length (now v)) ⌝ }
-    ensures { λ r. ⌜ (Inner.Dots (now (o .entry)) (now (q .entry)) (now (t .entry)) (now (u .entry)) (now (v .entry)) (r .a) (r .b) (r .c) (r .d)) × (Inner.Dots (now (p .entry)) (now (q .entry)) (now (t .entry)) (now (u .entry)) (now (v .entry)) (r .e) (r .f) (r .g) (r .h)) ⌝ }
+    requires { ⌜ (length (now p) ≡ length (now o))
+        × (length (now o) ≤ length (now q))
+        × (length (now o) ≤ length (now t))
+        × (length (now o) ≤ length (now u))
+        × (length (now o) ≤ length (now v)) ⌝ }
+    ensures { λ r. ⌜ (Inner.Dots (now (o .entry)) (now (q .entry)) (now (t .entry)) (now (u .entry)) (now (v .entry)) (r .a) (r .b) (r .c) (r .d))
+        × (Inner.Dots (now (p .entry)) (now (q .entry)) (now (t .entry)) (now (u .entry)) (now (v .entry)) (r .e) (r .f) (r .g) (r .h)) ⌝ }
 {
     let mut a = 0.0;
     let mut b = 0.0;
@@ -78,8 +83,12 @@ fn dot8(o: &[f64], p: &[f64], q: &[f64], t: &[f64], u: &[f64], v: &[f64]) -> Eig
 
 // Cells d to d + 3 of the rows of columns o and p.
 fn eight_at(o: &[f64], p: &[f64], j: &[f64], d: usize, row: &mut [f64], next: &mut [f64])
-    requires { ⌜ (d + 4 ≤ length (now row)) × (d + 4 ≤ length (now next)) × (length (now p) ≡ length (now o)) × (d * length (now o) + 4 * length (now o) ≤ length (now j)) ⌝ }
-    ensures { λ _. ⌜ (Filled (Inner.cellsOf (now (o .entry)) (now (j .entry))) d (d + 4) (at (now (row .entry))) (at (now (row .exit)))) × (Filled (Inner.cellsOf (now (p .entry)) (now (j .entry))) d (d + 4) (at (now (next .entry))) (at (now (next .exit)))) ⌝ }
+    requires { ⌜ (d + 4 ≤ length (now row))
+        × (d + 4 ≤ length (now next))
+        × (length (now p) ≡ length (now o))
+        × (d * length (now o) + 4 * length (now o) ≤ length (now j)) ⌝ }
+    ensures { λ _. ⌜ (Filled (Inner.cellsOf (now (o .entry)) (now (j .entry))) d (d + 4) (at (now (row .entry))) (at (now (row .exit))))
+        × (Filled (Inner.cellsOf (now (p .entry)) (now (j .entry))) d (d + 4) (at (now (next .entry))) (at (now (next .exit)))) ⌝ }
 {
     let m = o.len();
     let q = d * m;
@@ -100,8 +109,14 @@ fn eight_at(o: &[f64], p: &[f64], j: &[f64], d: usize, row: &mut [f64], next: &m
 
 // Cells from `from` on by fours, of both rows: the place after the last.
 fn eights(o: &[f64], p: &[f64], j: &[f64], from: usize, row: &mut [f64], next: &mut [f64]) -> usize
-    requires { ⌜ (from ≤ length (now row)) × (length (now next) ≡ length (now row)) × (length (now p) ≡ length (now o)) × (length (now j) ≡ length (now row) * length (now o)) ⌝ }
-    ensures { λ r. ⌜ (from ≤ r) × (r ≤ length (now (row .entry))) × (Filled (Inner.cellsOf (now (o .entry)) (now (j .entry))) from r (at (now (row .entry))) (at (now (row .exit)))) × (Filled (Inner.cellsOf (now (p .entry)) (now (j .entry))) from r (at (now (next .entry))) (at (now (next .exit)))) ⌝ }
+    requires { ⌜ (from ≤ length (now row))
+        × (length (now next) ≡ length (now row))
+        × (length (now p) ≡ length (now o))
+        × (length (now j) ≡ length (now row) * length (now o)) ⌝ }
+    ensures { λ r. ⌜ (from ≤ r)
+        × (r ≤ length (now (row .entry)))
+        × (Filled (Inner.cellsOf (now (o .entry)) (now (j .entry))) from r (at (now (row .entry))) (at (now (row .exit))))
+        × (Filled (Inner.cellsOf (now (p .entry)) (now (j .entry))) from r (at (now (next .entry))) (at (now (next .exit)))) ⌝ }
 {
     let n = row.len();
     let mut d = from;
@@ -140,7 +155,8 @@ pub fn sum_row(j: &[f64], m: usize, c: usize, row: &mut [f64])
 // Rows c and c + 1 of the sums, from column c on.
 pub fn sums(j: &[f64], m: usize, c: usize, row: &mut [f64], next: &mut [f64])
     requires { ⌜ (c + 1 < length (now row)) × (length (now next) ≡ length (now row)) × (length (now j) ≡ length (now row) * m) ⌝ }
-    ensures { λ _. ⌜ (Inner.Summed m (now (j .entry)) c c (length (now (row .entry))) (now (row .exit))) × (Inner.Summed m (now (j .entry)) (c + 1) c (length (now (row .entry))) (now (next .exit))) ⌝ }
+    ensures { λ _. ⌜ (Inner.Summed m (now (j .entry)) c c (length (now (row .entry))) (now (row .exit)))
+        × (Inner.Summed m (now (j .entry)) (c + 1) c (length (now (row .entry))) (now (next .exit))) ⌝ }
 {
     let s = c * m;
     let e = s + m;

@@ -71,11 +71,11 @@ abbrev pub tail : Bool → List ℕ
 tail true = bytes "))\n"
 tail false = bytes ")\n"
 
-abbrev pub ended : List ℕ → Bool → Row → Row
-ended s last r = cond (r .ok) (cond (isAt s (r .at) (tail last)) (record { ok = true; at = r .at + length (tail last); times = r .times }) (wrongRow (r .times))) (wrongRow (r .times))
+abbrev pub withTail : List ℕ → Bool → Row → Row
+withTail s last r = cond (r .ok) (cond (isAt s (r .at) (tail last)) (record { ok = true; at = r .at + length (tail last); times = r .times }) (wrongRow (r .times))) (wrongRow (r .times))
 
 unfoldable pub lineAt : List ℕ → ℕ → ℕ → ℕ → Bool → List ℕ → Row
-lineAt s at n base last t = cond (isAt s at (bytes " (from")) (ended s last (rowAt s (at + 6) n base t)) (wrongRow t)
+lineAt s at n base last t = cond (isAt s at (bytes " (from")) (withTail s last (rowAt s (at + 6) n base t)) (wrongRow t)
 
 -- ---- the table
 

@@ -7,9 +7,9 @@ use borrow.Author.Tests.{eq-eqb, ne-eqb, lt-ltb, le-ltb}
 use lib.ListN.{length, drop}
 use lib.Seq.{length-sets}
 use lib.Ieee.{Float}
+use Rattle.common.specs.Floats.{plusZero}
 use Rattle.common.specs.Lists.{at, slice}
 use Rattle.common.specs.declared.Fate.the-variants.{Going, Refused}
-use Rattle.geom.specs.Vec.{plusZero}
 use Rattle.problem.specs.declared.Problem.{Problem}
 use Rattle.planner.specs.Plans as Plans
 use Rattle.planner.specs.declared.Planned.{Planned}

@@ -6,10 +6,10 @@ use mathlib.Core.List.{List, [], _∷_, _++_}
 use lib.Dec.{eqb, ltb}
 use lib.ListN.{length, drop}
 use lib.Ieee.{Float}
+use Rattle.common.specs.Floats.{plusZero}
 use Rattle.common.specs.Lists.{at, slice}
 use Rattle.common.specs.declared.Fate.{Fate}
 use Rattle.common.specs.declared.Fate.the-variants.{Going, Refused}
-use Rattle.geom.specs.Vec.{plusZero}
 use Rattle.problem.specs.declared.Problem.{Problem}
 use Rattle.planner.specs.Plans as Plans
 use Rattle.planner.specs.declared.Path.{Path}

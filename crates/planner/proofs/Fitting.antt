@@ -33,7 +33,7 @@ use Rattle.run_laws.specs.Prepared.{RateFits}
 use Rattle.run_laws.specs.Checked.{SlewFits, FitsP}
 use Rattle.search_laws.specs.Fits.{Fit}
 use Rattle.search_laws.specs.Prepared.{FitsA}
-use Rattle.search_laws.specs.Declared.{given-fits}
+use Rattle.search_laws.specs.DeclaredLaws.{given-fits}
 
 held : (x : Float) → fits binary64 x ≡ true → T (fits binary64 x)
 held x e = subst T (sym e) tt

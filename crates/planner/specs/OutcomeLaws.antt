@@ -5,8 +5,8 @@ use mathlib.Core.Bool.{Bool}
 use mathlib.Core.List.{List}
 use lib.ListN.{length, replicate}
 use lib.Ieee.{Float}
+use Rattle.common.specs.Floats.{plusZero}
 use Rattle.common.specs.declared.Fate.the-variants.{Going}
-use Rattle.geom.specs.Vec.{plusZero}
 use Rattle.profile.specs.Seeds.{sampleSeed}
 use Rattle.profile.specs.declared.Profiled.{Profiled}
 use Rattle.profile.specs.declared.Seed.{Seed}

@@ -9,9 +9,10 @@ use borrow.Author.Tests.{eqb-true, eq-eqb, ne-eqb, lt-ltb, le-ltb}
 use lib.Dec.{eqb}
 use lib.ListN.{length, replicate, length-replicate}
 use lib.Ieee.{Float}
+use Rattle.common.specs.Floats.{plusZero}
 use Rattle.common.specs.declared.Fate.{Fate}
 use Rattle.common.specs.declared.Fate.the-variants.{Going, Refused}
-use Rattle.geom.specs.Vec.{plusZero, isPositive}
+use Rattle.geom.specs.Vec.{isPositive}
 use Rattle.actuators.specs.Maps.{isSized}
 use Rattle.problem.specs.Passed.{passed-sized}
 use Rattle.problem.specs.Problems.{check}
@@ -20,7 +21,7 @@ use Rattle.problem.specs.declared.CheckedProblem.{CheckedProblem}
 use Rattle.problem.specs.declared.Problem.{Problem}
 use Rattle.scvx.specs.Search.{search, room}
 use Rattle.scvx.specs.declared.Found.{Found}
-use Rattle.ends.specs.Ends.{endFate}
+use Rattle.end_checks.specs.Ends.{endFate}
 use Rattle.planner.specs.Plans as Plans
 
 -- where the checks pass, the actuators' counts are within their tables

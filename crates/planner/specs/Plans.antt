@@ -5,12 +5,13 @@ use mathlib.Core.List.{List}
 use lib.Dec.{eqb, ltb}
 use lib.ListN.{length, replicate}
 use lib.Ieee.{Float}
+use Rattle.common.specs.Floats.{plusZero}
 use Rattle.common.specs.Answer.{Answer, Given}
 use Rattle.common.specs.Answer as Answers
 use Rattle.common.specs.Lists.{at}
 use Rattle.common.specs.declared.Fate.{Fate}
 use Rattle.common.specs.declared.Fate.the-variants.{Going, Refused}
-use Rattle.geom.specs.Vec.{plusZero, tensor, isPositive}
+use Rattle.geom.specs.Vec.{tensor, isPositive}
 use Rattle.actuators.specs.Maps.{controlDim}
 use Rattle.profile.specs.Profiles.{bangCoastBang}
 use Rattle.profile.specs.Seeds.{sampleSeed}
@@ -25,7 +26,7 @@ use Rattle.held_counts.specs.Counts.{noneHeld}
 use Rattle.seeds.specs.Seeds.{served, seedDecision, seedHeld}
 use Rattle.scvx.specs.Search.{search, room}
 use Rattle.scvx.specs.declared.Found.{Found}
-use Rattle.ends.specs.Ends.{endFate}
+use Rattle.end_checks.specs.Ends.{endFate}
 use Rattle.planner.specs.declared.Path.{Path}
 use Rattle.planner.specs.declared.Planned.{Planned}
 

@@ -8,13 +8,13 @@ use lib.IntN.{_+ℤ_}
 use lib.Signed.{_<ℤ_}
 use lib.Ieee.{Float, le}
 use lib.Ieee.Scale.{finite}
+use Rattle.common.specs.Floats.{plusZero}
 use Rattle.common.specs.Answer.{Answer, Given, Refused}
 use Rattle.common.specs.Lists.{at}
 use Rattle.common.specs.declared.Fate.the-variants.{Going}
 use Rattle.float.specs.Ops.{abs}
-use Rattle.laws.specs.Exact.{exact}
-use Rattle.laws.specs.Limits.{nextAboveNano}
-use Rattle.geom.specs.Vec.{plusZero}
+use Rattle.float_laws.specs.Exact.{exact}
+use Rattle.float_laws.specs.Limits.{nextAboveNano}
 use Rattle.geom.specs.Quats.{norm3, normalized}
 use Rattle.geom.specs.declared.Quat.{Quat}
 use Rattle.geom.specs.declared.Normal.the-variants as Normal
@@ -26,14 +26,15 @@ use Rattle.problem.specs.Problems.{check}
 use Rattle.problem.specs.declared.Problem.{Problem}
 use Rattle.problem.specs.declared.CheckedProblem.{CheckedProblem}
 use Rattle.forward.specs.Decisions.{packedLen}
-use Rattle.forward.specs.Operations.{reconstruct}
+use Rattle.forward.specs.Reconstruct.{reconstruct}
 use Rattle.forward.specs.declared.Node.{Node}
-use Rattle.residuals.specs.Sums.{nodeAt, normSlice}
+use Rattle.forward.specs.Runs.{nodeAt}
+use Rattle.residuals.specs.Sums.{normSlice}
 use Rattle.residuals.specs.Residuals.{errorOf}
-use Rattle.residuals.specs.Operations.{residuals}
+use Rattle.residuals.specs.MeasuredResiduals.{residuals}
 use Rattle.scvx.specs.Search.{search}
 use Rattle.scvx.specs.declared.Candidate.{Candidate}
-use Rattle.ends.specs.Ends.{tolerance}
+use Rattle.end_checks.specs.Ends.{tolerance}
 use Rattle.run_laws.specs.Values.{Fine3, FineN}
 use Rattle.run_laws.specs.Paths.{control}
 use Rattle.search_laws.specs.Better.{Better}

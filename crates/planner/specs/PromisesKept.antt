@@ -14,7 +14,7 @@ use Rattle.common.specs.Lists.{at}
 use Rattle.common.specs.declared.Fate.{Fate}
 use Rattle.common.specs.declared.Fate.the-variants.{Going, Refused}
 use Rattle.float.specs.Ops.{abs}
-use Rattle.laws.specs.Limits.{Limit, Under, under-exact}
+use Rattle.float_laws.specs.Limits.{Limit, Under, under-exact}
 use Rattle.geom.specs.Vec.{tensor, isPositive}
 use Rattle.actuators.specs.Maps.{isSized, controlDim}
 use Rattle.control_rows.specs.Parts.{bodyMomentum}
@@ -26,7 +26,8 @@ use Rattle.problem.specs.Problems.{check}
 use Rattle.problem.specs.declared.Problem.{Problem}
 use Rattle.problem.specs.declared.CheckedProblem.{CheckedProblem}
 use Rattle.forward.specs.Decisions.{packedLen}
-use Rattle.forward.specs.Operations.{admit, admit-narrow, reconstruct}
+use Rattle.forward.specs.Reconstruct.{admit, reconstruct}
+use Rattle.forward.specs.ReconstructLaws.{admit-narrow}
 use Rattle.forward.specs.Runs.{runOf, start, nodeOf}
 use Rattle.forward.specs.StepLaws.{refused-going}
 use Rattle.forward.specs.declared.Reconstructed.{Reconstructed}
@@ -34,13 +35,13 @@ use Rattle.forward.specs.declared.Run.{Run}
 use Rattle.forward.specs.declared.Node.{Node}
 use Rattle.seeds.specs.Seeds.{served}
 use Rattle.seeds.specs.SeedLaws.{served-narrow}
-use Rattle.residuals.specs.Sums.{nodeAt}
+use Rattle.forward.specs.Runs.{nodeAt}
 use Rattle.residuals.specs.Residuals.{residualsOf}
-use Rattle.residuals.specs.Operations.{residualsBy, residuals}
+use Rattle.residuals.specs.MeasuredResiduals.{residualsBy, residuals}
 use Rattle.residuals.specs.declared.Measured.{Measured}
 use Rattle.scvx.specs.Search as Search
 use Rattle.scvx.specs.Search.{search, room}
-use Rattle.ends.specs.Ends.{endFate}
+use Rattle.end_checks.specs.Ends.{endFate}
 use Rattle.run_laws.specs.Values.{goes, FineN}
 use Rattle.run_laws.specs.Checked.{FitsP, Ready, check-ready}
 use Rattle.run_laws.specs.Paths.{control, rerun}
@@ -49,7 +50,8 @@ use Rattle.run_laws.specs.Runs.{Spare}
 use Rattle.search_laws.specs.Answers.{limitIn, Answered, answered}
 use Rattle.search_laws.specs.BetterLaws.{better-as}
 use Rattle.search_laws.specs.Counts.{runs-most}
-use Rattle.search_laws.specs.Declared.{controlsOf, Same, check-same, controls-same, limit-same}
+use Rattle.search_laws.specs.Declared.{controlsOf}
+use Rattle.search_laws.specs.DeclaredLaws.{Same, check-same, controls-same, limit-same}
 use Rattle.search_laws.specs.Fits.{Fit}
 use Rattle.search_laws.specs.OwnSeed.{duration-fits, torques-fit}
 use Rattle.search_laws.specs.Seeds.{seed-long, seed-past, seed-fits, seed-projected}

@@ -19,7 +19,7 @@ use Rattle.problem.specs.declared.CheckedProblem.{CheckedProblem}
 use Rattle.seeds.specs.Seeds.{served}
 use Rattle.scvx.specs.Search.{search, room}
 use Rattle.scvx.specs.declared.Found.{Found}
-use Rattle.ends.specs.Ends.{endFate}
+use Rattle.end_checks.specs.Ends.{endFate}
 use Rattle.planner.specs.Plans as Plans
 use Rattle.planner.specs.declared.Path.{Path}
 use Rattle.planner.specs.declared.Planned.{Planned}

@@ -4,18 +4,21 @@ ghost use mathlib.Core.Path.{_≡_};
 ghost use mathlib.Core.Bool.{Bool, true};
 ghost use Prim.Native.Nat.{_≤_};
 ghost use lib.ListN.{length, replicate};
+ghost use Rattle.common.specs.Floats.{plusZero};
 ghost use Rattle.common.specs.declared.Fate.the-variants.{Going};
 ghost use Rattle.actuators.specs.Maps.{isSized, controlDim};
 ghost use Rattle.scvx.specs.Search as Search;
-ghost use Rattle.geom.specs.Vec.{plusZero};
 ghost use Rattle.planner.specs.Plans as Plans;
 ghost use Rattle.planner.specs.Outcomes.{Outcome};
 ghost use Rattle.planner.specs.Promises as Promises;
 ghost use Rattle.search_laws.specs.Fits.{Fit};
 ghost use Rattle.problem.specs.Problems as Problems;
 use actuators::control_dim;
+use common::DECISION_NUMBERS;
+use common::Decision;
 use common::Fate;
-use ends::end_checks;
+use common::SOLVER_NODES;
+use end_checks::end_checks;
 use forward::Node;
 use forward::runs::blank_node;
 use geom::is_positive;
@@ -42,8 +45,8 @@ pub struct Path {
     pub wheels: usize,
     pub iterations: usize,
     pub max_defect: f64,
-    pub z: [f64; 193],
-    pub nodes: [Node; 17],
+    pub z: Decision,
+    pub nodes: [Node; SOLVER_NODES],
     pub held: [usize; 12],
 }
 
@@ -58,9 +61,9 @@ pub struct Planned {
 pub fn refused(number: usize, place: usize, runs: usize) -> Planned
     ensures { λ r. ⌜ r ≡ Plans.refused number place runs ⌝ }
 {
-    let z = [0.0; 193];
+    let z = [0.0; DECISION_NUMBERS];
     let blank = blank_node();
-    let nodes = [blank; 17];
+    let nodes = [blank; SOLVER_NODES];
     let held: [usize; 12] = [0; 12];
     let path = Path {
         duration: 0.0,
@@ -112,7 +115,7 @@ fn path_of(p: CheckedProblem, found: Found, held: [usize; 12]) -> Path
 }
 
 // The end checks of a decision that was found.
-fn ended(p: CheckedProblem, found: Found, held: [usize; 12]) -> Planned
+fn check_end(p: CheckedProblem, found: Found, held: [usize; 12]) -> Planned
     requires { ⌜ isSized (p .map) ≡ true ⌝ }
     ensures { λ r. ⌜ r ≡ Plans.foundBy Going p found held ⌝ }
 {
@@ -136,12 +139,12 @@ fn answered(p: CheckedProblem, found: Found, held: [usize; 12]) -> Planned
     let fate = found.fate;
     match fate {
         Fate::Refused(number, place) => refused(number, place, found.runs),
-        Fate::Going => ended(p, found, held),
+        Fate::Going => check_end(p, found, held),
     }
 }
 
 // The search from a seed's decision, the workspace cleared after it, and the answer.
-fn solve(p: CheckedProblem, seed: [f64; 193], held: [usize; 12], ws: &mut [f64]) -> Planned
+fn solve(p: CheckedProblem, seed: Decision, held: [usize; 12], ws: &mut [f64]) -> Planned
     requires { ⌜ (isSized (p .map) ≡ true) × ((controlDim (p .map) ≤ 12) × (Search.room p ≤ length (now ws))) ⌝ }
     ensures { λ r. ⌜ (r ≡ Plans.answered p (Search.search p seed) held) × ((now (ws .exit) ≡ replicate (length (now (ws .entry))) plusZero) × Fit seed) ⌝ }
 {
@@ -159,7 +162,8 @@ fn seeded(
     ws: &mut [f64],
 ) -> Planned
     requires { ⌜ (isSized (p .map) ≡ true) × ((controlDim (p .map) ≤ 12) × (counted ≡ true → 48 ≤ length (now torques))) ⌝ }
-    ensures { λ r. ⌜ Outcome (Plans.seeded p counted duration (now (torques .entry)) (length (now (ws .entry)))) (now (ws .entry)) (Plans.seedOf p duration (now (torques .entry))) r (now (ws .exit)) ⌝ }
+    ensures { λ r. ⌜ Outcome (Plans.seeded p counted duration (now (torques .entry)) (length (now (ws .entry)))) (now (ws .entry))
+        (Plans.seedOf p duration (now (torques .entry))) r (now (ws .exit)) ⌝ }
 {
     if !counted {
         return refused(10, 0, 0);
@@ -187,7 +191,8 @@ fn with_seed(
     ws: &mut [f64],
 ) -> Planned
     requires { ⌜ (isSized (p .map) ≡ true) × (counted ≡ true → 48 ≤ length (now torques)) ⌝ }
-    ensures { λ r. ⌜ Outcome (Plans.withSeed p counted duration (now (torques .entry)) (length (now (ws .entry)))) (now (ws .entry)) (Plans.seedOf p duration (now (torques .entry))) r (now (ws .exit)) ⌝ }
+    ensures { λ r. ⌜ Outcome (Plans.withSeed p counted duration (now (torques .entry)) (length (now (ws .entry)))) (now (ws .entry))
+        (Plans.seedOf p duration (now (torques .entry))) r (now (ws .exit)) ⌝ }
 {
     let map = p.map;
     let fate = served(map);
@@ -210,7 +215,8 @@ fn counted(rates: &[f64], torques: &[f64]) -> bool
 // The profile's seed.
 fn with_profile_seed(p: CheckedProblem, seed: Seed, ws: &mut [f64]) -> Planned
     requires { ⌜ isSized (p .map) ≡ true ⌝ }
-    ensures { λ r. ⌜ Outcome (Plans.seededBy p seed (length (now (ws .entry)))) (now (ws .entry)) (Plans.seedOf p (seed .duration) (seed .torques)) r (now (ws .exit)) ⌝ }
+    ensures { λ r. ⌜ Outcome (Plans.seededBy p seed (length (now (ws .entry)))) (now (ws .entry)) (Plans.seedOf p (seed .duration) (seed .torques)) r
+        (now (ws .exit)) ⌝ }
 {
     let torques = seed.torques;
     with_seed(p, true, seed.duration, &torques, ws)
@@ -251,7 +257,9 @@ fn with_profile(p: CheckedProblem, ws: &mut [f64]) -> Planned
 
 // The plan of a problem from our own seed, on a lent workspace.
 pub fn plan(p: Problem, ws: &mut [f64]) -> Planned
-    ensures { λ r. ⌜ (r ≡ Plans.plan p (length (now (ws .entry)))) × ((now (ws .exit) ≡ Plans.leaves (r .runs) (now (ws .entry))) × Promises.Answers p (Promises.ownSeed (Problems.check p .problem)) r) ⌝ }
+    ensures { λ r. ⌜ (r ≡ Plans.plan p (length (now (ws .entry))))
+        × ((now (ws .exit) ≡ Plans.leaves (r .runs) (now (ws .entry)))
+        × Promises.Answers p (Promises.ownSeed (Problems.check p .problem)) r) ⌝ }
 {
     let checked = check(p);
     let fate = checked.fate;
@@ -272,7 +280,9 @@ pub fn plan_from(
     torques: &[f64],
     ws: &mut [f64],
 ) -> Planned
-    ensures { λ r. ⌜ (r ≡ Plans.planFrom p duration (now (rates .entry)) (now (torques .entry)) (length (now (ws .entry)))) × ((now (ws .exit) ≡ Plans.leaves (r .runs) (now (ws .entry))) × Promises.Answers p (Plans.seedOf (Problems.check p .problem) duration (now (torques .entry))) r) ⌝ }
+    ensures { λ r. ⌜ (r ≡ Plans.planFrom p duration (now (rates .entry)) (now (torques .entry)) (length (now (ws .entry))))
+        × ((now (ws .exit) ≡ Plans.leaves (r .runs) (now (ws .entry)))
+        × Promises.Answers p (Plans.seedOf (Problems.check p .problem) duration (now (torques .entry))) r) ⌝ }
 {
     let checked = check(p);
     let fate = checked.fate;

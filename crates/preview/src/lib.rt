@@ -27,7 +27,8 @@ pub struct Previewed {
 pub fn preview(on_record: Momenta, p: Problem, ws: &mut [f64]) -> Previewed
     ensures { λ r. ⌜ r ≡ Previews.preview «on_record» p (length (now (ws .entry))) ⌝ }
     ensures { λ r. ⌜ now (ws .exit) ≡ Plans.leaves (r .planned .runs) (now (ws .entry)) ⌝ }
-    ensures { λ r. ⌜ Promises.Answers (Successive.withMomenta p «on_record») (Promises.ownSeed (Problems.check (Successive.withMomenta p «on_record») .problem)) (r .planned) ⌝ }
+    ensures { λ r. ⌜ Promises.Answers (Successive.withMomenta p «on_record»)
+        (Promises.ownSeed (Problems.check (Successive.withMomenta p «on_record») .problem)) (r .planned) ⌝ }
 {
     let turning = with_momenta(p, on_record);
     let planned = plan(turning, ws);
@@ -48,7 +49,8 @@ pub fn preview_from(
 ) -> Previewed
     ensures { λ r. ⌜ r ≡ Previews.previewFrom «on_record» p duration (now (rates .entry)) (now (torques .entry)) (length (now (ws .entry))) ⌝ }
     ensures { λ r. ⌜ now (ws .exit) ≡ Plans.leaves (r .planned .runs) (now (ws .entry)) ⌝ }
-    ensures { λ r. ⌜ Promises.Answers (Successive.withMomenta p «on_record») (Plans.seedOf (Problems.check (Successive.withMomenta p «on_record») .problem) duration (now (torques .entry))) (r .planned) ⌝ }
+    ensures { λ r. ⌜ Promises.Answers (Successive.withMomenta p «on_record»)
+        (Plans.seedOf (Problems.check (Successive.withMomenta p «on_record») .problem) duration (now (torques .entry))) (r .planned) ⌝ }
 {
     let turning = with_momenta(p, on_record);
     let planned = plan_from(turning, duration, rates, torques, ws);

@@ -10,7 +10,7 @@ use Rattle.common.specs.Lists.{at}
 use Rattle.common.specs.declared.Fate.the-variants.{Going}
 use Rattle.problem.specs.declared.Momenta.{Momenta}
 use Rattle.problem.specs.declared.Problem.{Problem}
-use Rattle.residuals.specs.Sums.{nodeAt}
+use Rattle.forward.specs.Runs.{nodeAt}
 use Rattle.planner.specs.Plans as Plans
 use Rattle.planner.specs.Promises.{Answers}
 use Rattle.planner.specs.declared.Path.{Path}

@@ -6,6 +6,7 @@ use mathlib.Core.List.{List}
 use borrow.Author.Tests.{ltb-true}
 use lib.Dec.{ltb}
 use lib.Ieee.{Float}
+use Rattle.common.specs.Floats.{plusZero}
 use Rattle.common.specs.Iter.{iter}
 use Rattle.common.specs.Lists.{at}
 use Rattle.common.specs.declared.Fate.{Fate}
@@ -13,7 +14,7 @@ use Rattle.common.specs.declared.Fate.the-variants.{Going, Refused}
 use Rattle.geom.specs.declared.Quat.{Quat}
 use Rattle.geom.specs.declared.Normal.{Normal}
 use Rattle.geom.specs.declared.Normal.the-variants.{Is, Not}
-use Rattle.geom.specs.Vec.{tensor, plusZero}
+use Rattle.geom.specs.Vec.{tensor}
 use Rattle.geom.specs.Quats.{normalized}
 use Rattle.geom.specs.Tensors.{invertSpd}
 use Rattle.actuators.specs.Prepare.{prepare}

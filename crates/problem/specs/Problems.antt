@@ -5,6 +5,7 @@ use mathlib.Core.List.{List}
 use lib.ListN.{replicate}
 use lib.Ieee.{Float, lt}
 use lib.Ieee.Scale.{finite}
+use Rattle.common.specs.Floats.{one, plusZero}
 use Rattle.common.specs.Lists.{at}
 use Rattle.common.specs.declared.Fate.{Fate}
 use Rattle.common.specs.declared.Fate.the-variants.{Going, Refused}
@@ -13,7 +14,7 @@ use Rattle.common.specs.declared.Limit.the-variants.{Nothing, At}
 use Rattle.geom.specs.declared.Quat.{Quat}
 use Rattle.geom.specs.declared.Normal.{Normal}
 use Rattle.geom.specs.declared.Normal.the-variants.{Is, Not}
-use Rattle.geom.specs.Vec.{plusZero, one, isPositive, tensor}
+use Rattle.geom.specs.Vec.{isPositive, tensor}
 use Rattle.geom.specs.Quats.{normalized}
 use Rattle.geom.specs.Tensors.{invertSpd}
 use Rattle.actuators.specs.declared.ActuatorMap.{ActuatorMap}

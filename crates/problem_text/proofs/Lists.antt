@@ -7,7 +7,8 @@ use mathlib.Core.Bool.{Bool, true, false}
 use borrow.Author.Tests.{le-ltb}
 use lib.Dec.{ltb, eqb}
 use lib.ListN.{length}
-use Rattle.common.specs.Iter.{iter, iter-stays}
+use Rattle.common.specs.Iter.{iter}
+use Rattle.common.specs.IterLaws.{iter-stays}
 use Rattle.common.specs.declared.Fate.the-variants.{Going}
 use Rattle.actuators.specs.declared.Actuators.{Actuators}
 use Rattle.actuators.specs.Maps.{noActuators}

@@ -8,7 +8,7 @@ use Rattle.actuators.specs.Maps.{noActuators}
 use Rattle.text.specs.Bytes.{bytes}
 use Rattle.text.specs.Hex.{digit, more, hexAt, realAt}
 use Rattle.text.specs.Forms.{past, pastBlanks}
-use Rattle.text.specs.Lines.{isAt, wordAt, noneAt, rowFrom, rowAt, floats, withoutLimit, limited, wordsAt, ended, lineAt}
+use Rattle.text.specs.Lines.{isAt, wordAt, noneAt, rowFrom, rowAt, floats, withoutLimit, limited, wordsAt, withTail, lineAt}
 use Rattle.problem_text.specs.Listing.{itemAt, withWheel, withThruster, withPyramid, withItem, endAt, closeAt, nextLine, firstLine, listAt}
 use Rattle.problem_text.specs.Reader.{withRow, nextLine as lineNext, linesFrom, headAt, withList, nextList, judgeCount, problemOf, readOf, readIn, readProblem}
 
@@ -27,14 +27,14 @@ examples :
     × Reads (text "3FF 0 0 0" "" " (actuators))") (Refused 21 10)
     × Reads (text "3FF 0 0 0" "" " (actuators))\n\n") (Refused 21 11)
     × Reads (text "3FF 0 0 0" "" " (actuators\n  (thruster 0 0 0 0)\n  (wheel 0 0 0 0 0 none)))\n") (Refused 21 12)
-unfolding digit more hexAt realAt isAt past pastBlanks wordAt noneAt rowFrom rowAt floats withoutLimit limited wordsAt ended lineAt itemAt withWheel withThruster withPyramid withItem endAt closeAt nextLine firstLine listAt withRow lineNext linesFrom headAt withList nextList judgeCount problemOf readOf readIn iter noActuators
+unfolding digit more hexAt realAt isAt past pastBlanks wordAt noneAt rowFrom rowAt floats withoutLimit limited wordsAt withTail lineAt itemAt withWheel withThruster withPyramid withItem endAt closeAt nextLine firstLine listAt withRow lineNext linesFrom headAt withList nextList judgeCount problemOf readOf readIn iter noActuators
 examples = (refl, refl, refl, refl, refl)
 
 -- taken: blanks between words, small digits, zeros up to sixteen digits
 taken :
     Reads (text "  3ff 0  00 0000000000000000" "" " (actuators\n  (thruster   0 0 0 3Ff00))\n") (Refused 21 11)
     × Reads (text "  3ff 0  00 0000000000000000" "  a   0" " (actuators\n  (wheel 0 0 0  0 0   none)\n  (wheel  0 0 0 0 0 1000000000000000)))\n") Going
-unfolding digit more hexAt realAt isAt past pastBlanks wordAt noneAt rowFrom rowAt floats withoutLimit limited wordsAt ended lineAt itemAt withWheel withThruster withPyramid withItem endAt closeAt nextLine firstLine listAt withRow lineNext linesFrom headAt withList nextList judgeCount problemOf readOf readIn iter noActuators
+unfolding digit more hexAt realAt isAt past pastBlanks wordAt noneAt rowFrom rowAt floats withoutLimit limited wordsAt withTail lineAt itemAt withWheel withThruster withPyramid withItem endAt closeAt nextLine firstLine listAt withRow lineNext linesFrom headAt withList nextList judgeCount problemOf readOf readIn iter noActuators
 taken = (refl, refl)
 
 -- not taken: a blank before `)`, at the end of a line, after `(`, in the indentation, in `(momenta)`; seventeen digits; a tabulator; a capital word
@@ -47,7 +47,7 @@ wrong :
     × Reads (text "3FF 0 0 00000000000000000" "" " (actuators))\n") (Refused 21 3)
     × Reads (text "3FF\t0 0 0" "" " (actuators))\n") (Refused 21 3)
     × Reads (text "3FF 0 0 0" "" " (actuators\n  (wheel 0 0 0 0 0 None)))\n") (Refused 21 11)
-unfolding digit more hexAt realAt isAt past pastBlanks wordAt noneAt rowFrom rowAt floats withoutLimit limited wordsAt ended lineAt itemAt withWheel withThruster withPyramid withItem endAt closeAt nextLine firstLine listAt withRow lineNext linesFrom headAt withList nextList judgeCount problemOf readOf readIn iter noActuators
+unfolding digit more hexAt realAt isAt past pastBlanks wordAt noneAt rowFrom rowAt floats withoutLimit limited wordsAt withTail lineAt itemAt withWheel withThruster withPyramid withItem endAt closeAt nextLine firstLine listAt withRow lineNext linesFrom headAt withList nextList judgeCount problemOf readOf readIn iter noActuators
 wrong = (refl, refl, refl, refl, refl, refl, refl, refl)
 
 -- one momentum a wheel; one too few; one too many; a wrong float, and a wrong line after a wrong count, come first
@@ -60,7 +60,7 @@ momenta :
     × Reads (text "3FF 0 0 0" " 3FF 3FF" wheel) (Refused 21 9)
     × Reads (text "3FF 0 0 0" " 3fg" wheel) (Refused 21 9)
     × Reads (text "3FF 0 0 0" "" " (actuators\n  (wheel 0 0 0 0 none)))\n") (Refused 21 11)
-unfolding digit more hexAt realAt isAt past pastBlanks wordAt noneAt rowFrom rowAt floats withoutLimit limited wordsAt ended lineAt itemAt withWheel withThruster withPyramid withItem endAt closeAt nextLine firstLine listAt withRow lineNext linesFrom headAt withList nextList judgeCount problemOf readOf readIn iter noActuators
+unfolding digit more hexAt realAt isAt past pastBlanks wordAt noneAt rowFrom rowAt floats withoutLimit limited wordsAt withTail lineAt itemAt withWheel withThruster withPyramid withItem endAt closeAt nextLine firstLine listAt withRow lineNext linesFrom headAt withList nextList judgeCount problemOf readOf readIn iter noActuators
 momenta = (refl, refl, refl, refl, refl)
 
 abbrev eightWheels : String
@@ -70,5 +70,5 @@ eightWheels = "  (wheel 0 0 0 0 0 none)\n  (wheel 0 0 0 0 0 none)\n  (wheel 0 0 
 ninth :
     (readProblem (bytes (text "3FF 0 0 0" " 0 0 0 0 0 0 0 0 0" (" (actuators\n" ++ eightWheels ++ "  (wheel 0 0 0 0 0 none)))\n"))) .problem .actuators .«wheel_count» ≡ 9)
     × Reads (text "3FF 0 0 0" " 0 0 0 0 0 0 0 0 0" (" (actuators\n" ++ eightWheels ++ "  (wheel 0 0 0 0 none)))\n")) (Refused 21 19)
-unfolding digit more hexAt realAt isAt past pastBlanks wordAt noneAt rowFrom rowAt floats withoutLimit limited wordsAt ended lineAt itemAt withWheel withThruster withPyramid withItem endAt closeAt nextLine firstLine listAt withRow lineNext linesFrom headAt withList nextList judgeCount problemOf readOf readIn iter noActuators
+unfolding digit more hexAt realAt isAt past pastBlanks wordAt noneAt rowFrom rowAt floats withoutLimit limited wordsAt withTail lineAt itemAt withWheel withThruster withPyramid withItem endAt closeAt nextLine firstLine listAt withRow lineNext linesFrom headAt withList nextList judgeCount problemOf readOf readIn iter noActuators
 ninth = (refl, refl)

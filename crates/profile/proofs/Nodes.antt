@@ -6,7 +6,8 @@ use native.Mathlib.Omega.{arith}
 use lib.ListN.{length, take, set, length-set}
 use lib.Seq.{take-suc-set, take-all}
 use lib.Ieee.{Float}
-use Rattle.common.specs.Iter.{iter, iter-next}
+use Rattle.common.specs.Iter.{iter}
+use Rattle.common.specs.IterLaws.{iter-next}
 use Rattle.common.specs.Lists.{at}
 
 -- a vector is its three numbers

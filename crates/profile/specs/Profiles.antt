@@ -3,6 +3,7 @@ use mathlib.Core.Bool.{Bool, not, cond, _||_}
 use mathlib.Core.List.{List, [], _∷_}
 use lib.Ieee.{Float, binary64, add, sub, mul, div, neg, lt, le, ofBits}
 use lib.Ieee.Scale.{finite}
+use Rattle.common.specs.Floats.{one, plusZero}
 use Rattle.common.specs.declared.Limit.{Limit}
 use Rattle.common.specs.declared.Limit.the-variants as Limit
 use Rattle.common.specs.declared.Fate.{Fate}
@@ -17,7 +18,7 @@ use Rattle.angles.specs.Arcs.{acosOf}
 use Rattle.geom.specs.declared.Quat.{Quat}
 use Rattle.geom.specs.declared.Turned.{Turned}
 use Rattle.geom.specs.declared.Turned.the-variants as Turned
-use Rattle.geom.specs.Vec.{plusZero, zero3, half, one, two, minusOne, isPositive, scale3, tensor, applyTensor, bodyEulerTorque}
+use Rattle.geom.specs.Vec.{zero3, half, two, minusOne, isPositive, scale3, tensor, applyTensor, bodyEulerTorque}
 use Rattle.geom.specs.Halves.{onBoth}
 use Rattle.geom.specs.Quats.{quat, dotQ, negateQ, conj, quatMul, norm3, part, least}
 use Rattle.geom.specs.Tensors.{flatten}

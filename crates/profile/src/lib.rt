@@ -11,6 +11,7 @@ use angles::Angle;
 use angles::Both;
 use common::Fate;
 use common::Limit;
+use common::SOLVER_NODES;
 use geom::Quat;
 use geom::Turned;
 
@@ -386,7 +387,7 @@ pub fn sample_seed(p: Profile) -> Seed
     let mut rates = [0.0; 51];
     let mut torques = [0.0; 51];
     let mut i: usize = 0;
-    while i < 17 {
+    while i < SOLVER_NODES {
         let t = node_time(duration, i);
         let next_rates = with_node(rates, i, p.omega_vec(t));
         rates = next_rates;

@@ -9,11 +9,12 @@ use lib.Dec.{T, eqb}
 use lib.Ieee.{Float, binary64, add, mul, ofBits}
 use lib.Ieee.Fits.{mul-fits}
 use lib.Ieee.Scale.{finite}
+use Rattle.common.specs.Floats as Floats
 use Rattle.common.specs.Iter.{iter}
 use Rattle.common.specs.Lists.{at, slice}
 use Rattle.common.specs.declared.Fate.{Fate}
 use Rattle.common.specs.declared.Fate.the-variants.{Going, Refused}
-use Rattle.laws.specs.Zeros.{isZero, zero-absorbed, times-zero, zero-times, zero-less}
+use Rattle.float_laws.specs.Zeros.{isZero, zero-absorbed, times-zero, zero-times, zero-less}
 use Rattle.geom.specs.Vec as Vec
 use Rattle.geom.specs.Quats.{quatMul, expSo3, normalized}
 use Rattle.geom.specs.declared.Quat.{Quat}
@@ -28,17 +29,17 @@ use Rattle.control_rows.specs.declared.WheelLaw.the-variants.{Once, Published}
 use Rattle.problem.specs.declared.Problem.{Problem}
 use Rattle.problem.specs.declared.CheckedProblem.{CheckedProblem}
 use Rattle.forward.specs.Decisions.{rowOf, stepTime}
-use Rattle.forward.specs.Steps.{Body, stop, matrixAt, rateDot, rateNext, turnOf, defectOf, gimbalRow, swing, wheelMomenta, bodyMomentum, powered, swungStep, attitudeStep, normedStep, turnedStep, ratedStep, torquedStep, matrixStep, step}
+use Rattle.forward.specs.Steps.{Body, stop, matrixAt, rateDot, rateNext, turnOf, defectOf, gimbalRow, stepGimbals, wheelMomenta, bodyMomentum, powered, gimbalsStep, attitudeStep, normedStep, turnedStep, ratedStep, torquedStep, matrixStep, step}
 use Rattle.forward.specs.Runs as Runs
-use Rattle.forward.specs.Runs.{Course, startOf, advance, courseBy, courseTurn, course, endBy, endOf, runFrom, bodyOf, runUnder}
-use Rattle.forward.specs.Operations as Operations
-use Rattle.forward.specs.Operations.{admit, reconstructBy, reconstructUnder}
-use Rattle.forward.specs.declared.State.{State}
+use Rattle.forward.specs.Runs.{Rollout, startOf, advance, rolloutBy, rolloutTurn, rollout, endBy, endOf, runFrom, bodyOf, runUnder}
+use Rattle.forward.specs.Reconstruct as Reconstruct
+use Rattle.forward.specs.Reconstruct.{admit, reconstructBy, reconstructUnder}
+use Rattle.forward.specs.declared.BodyState.{BodyState}
 use Rattle.run_laws.specs.Values.{goes, Fine3}
 use Rattle.run_laws.specs.Attitudes.{exp-finite}
 use Rattle.run_laws.specs.Steps.{turn-back}
 use Rattle.published_law.specs.Published as Published
-use Rattle.published_law.specs.Published.{under, Still, courseAt, Unladen, UnladenRun}
+use Rattle.published_law.specs.Published.{under, Still, rolloutAt, Unladen, UnladenRun}
 
 -- ---- the torque of a row at a finite rate and no stored momentum
 minus-one-finite : T (finite Vec.minusOne)
@@ -47,7 +48,7 @@ minus-one-finite = tt
 
 -- one part of the wheels' sum e, from which one part of ω × h, a zero, is taken
 part-agrees : (e p q r s : Float) → T (finite p) → T (isZero q) → T (finite r) → T (isZero s)
-    → add binary64 (add binary64 Vec.plusZero (mul binary64 e Vec.minusOne)) (mul binary64 (Vec.minor p q r s) Vec.minusOne) ≡ add binary64 Vec.plusZero (mul binary64 e Vec.minusOne)
+    → add binary64 (add binary64 Floats.plusZero (mul binary64 e Vec.minusOne)) (mul binary64 (Vec.minor p q r s) Vec.minusOne) ≡ add binary64 Floats.plusZero (mul binary64 e Vec.minusOne)
 part-agrees e p q r s P Q R S = zero-absorbed (mul binary64 e Vec.minusOne) _ (mul-fits binary64 _ _)
     (zero-times binary64 (Vec.minor p q r s) Vec.minusOne (zero-less binary64 (mul binary64 p q) (mul binary64 r s) (times-zero binary64 p q P Q) (times-zero binary64 r s R S)) minus-one-finite)
 
@@ -72,26 +73,26 @@ wheels-agree t n u w h F S = go (eqb n 0)
     go true = refl
     go false = parts
 
-module _ (b : Body) (u : List Float) (k : ℕ) (s : State) where
+module _ (b : Body) (u : List Float) (k : ℕ) (s : BodyState) where
   row-agrees : (a : List Float) → Fine3 (s .w) → Still (s .h)
       → rowTorque (under Published b .rig) (b .wheels) (b .thrusters) u (s .w) (s .h) a ≡ rowTorque (under Once b .rig) (b .wheels) (b .thrusters) u (s .w) (s .h) a
   unfolding rowTorque partsTorque
   row-agrees a F S = rw (wheels-agree (b .wheels) (b .rig .«wheel_count») (slice 0 (b .rig .«wheel_count») u) (s .w) (s .h) F S) refl
 
 -- ---- the stages after the torque do not ask for the law
-module _ (b : Body) (l m : WheelLaw) (u : List Float) (k : ℕ) (s : State) (tau : List Float) where
+module _ (b : Body) (l m : WheelLaw) (u : List Float) (k : ℕ) (s : BodyState) (tau : List Float) where
   module _ (defect : Float) (w2 : List Float) where
     powered-same : (q2 : Quat) (d : List Float) → powered (under l b) u k s tau defect w2 q2 d ≡ powered (under m b) u k s tau defect w2 q2 d
     unfolding powered wheelMomenta bodyMomentum
     powered-same q2 d = refl
 
-    swung-same : (x : Fate) (d : List Float) (q2 : Quat) → swungStep x d (under l b) u k s tau defect w2 q2 ≡ swungStep x d (under m b) u k s tau defect w2 q2
-    swung-same Going d q2 = powered-same q2 d
-    swung-same (Refused i j) d q2 = refl
+    gimbals-same : (x : Fate) (d : List Float) (q2 : Quat) → gimbalsStep x d (under l b) u k s tau defect w2 q2 ≡ gimbalsStep x d (under m b) u k s tau defect w2 q2
+    gimbals-same Going d q2 = powered-same q2 d
+    gimbals-same (Refused i j) d q2 = refl
 
     attitude-same : (q2 : Quat) → attitudeStep (under l b) u k s tau defect w2 q2 ≡ attitudeStep (under m b) u k s tau defect w2 q2
     unfolding attitudeStep
-    attitude-same q2 = let x = swing (b .rig .cmgs) (gimbalRow (b .rig) u) (s .delta) (b .frame .dt) k in swung-same (x .fate) (x .delta) q2
+    attitude-same q2 = let x = stepGimbals (b .rig .cmgs) (gimbalRow (b .rig) u) (s .delta) (b .frame .dt) k in gimbals-same (x .fate) (x .delta) q2
 
     normed-same : (x : Normal) → normedStep x (under l b) u k s tau defect w2 ≡ normedStep x (under m b) u k s tau defect w2
     normed-same Normal.Not = refl
@@ -106,7 +107,7 @@ module _ (b : Body) (l m : WheelLaw) (u : List Float) (k : ℕ) (s : State) (tau
   torqued-same = turned-same _ _ (expSo3 _)
 
 -- ---- a rate that is not finite is refused with 11, whatever the torque
-module _ (b : Body) (u : List Float) (k : ℕ) (s : State) (tau : List Float) (bad : Fine3 (s .w) → ⊥) where
+module _ (b : Body) (u : List Float) (k : ℕ) (s : BodyState) (tau : List Float) (bad : Fine3 (s .w) → ⊥) where
   outside : (w2 : List Float) (x : Turned) → expSo3 (turnOf (s .w) w2 (b .frame .dt)) ≡ x → x ≡ Turned.Outside
   outside w2 Turned.Outside e = refl
   outside w2 (Turned.Is q) e = absurd (bad (turn-back (s .w) w2 (b .frame .dt) (exp-finite (turnOf (s .w) w2 (b .frame .dt)) (rw e tt)) .0))
@@ -119,7 +120,7 @@ module _ (b : Body) (u : List Float) (k : ℕ) (s : State) (tau : List Float) (b
       ap (λ (x : Turned). turnedStep x b u k s tau (defectOf (b .frame .j) (s .w) (s .h) tau wd) w2) (outside w2 (expSo3 (turnOf (s .w) w2 (b .frame .dt))) refl)
 
 -- ---- ONE STEP from a state with no stored momentum, whatever its rate
-module _ (b : Body) (u : List Float) (k : ℕ) (s : State) (S : Still (s .h)) where
+module _ (b : Body) (u : List Float) (k : ℕ) (s : BodyState) (S : Still (s .h)) where
   abbrev torqueBy : WheelLaw → List Float → List Float
   torqueBy l a = rowTorque (under l b .rig) (b .wheels) (b .thrusters) u (s .w) (s .h) a
 
@@ -145,26 +146,26 @@ module _ (b : Body) (u : List Float) (k : ℕ) (s : State) (S : Still (s .h)) wh
       go Going a = torqued-agrees a
 
 -- ---- THE RUN
-module _ (b : Body) (n : ℕ) (z : List Float) (from : State) where
-  turn-agrees : (k : ℕ) (x : Course) → (T (goes (x .fate)) → Still (x .s .h)) → courseTurn (under Published b) n z k x ≡ courseTurn (under Once b) n z k x
-  unfolding courseTurn
+module _ (b : Body) (n : ℕ) (z : List Float) (from : BodyState) where
+  turn-agrees : (k : ℕ) (x : Rollout) → (T (goes (x .fate)) → Still (x .s .h)) → rolloutTurn (under Published b) n z k x ≡ rolloutTurn (under Once b) n z k x
+  unfolding rolloutTurn
   turn-agrees k x S = go (x .fate) S
     where
-      go : (f : Fate) → (T (goes f) → Still (x .s .h)) → courseBy f (under Published b) n z k x ≡ courseBy f (under Once b) n z k x
+      go : (f : Fate) → (T (goes f) → Still (x .s .h)) → rolloutBy f (under Published b) n z k x ≡ rolloutBy f (under Once b) n z k x
       go Going S = ap (advance (b .frame .dt) k x) (step-agrees b (rowOf n z k) k (x .s) (S tt))
       go (Refused i j) S = refl
 
-  courses-agree : Unladen (under Once b) n z from → (k : ℕ) → k ≤ 16 → courseAt (under Published b) n z from k ≡ courseAt (under Once b) n z from k
+  rollouts-agree : Unladen (under Once b) n z from → (k : ℕ) → k ≤ 16 → rolloutAt (under Published b) n z from k ≡ rolloutAt (under Once b) n z from k
   unfolding iter
-  courses-agree U zero l = refl
-  courses-agree U (suc k) l = ap (courseTurn (under Published b) n z k) (courses-agree U k (omega arith)) ∙ turn-agrees k (courseAt (under Once b) n z from k) (U k (omega arith))
+  rollouts-agree U zero l = refl
+  rollouts-agree U (suc k) l = ap (rolloutTurn (under Published b) n z k) (rollouts-agree U k (omega arith)) ∙ turn-agrees k (rolloutAt (under Once b) n z from k) (U k (omega arith))
 
   -- for every body, row width, decision and start
   pub runs-agree : Unladen (under Once b) n z from → runFrom (under Published b) n z from ≡ runFrom (under Once b) n z from
-  unfolding runFrom endOf course
-  runs-agree U = ap (λ (c : Course). endBy (c .fate) (under Published b) c) (courses-agree U 16 (omega arith)) ∙ same (course (under Once b) n z from .fate) _
+  unfolding runFrom endOf rollout
+  runs-agree U = ap (λ (c : Rollout). endBy (c .fate) (under Published b) c) (rollouts-agree U 16 (omega arith)) ∙ same (rollout (under Once b) n z from .fate) _
     where
-      same : (f : Fate) (c : Course) → endBy f (under Published b) c ≡ endBy f (under Once b) c
+      same : (f : Fate) (c : Rollout) → endBy f (under Published b) c ≡ endBy f (under Once b) c
       same Going c = refl
       same (Refused i j) c = refl
 
@@ -174,7 +175,7 @@ unfolding runUnder
 run-agrees p z U = runs-agree (bodyOf p (stepTime z)) (controlDim (p .map)) z (startOf p) U
 
 -- RECONSTRUCT, as a user calls it: for every problem and decision, the problems that the checks refuse among them
-pub reconstruct-agrees : (p : Problem) (z : List Float) → (admit p .fate ≡ Going → UnladenRun (admit p .problem) z) → Published.reconstruct p z ≡ Operations.reconstruct p z
+pub reconstruct-agrees : (p : Problem) (z : List Float) → (admit p .fate ≡ Going → UnladenRun (admit p .problem) z) → Published.reconstruct p z ≡ Reconstruct.reconstruct p z
 unfolding reconstructUnder
 reconstruct-agrees p z U = go (admit p .fate) refl
   where

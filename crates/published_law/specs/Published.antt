@@ -5,7 +5,7 @@ use lib.Dec.{T}
 use lib.Ieee.{Float}
 use Rattle.common.specs.Iter.{iter}
 use Rattle.common.specs.Lists.{at}
-use Rattle.laws.specs.Zeros.{isZero}
+use Rattle.float_laws.specs.Zeros.{isZero}
 use Rattle.actuators.specs.Maps.{controlDim}
 use Rattle.control_rows.specs.declared.WheelLaw.{WheelLaw}
 use Rattle.control_rows.specs.declared.WheelLaw.the-variants as WheelLaw
@@ -13,9 +13,9 @@ use Rattle.problem.specs.declared.Problem.{Problem}
 use Rattle.problem.specs.declared.CheckedProblem.{CheckedProblem}
 use Rattle.forward.specs.Decisions.{stepTime}
 use Rattle.forward.specs.Steps.{Body}
-use Rattle.forward.specs.Runs.{Course, startOf, startCourse, courseTurn, bodyOf, runUnder}
-use Rattle.forward.specs.Operations.{reconstructUnder}
-use Rattle.forward.specs.declared.State.{State}
+use Rattle.forward.specs.Runs.{Rollout, startOf, startRollout, rolloutTurn, bodyOf, runUnder}
+use Rattle.forward.specs.Reconstruct.{reconstructUnder}
+use Rattle.forward.specs.declared.BodyState.{BodyState}
 use Rattle.forward.specs.declared.Run.{Run}
 use Rattle.forward.specs.declared.Reconstructed.{Reconstructed}
 use Rattle.run_laws.specs.Values.{goes}
@@ -42,12 +42,12 @@ abbrev pub Still : List Float → Type 0
 Still h = T (isZero (at h 0)) × T (isZero (at h 1)) × T (isZero (at h 2))
 
 -- the run after k steps
-abbrev pub courseAt : Body → ℕ → List Float → State → ℕ → Course
-courseAt b n z from k = iter (courseTurn b n z) (startCourse from) k
+abbrev pub rolloutAt : Body → ℕ → List Float → BodyState → ℕ → Rollout
+rolloutAt b n z from k = iter (rolloutTurn b n z) (startRollout from) k
 
 -- at the start of each step that is begun, the first k having gone on, the body momentum is zero
-abbrev pub Unladen : Body → ℕ → List Float → State → Type 0
-Unladen b n z from = (k : ℕ) → k < 16 → T (goes (courseAt b n z from k .fate)) → Still (courseAt b n z from k .s .h)
+abbrev pub Unladen : Body → ℕ → List Float → BodyState → Type 0
+Unladen b n z from = (k : ℕ) → k < 16 → T (goes (rolloutAt b n z from k .fate)) → Still (rolloutAt b n z from k .s .h)
 
 -- the same of a checked problem's run under the planner's law
 abbrev pub UnladenRun : CheckedProblem → List Float → Type 0

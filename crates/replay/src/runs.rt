@@ -6,6 +6,10 @@ use cases::read::reals;
 use cases::read::same;
 use cases::read::same22;
 use cases::read::same79;
+use common::DECISION_NUMBERS;
+use common::Decision;
+use common::RESIDUAL_NUMBERS;
+use common::SOLVER_NODES;
 use export_runs::paths::slew_reconstruct;
 use export_runs::paths::slew_residuals;
 
@@ -15,8 +19,8 @@ fn body(v: &[u64; 1024]) -> [f64; 37] {
     x
 }
 
-fn decision(v: &[u64; 1024]) -> [f64; 193] {
-    let mut x = [0.0; 193];
+fn decision(v: &[u64; 1024]) -> Decision {
+    let mut x = [0.0; DECISION_NUMBERS];
     reals(v, 149, &mut x);
     x
 }
@@ -27,7 +31,7 @@ fn told(v: &[u64; 1024], number: usize, place: usize, runs: usize) -> bool {
 }
 
 // Whether the numbers of 17 nodes stand from 346 on.
-fn same_nodes(v: &[u64; 1024], nodes: [[f64; 22]; 17]) -> bool {
+fn same_nodes(v: &[u64; 1024], nodes: [[f64; 22]; SOLVER_NODES]) -> bool {
     let mut all = true;
     let mut k: usize = 0;
     while k < 17 {
@@ -69,7 +73,7 @@ fn residuals(v: &[u64; 1024]) -> bool {
     let b = body(v);
     let z = decision(v);
     let limited = at(v, 148) != 0;
-    let mut x = [0.0; 79];
+    let mut x = [0.0; RESIDUAL_NUMBERS];
     let mut n: usize = 0;
     let mut place: usize = 0;
     let mut runs: usize = 0;

@@ -5,10 +5,11 @@ use cases::read::nine;
 use cases::read::real;
 use cases::read::reals22;
 use cases::read::same14;
+use common::SOLVER_NODES;
 use export::sampled::slew_sample_count;
 use export::sampled::slew_sample_path;
 
-fn nodes(v: &[u64; 1024]) -> [[f64; 22]; 17] {
+fn nodes(v: &[u64; 1024]) -> [[f64; 22]; SOLVER_NODES] {
     let mut rows = [[0.0; 22]; 17];
     let mut k: usize = 0;
     while k < 17 {

@@ -31,7 +31,7 @@ fn wrong() -> Head
 }
 
 // A length or a place, at most a block's size: a case that reaches there does not end within its block.
-fn held(n: u64) -> usize
+fn within_block(n: u64) -> usize
     ensures { λ r. ⌜ r ≤ 65536 ⌝ }
 {
     if n < 65536 { n as usize } else { 65536 }
@@ -42,9 +42,9 @@ fn parts(s: &[u8], kind: u64, words: usize, text: usize, t: u64, a: u64) -> Head
     requires { ⌜ words ≤ 1000 ⌝ }
     ensures { λ r. ⌜ Heads.Ordered (length (now (s .entry))) r ⌝ }
 {
-    let text = held(text as u64);
-    let answer = text + held(t);
-    let end = answer + held(a);
+    let text = within_block(text as u64);
+    let answer = text + within_block(t);
+    let end = answer + within_block(a);
     if end >= s.len() {
         return wrong();
     }

@@ -18,7 +18,8 @@ use Rattle.forward.specs.RowLaws.{nodes-at}
 use Rattle.forward.specs.declared.Node.{Node}
 use Rattle.forward.specs.declared.Run.{Run}
 use Rattle.forward.specs.declared.Went.{Went}
-use Rattle.residuals.specs.Sums.{nodeAt, energyOf, energyTurn, smoothOf, smoothTurn}
+use Rattle.forward.specs.Runs.{nodeAt}
+use Rattle.residuals.specs.Sums.{energyOf, energyTurn, smoothOf, smoothTurn}
 use Rattle.residuals.specs.Residuals.{errorOf, refusedResiduals, ofNodes, ofRun, targetOf, residualsOf}
 use Rattle.residuals.specs.Begins.{errorIn, ErrorsKept}
 

@@ -5,6 +5,7 @@ use mathlib.Core.Bool.{true}
 use mathlib.Core.List.{List}
 use lib.ListN.{length}
 use lib.Ieee.{Float, lt}
+use Rattle.common.specs.Floats as Floats
 use Rattle.common.specs.Lists.{at}
 use Rattle.common.specs.declared.Fate.{Fate}
 use Rattle.common.specs.declared.Fate.the-variants.{Going, Refused}
@@ -14,7 +15,8 @@ use Rattle.geom.specs.declared.Rotation.{Rotation}
 use Rattle.geom.specs.declared.Rotation.the-variants as Rotation
 use Rattle.forward.specs.Rows.{nodesFrom, rowAt}
 use Rattle.forward.specs.declared.Node.{Node}
-use Rattle.residuals.specs.Sums.{nodeAt, energyOver, smoothOver}
+use Rattle.forward.specs.Runs.{nodeAt}
+use Rattle.residuals.specs.Sums.{energyOver, smoothOver}
 use Rattle.residuals.specs.Residuals.{errorOf, pointing, refusedResiduals}
 use Rattle.residuals.specs.declared.Begun.{Begun}
 use Rattle.residuals.specs.declared.Target.{Target}
@@ -30,7 +32,7 @@ ErrorsKept qf ns k errors = (j : ℕ) → j < k → errorIn (rowAt errors j) ≡
 
 -- where there is a pointing weight
 abbrev pub ErrorsKnown : Target → List Node → ℕ → List (List Float) → Type 0
-ErrorsKnown t ns k errors = lt Vec.plusZero (t .weights .pointing) ≡ true → ErrorsKept (t .qf) ns k errors
+ErrorsKnown t ns k errors = lt Floats.plusZero (t .weights .pointing) ≡ true → ErrorsKept (t .qf) ns k errors
 
 -- s is the sums of the first k steps of the run whose nodes are in the rows v; k nodes have k - 1 changes of rate between them
 pub record Summed (dt : Float) (v : List (List Float)) (k : ℕ) (s : Begun) : Type 0 where

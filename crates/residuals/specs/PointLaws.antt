@@ -4,7 +4,8 @@ use mathlib.Core.Path.{_≡_, refl, ap}
 use mathlib.Core.List.{List}
 use native.Mathlib.Omega.{arith}
 use lib.Ieee.{Float}
-use Rattle.common.specs.Iter.{iter, iter-next, iter-stays}
+use Rattle.common.specs.Iter.{iter}
+use Rattle.common.specs.IterLaws.{iter-next, iter-stays}
 use Rattle.common.specs.declared.Fate.{Fate}
 use Rattle.common.specs.declared.Fate.the-variants.{Going, Refused}
 use Rattle.geom.specs.Vec as Vec
@@ -12,7 +13,7 @@ use Rattle.geom.specs.declared.Quat.{Quat}
 use Rattle.geom.specs.declared.Rotation.{Rotation}
 use Rattle.geom.specs.declared.Rotation.the-variants as Rotation
 use Rattle.forward.specs.declared.Node.{Node}
-use Rattle.residuals.specs.Sums.{nodeAt}
+use Rattle.forward.specs.Runs.{nodeAt}
 use Rattle.residuals.specs.Residuals as Residuals
 use Rattle.residuals.specs.Begins.{EndError}
 use Rattle.residuals.specs.declared.Target.{Target}

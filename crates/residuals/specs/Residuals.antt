@@ -4,13 +4,14 @@ use mathlib.Core.Bool.{Bool, cond}
 use mathlib.Core.List.{List, [], _∷_}
 use lib.ListN.{set, replicate}
 use lib.Ieee.{Float, binary64, mul, div, lt, ofBits}
+use Rattle.common.specs.Floats as Floats
 use Rattle.common.specs.Iter.{iter}
 use Rattle.common.specs.Lists.{at}
 use Rattle.common.specs.declared.Fate.{Fate}
 use Rattle.common.specs.declared.Fate.the-variants.{Going, Refused}
 use Rattle.float.specs.Sqrt.{sqrt}
 use Rattle.geom.specs.Vec as Vec
-use Rattle.geom.specs.Quats.{quatMul, conj, logSo3}
+use Rattle.geom.specs.Quats.{rotationBetween}
 use Rattle.geom.specs.declared.Quat.{Quat}
 use Rattle.geom.specs.declared.Rotation.{Rotation}
 use Rattle.geom.specs.declared.Rotation.the-variants as Rotation
@@ -21,13 +22,14 @@ use Rattle.forward.specs.Decisions.{stepTime}
 use Rattle.forward.specs.Runs.{runOf}
 use Rattle.forward.specs.declared.Node.{Node}
 use Rattle.forward.specs.declared.Run.{Run}
-use Rattle.residuals.specs.Sums.{nodeAt, normSlice, effort, energy, smooth}
+use Rattle.forward.specs.Runs.{nodeAt}
+use Rattle.residuals.specs.Sums.{normSlice, effort, energy, smooth}
 use Rattle.residuals.specs.declared.Target.{Target}
 use Rattle.residuals.specs.declared.ResidualVector.{ResidualVector}
 
 -- the turn that is left from the attitude q to qf
 abbrev pub errorOf : Quat → Quat → Rotation
-errorOf q qf = logSo3 (quatMul (conj q) qf)
+errorOf q qf = rotationBetween q qf
 
 -- ---- the residuals stand in a list of 79, whose numbers past the count are +0
 
@@ -37,7 +39,7 @@ put3 r i v = set (set (set r i (at v 0)) (i + 1) (at v 1)) (i + 2) (at v 2)
 
 -- an 11 in a residual has place 0; a refused run's number and place are handed on
 abbrev pub refusedResiduals : ℕ → ℕ → ResidualVector
-refusedResiduals n place = record { fate = Refused n place; count = 0; r = replicate 79 Vec.plusZero }
+refusedResiduals n place = record { fate = Refused n place; count = 0; r = replicate 79 Floats.plusZero }
 
 -- 400.0
 abbrev pub endScale : Float
@@ -45,7 +47,7 @@ endScale = ofBits binary64 0x4079_0000_0000_0000
 
 -- the first six: the attitude error at the end and the rate there
 unfoldable pub ends : List Float → List Float → List Float
-ends error rate = put3 (put3 (replicate 79 Vec.plusZero) 0 (Vec.scale3 error endScale)) 3 (Vec.scale3 rate endScale)
+ends error rate = put3 (put3 (replicate 79 Floats.plusZero) 0 (Vec.scale3 error endScale)) 3 (Vec.scale3 rate endScale)
 
 -- ---- the last five terms
 
@@ -120,7 +122,7 @@ withoutPointing t z ns r = record { fate = Going; count = 28; r = closing t z ns
 abbrev pub errorBy : Rotation → Target → List Float → List Node → ResidualVector
 errorBy Rotation.Outside t z ns = refusedResiduals 11 0
 errorBy (Rotation.By a b c) t z ns =
-    cond (lt Vec.plusZero (t .weights .pointing))
+    cond (lt Floats.plusZero (t .weights .pointing))
     (withPointing t z ns (ends (a ∷ b ∷ c ∷ []) (nodeAt ns 16 .w)))
     (withoutPointing t z ns (ends (a ∷ b ∷ c ∷ []) (nodeAt ns 16 .w)))
 

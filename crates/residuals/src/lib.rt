@@ -1,8 +1,10 @@
 // The residuals of a decision: one forward run, and what the search drives to 0.
 // Carried over from `residuals` of quatopsy-plan/src/scvx.rs (Apache-2.0), changed: the residuals stand in an array of 79, a refusal is a number and a place.
 ghost use mathlib.Core.Path.{_≡_};
-ghost use Rattle.residuals.specs.Operations as Operations;
+ghost use Rattle.residuals.specs.MeasuredResiduals as MeasuredResiduals;
+use common::Decision;
 use common::Fate;
+use common::ResidualNumbers;
 use forward::admit;
 use geom::Quat;
 use problem::Problem;
@@ -23,7 +25,7 @@ pub struct Target {
 pub struct ResidualVector {
     pub fate: Fate,
     pub count: usize,
-    pub r: [f64; 79],
+    pub r: ResidualNumbers,
 }
 
 // Sums of a run's first steps: energy over these steps, smoothness over the changes between their nodes.
@@ -39,8 +41,8 @@ pub struct Measured {
 }
 
 // The residuals of a decision on a problem as a user gives it: the checks, then one forward run.
-pub fn residuals(p: Problem, z: [f64; 193]) -> Measured
-    ensures { λ r. ⌜ r ≡ Operations.residuals p z ⌝ }
+pub fn residuals(p: Problem, z: Decision) -> Measured
+    ensures { λ r. ⌜ r ≡ MeasuredResiduals.residuals p z ⌝ }
 {
     let checked = admit(p);
     let fate = checked.fate;

@@ -1,5 +1,5 @@
 // The sums of the residuals, each from +0 in order. Carried over from `residuals` and `norm_slice` of quatopsy-plan/src/scvx.rs (Apache-2.0), changed: each
-// sum is a function of its own, and a sum of no numbers is +0.
+// sum is a function of its own, a sum of no numbers is +0, and one over steps goes on from that of the first of them.
 ghost use mathlib.Core.Path.{_≡_};
 ghost use Prim.Native.Nat.{_+_, _≤_, _<_};
 ghost use lib.ListN.{length};
@@ -7,6 +7,8 @@ ghost use Rattle.forward.specs.Rows.{nodeFrom, nodesFrom};
 ghost use Rattle.residuals.specs.Sums as Sums;
 ghost use Rattle.residuals.specs.Begins.{Summed};
 use super::Begun;
+use common::SOLVER_NODES;
+use common::STEPS;
 use float::abs;
 use float::sqrt;
 use forward::rows::rate_in;
@@ -51,13 +53,13 @@ fn energy_turn(row: [f64; 22], dt: f64, e: f64) -> f64
 }
 
 // The size of torque times rate over the 16 steps, of which the first k make e.
-pub fn energy(nodes: &[[f64; 22]; 17], dt: f64, k: usize, e: f64) -> f64
+pub fn energy(nodes: &[[f64; 22]; SOLVER_NODES], dt: f64, k: usize, e: f64) -> f64
     requires { ⌜ ((k ≤ 16) × (length (now nodes) ≡ 17)) × (e ≡ Sums.energyOver (nodesFrom (now nodes)) dt k) ⌝ }
     ensures { λ x. ⌜ x ≡ Sums.energy (nodesFrom (now (nodes .entry))) dt ⌝ }
 {
     let mut sum = e;
     let mut i: usize = k;
-    while i < 16 {
+    while i < STEPS {
         sum = energy_turn(nodes[i], dt, sum);
         i += 1;
     }
@@ -75,13 +77,13 @@ fn smooth_turn(row: [f64; 22], next: [f64; 22], dt: f64, e: f64) -> f64
 }
 
 // The squared rate of change over the 16 steps, of which the first k make e.
-pub fn smooth(nodes: &[[f64; 22]; 17], dt: f64, k: usize, e: f64) -> f64
+pub fn smooth(nodes: &[[f64; 22]; SOLVER_NODES], dt: f64, k: usize, e: f64) -> f64
     requires { ⌜ ((k ≤ 16) × (length (now nodes) ≡ 17)) × (e ≡ Sums.smoothOver (nodesFrom (now nodes)) dt k) ⌝ }
     ensures { λ x. ⌜ x ≡ Sums.smooth (nodesFrom (now (nodes .entry))) dt ⌝ }
 {
     let mut sum = e;
     let mut i: usize = k;
-    while i < 16 {
+    while i < STEPS {
         sum = smooth_turn(nodes[i], nodes[i + 1], dt, sum);
         i += 1;
     }
@@ -89,7 +91,7 @@ pub fn smooth(nodes: &[[f64; 22]; 17], dt: f64, k: usize, e: f64) -> f64
 }
 
 // The sums with step k.
-pub fn sums_next(nodes: &[[f64; 22]; 17], dt: f64, k: usize, s: Begun) -> Begun
+pub fn sums_next(nodes: &[[f64; 22]; SOLVER_NODES], dt: f64, k: usize, s: Begun) -> Begun
     requires { ⌜ (k < 16) × Summed dt (now nodes) k s ⌝ }
     ensures { λ x. ⌜ Summed dt (now (nodes .entry)) (k + 1) x ⌝ }
 {

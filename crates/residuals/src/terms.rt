@@ -7,7 +7,8 @@ ghost use lib.ListN.{length};
 ghost use Rattle.actuators.specs.Maps.{controlDim, isSized};
 ghost use Rattle.forward.specs.Decisions.{stepTime};
 ghost use Rattle.forward.specs.Rows.{nodeFrom, nodesFrom};
-ghost use Rattle.residuals.specs.Sums.{nodeAt, normSlice};
+ghost use Rattle.forward.specs.Runs.{nodeAt};
+ghost use Rattle.residuals.specs.Sums.{normSlice};
 ghost use Rattle.residuals.specs.Begins.{Fits, Begins, Summed, Aims, ErrorsKept, ErrorsKnown, rowsBy};
 ghost use Rattle.residuals.specs.PointLaws.{Rows};
 ghost use Rattle.residuals.specs.Residuals as Residuals;
@@ -18,7 +19,12 @@ use super::sums::effort;
 use super::sums::energy;
 use super::sums::norm_slice;
 use super::sums::smooth;
+use common::Decision;
 use common::Fate;
+use common::RESIDUAL_NUMBERS;
+use common::ResidualNumbers;
+use common::SOLVER_NODES;
+use common::STEPS;
 use control_rows::WheelLaw;
 use float::sqrt;
 use forward::rows::attitude_in;
@@ -33,7 +39,7 @@ use problem::CheckedProblem;
 pub fn refused_residuals(number: usize, place: usize) -> ResidualVector
     ensures { λ r. ⌜ r ≡ Residuals.refusedResiduals number place ⌝ }
 {
-    let r = [0.0; 79];
+    let r = [0.0; RESIDUAL_NUMBERS];
     ResidualVector {
         fate: Fate::Refused(number, place),
         count: 0,
@@ -42,7 +48,7 @@ pub fn refused_residuals(number: usize, place: usize) -> ResidualVector
 }
 
 // Three numbers written from place i on.
-fn put3(r: &mut [f64; 79], i: usize, v: [f64; 3])
+fn put3(r: &mut ResidualNumbers, i: usize, v: [f64; 3])
     requires { ⌜ i + 2 < 79 ⌝ }
     ensures { λ _. ⌜ now (r .exit) ≡ Residuals.put3 (now (r .entry)) i v ⌝ }
 {
@@ -52,10 +58,10 @@ fn put3(r: &mut [f64; 79], i: usize, v: [f64; 3])
 }
 
 // The first six residuals: the attitude error at the end and the rate there.
-fn ends(error: [f64; 3], rate: [f64; 3]) -> [f64; 79]
+fn ends(error: [f64; 3], rate: [f64; 3]) -> ResidualNumbers
     ensures { λ r. ⌜ r ≡ Residuals.ends error rate ⌝ }
 {
-    let mut r = [0.0; 79];
+    let mut r = [0.0; RESIDUAL_NUMBERS];
     put3(&mut r, 0, geom::scale3(error, 400.0));
     put3(&mut r, 3, geom::scale3(rate, 400.0));
     r
@@ -87,20 +93,20 @@ pub fn changes(k: usize) -> usize
 fn closing(
     t: Target,
     z: &[f64],
-    nodes: &[[f64; 22]; 17],
+    nodes: &[[f64; 22]; SOLVER_NODES],
     k: usize,
     s: Begun,
     i: usize,
-    r: &mut [f64; 79],
+    r: &mut ResidualNumbers,
 )
     requires { ⌜ (i + 4 < 79) × (Fits t (now z) × Summed (stepTime (now z)) (now nodes) k s) ⌝ }
     ensures { λ _. ⌜ now (r .exit) ≡ Residuals.closing t (now (z .entry)) (nodesFrom (now (nodes .entry))) i (now (r .entry)) ⌝ }
 {
     let weights = t.weights;
-    let n = 16 * t.controls;
+    let n = STEPS * t.controls;
     let duration = z[0];
     let dt = duration / 16.0;
-    let hw = momenta_in(nodes[16]);
+    let hw = momenta_in(nodes[STEPS]);
     let control = weighted(weights.control, effort(z, n) * dt);
     let spent = weighted(weights.energy, energy(nodes, dt, k, s.energy));
     let change = weighted(weights.smoothness, smooth(nodes, dt, changes(k), s.smooth));
@@ -116,11 +122,16 @@ pub fn error_in(row: [f64; 22], qf: Quat) -> Rotation
     ensures { λ x. ⌜ x ≡ Residuals.errorOf (nodeFrom row .q) qf ⌝ }
 {
     let q = attitude_in(row);
-    geom::log_so3(q.conjugate().mul(qf))
+    geom::rotation_between(q, qf)
 }
 
 // Keeps the pointing error of node k beside those of the nodes before it, where there is a pointing weight: whether it is not refused.
-pub fn keep_error(t: Target, nodes: &[[f64; 22]; 17], k: usize, errors: &mut [[f64; 3]; 16]) -> bool
+pub fn keep_error(
+    t: Target,
+    nodes: &[[f64; 22]; SOLVER_NODES],
+    k: usize,
+    errors: &mut [[f64; 3]; 16],
+) -> bool
     requires { ⌜ (k < 16) × ((length (now nodes) ≡ 17) × ((length (now errors) ≡ 16) × ErrorsKnown t (nodesFrom (now nodes)) k (now errors))) ⌝ }
     ensures { λ r. ⌜ (r ≡ true → ErrorsKnown t (nodesFrom (now (nodes .entry))) (k + 1) (now (errors .exit))) × (length (now (errors .exit)) ≡ 16) ⌝ }
 {
@@ -141,7 +152,7 @@ pub fn keep_error(t: Target, nodes: &[[f64; 22]; 17], k: usize, errors: &mut [[f
 
 // The same of node j, where those of the first k nodes are kept.
 fn error_at(
-    nodes: &[[f64; 22]; 17],
+    nodes: &[[f64; 22]; SOLVER_NODES],
     qf: Quat,
     k: usize,
     errors: &[[f64; 3]; 16],
@@ -157,7 +168,7 @@ fn error_at(
 }
 
 // Node j's pointing error, scaled, into its three rows.
-fn point(error: Rotation, scale: f64, j: usize, r: &mut [f64; 79]) -> Fate
+fn point(error: Rotation, scale: f64, j: usize, r: &mut ResidualNumbers) -> Fate
     requires { ⌜ j < 17 ⌝ }
     ensures { λ x. ⌜ rowsBy x (now (r .exit)) ≡ Residuals.pointBy error scale j (now (r .entry)) ⌝ }
 {
@@ -173,17 +184,17 @@ fn point(error: Rotation, scale: f64, j: usize, r: &mut [f64; 79]) -> Fate
 // The rows of the first 16 nodes.
 fn pointed(
     scale: f64,
-    nodes: &[[f64; 22]; 17],
+    nodes: &[[f64; 22]; SOLVER_NODES],
     qf: Quat,
     k: usize,
     errors: &[[f64; 3]; 16],
-    r: &mut [f64; 79],
+    r: &mut ResidualNumbers,
 ) -> Fate
     requires { ⌜ (length (now nodes) ≡ 17) × ErrorsKept qf (nodesFrom (now nodes)) k (now errors) ⌝ }
     ensures { λ x. ⌜ Rows scale (nodesFrom (now (nodes .entry))) qf (now (r .entry)) (rowsBy x (now (r .exit))) 16 ⌝ }
 {
     let mut j: usize = 0;
-    while j < 16 {
+    while j < STEPS {
         let fate = point(error_at(nodes, qf, k, errors, j), scale, j, r);
         match fate {
             Fate::Refused(_, _) => return fate,
@@ -198,12 +209,12 @@ fn pointed(
 fn with_pointing(
     t: Target,
     z: &[f64],
-    nodes: &[[f64; 22]; 17],
+    nodes: &[[f64; 22]; SOLVER_NODES],
     k: usize,
     s: Begun,
     errors: &[[f64; 3]; 16],
     error: [f64; 3],
-    r: [f64; 79],
+    r: ResidualNumbers,
 ) -> ResidualVector
     requires { ⌜ Fits t (now z) × (Summed (stepTime (now z)) (now nodes) k s × Aims (t .qf) (nodesFrom (now nodes)) k (now errors) error) ⌝ }
     ensures { λ x. ⌜ x ≡ Residuals.withPointing t (now (z .entry)) (nodesFrom (now (nodes .entry))) r ⌝ }
@@ -230,10 +241,10 @@ fn with_pointing(
 fn without_pointing(
     t: Target,
     z: &[f64],
-    nodes: &[[f64; 22]; 17],
+    nodes: &[[f64; 22]; SOLVER_NODES],
     k: usize,
     s: Begun,
-    r: [f64; 79],
+    r: ResidualNumbers,
 ) -> ResidualVector
     requires { ⌜ Fits t (now z) × Summed (stepTime (now z)) (now nodes) k s ⌝ }
     ensures { λ x. ⌜ x ≡ Residuals.withoutPointing t (now (z .entry)) (nodesFrom (now (nodes .entry))) r ⌝ }
@@ -251,7 +262,7 @@ fn without_pointing(
 pub fn of_rows(
     t: Target,
     z: &[f64],
-    nodes: &[[f64; 22]; 17],
+    nodes: &[[f64; 22]; SOLVER_NODES],
     k: usize,
     s: Begun,
     errors: &[[f64; 3]; 16],
@@ -259,12 +270,12 @@ pub fn of_rows(
     requires { ⌜ Fits t (now z) × Begins t (stepTime (now z)) (now nodes) k s (now errors) ⌝ }
     ensures { λ x. ⌜ x ≡ Residuals.ofNodes t (now (z .entry)) (nodesFrom (now (nodes .entry))) ⌝ }
 {
-    let error = error_in(nodes[16], t.qf);
+    let error = error_in(nodes[STEPS], t.qf);
     match error {
         Rotation::Outside => refused_residuals(11, 0),
         Rotation::By(a, b, c) => {
             let end = [a, b, c];
-            let r = ends(end, rate_in(nodes[16]));
+            let r = ends(end, rate_in(nodes[STEPS]));
             let weights = t.weights;
             if weights.pointing > 0.0 {
                 return with_pointing(t, z, nodes, k, s, errors, end, r);
@@ -291,7 +302,7 @@ pub fn target_of(p: CheckedProblem) -> Target
 }
 
 // One forward run and its residuals.
-pub fn residuals_of(p: CheckedProblem, z: [f64; 193]) -> ResidualVector
+pub fn residuals_of(p: CheckedProblem, z: Decision) -> ResidualVector
     requires { ⌜ (isSized (p .map) ≡ true) × (controlDim (p .map) ≤ 12) ⌝ }
     ensures { λ x. ⌜ x ≡ Residuals.residualsOf p z ⌝ }
 {

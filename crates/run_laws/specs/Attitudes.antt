@@ -8,13 +8,14 @@ use lib.Dec.{T}
 use lib.Ieee.{Float, binary64, sub, mul, div, neg, lt, le, eq, ofBits}
 use lib.Ieee.Fits.{and-l, and-r, add-fits, sub-fits}
 use lib.Ieee.Scale.{finite}
+use Rattle.common.specs.Floats.{one, plusZero}
 use Rattle.float.specs.Ops.{abs}
-use Rattle.laws.specs.Finite.{finites, mul-finite, sqrt-finite, lt-sqrt, between-finite}
-use Rattle.laws.specs.Unit.{Below1, unit-in}
+use Rattle.float_laws.specs.Finite.{finites, mul-finite, sqrt-finite, lt-sqrt, between-finite}
+use Rattle.float_laws.specs.Unit.{Below1, unit-in}
 use Rattle.angles.specs.declared.Angle.{Angle}
 use Rattle.angles.specs.declared.Angle.the-variants as Angle
 use Rattle.angles.specs.Angles as Angles
-use Rattle.geom.specs.Vec.{dot3, half, one, plusZero}
+use Rattle.geom.specs.Vec.{dot3, half}
 use Rattle.geom.specs.Quats.{quatMul, scaleQ, norm3, normQ, finiteQ, normalBy, normalized, tiny, expOf, expAt, expSo3}
 use Rattle.geom.specs.Halves.{onBoth}
 use Rattle.geom.specs.declared.Quat.{Quat}

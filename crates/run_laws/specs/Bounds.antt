@@ -11,11 +11,11 @@ use lib.Ieee.{Float, binary64, neg, lt, le, fits}
 use Rattle.common.specs.Iter.{iter}
 use Rattle.common.specs.Lists.{at}
 use Rattle.float.specs.Ops.{number, abs, clamp}
-use Rattle.laws.specs.Below.{below-three}
-use Rattle.laws.specs.Finite.{finite-number}
-use Rattle.laws.specs.Limits.{Limit, tol, Under, excess-under, control-within}
-use Rattle.laws.specs.Numbers.{clamp-n}
-use Rattle.laws.specs.Order.{Held, held}
+use Rattle.float_laws.specs.Below.{below-three}
+use Rattle.float_laws.specs.Finite.{finite-number}
+use Rattle.float_laws.specs.Limits.{Limit, tol, Under, excess-under, control-within}
+use Rattle.float_laws.specs.Numbers.{clamp-n}
+use Rattle.float_laws.specs.Order.{Held, held}
 use Rattle.geom.specs.Vec.{torqueExcess}
 use Rattle.actuators.specs.Maps.{gimbals}
 use Rattle.actuators.specs.declared.Cmgs.{Cmgs}
@@ -87,11 +87,11 @@ module _ (r : Rig) (wheels thrusters box u : List Float) where
   -- each control is clamped to its limit
   pub projected-at : (i : ℕ) → i < count → at (projected r wheels thrusters box u) i ≡ clamp (neg (most i)) (most i) (at u i)
   unfolding projected hold
-  projected-at i h = stored-at (Controls.held most) u count count-le i h
+  projected-at i h = stored-at (Controls.holdAt most) u count count-le i h
 
   pub projected-length : length (projected r wheels thrusters box u) ≡ length u
   unfolding projected
-  projected-length = stored-length (Controls.held most) u count
+  projected-length = stored-length (Controls.holdAt most) u count
 
   -- CONTROLS: a projected control that is no NaN is at most its limit in size
   pub control-in : (i : ℕ) → i < count → Limit (most i) → T (fits binary64 (at u i)) → T (number (at (projected r wheels thrusters box u) i)) → T (le (abs (at (projected r wheels thrusters box u) i)) (most i))

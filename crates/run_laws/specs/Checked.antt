@@ -9,18 +9,19 @@ use lib.Dec.{T}
 use lib.Ieee.{Float, binary64, lt, fits}
 use lib.Ieee.Fits.{and-l, and-r}
 use lib.Ieee.Scale.{finite}
+use Rattle.common.specs.Floats.{one, plusZero}
 use Rattle.common.specs.Lists.{at}
 use Rattle.common.specs.declared.Fate.{Fate}
 use Rattle.common.specs.declared.Fate.the-variants.{Going, Refused}
 use Rattle.common.specs.declared.Limit.{Limit}
 use Rattle.common.specs.declared.Limit.the-variants.{Nothing, At}
 use Rattle.float.specs.Ops.{abs}
-use Rattle.laws.specs.Below.{below-three}
-use Rattle.laws.specs.Order.{held}
-use Rattle.laws.specs.Finite.{finite-number}
-use Rattle.laws.specs.Limits as Limits
-use Rattle.laws.specs.Unit.{Below1}
-use Rattle.geom.specs.Vec.{tensor, plusZero, one, isPositive}
+use Rattle.float_laws.specs.Below.{below-three}
+use Rattle.float_laws.specs.Order.{held}
+use Rattle.float_laws.specs.Finite.{finite-number}
+use Rattle.float_laws.specs.Limits as Limits
+use Rattle.float_laws.specs.Unit.{Below1}
+use Rattle.geom.specs.Vec.{tensor, isPositive}
 use Rattle.geom.specs.Quats.{normalized}
 use Rattle.geom.specs.Tensors.{invertSpd}
 use Rattle.geom.specs.declared.Quat.{Quat}

@@ -11,13 +11,14 @@ use lib.Seq.{length-take-le, getD-append-add, getD-take, getD-drop, getD-set-sam
 use lib.Ieee.{Float, nan, binary64, neg, le, fits, ofBits}
 use lib.Ieee.Bits.{is-true}
 use lib.Ieee.Fits.{and-i, neg-fits}
-use Rattle.common.specs.Iter.{iter, row-end}
+use Rattle.common.specs.Iter.{iter}
+use Rattle.common.specs.IterLaws.{row-end}
 use Rattle.common.specs.Lists.{at, pasted}
 use Rattle.float.specs.Ops.{number, abs, clamp}
-use Rattle.laws.specs.Below.{below-none, below-next, below-turns}
-use Rattle.laws.specs.Clamp.{test, clamp-fits}
-use Rattle.laws.specs.Limits.{Limit, control-within}
-use Rattle.laws.specs.Numbers.{clamp-n}
+use Rattle.float_laws.specs.Below.{below-none, below-next, below-turns}
+use Rattle.float_laws.specs.Clamp.{test, clamp-fits}
+use Rattle.float_laws.specs.Limits.{Limit, control-within}
+use Rattle.float_laws.specs.Numbers.{clamp-n}
 use Rattle.actuators.specs.Maps.{isSized, isEmpty, controlDim, gimbals}
 use Rattle.actuators.specs.declared.ActuatorMap.{ActuatorMap}
 use Rattle.control_rows.specs.Parts.{bare, width}

@@ -12,21 +12,23 @@ use lib.Ieee.{Float, nan, inf, fin, binary64, low, up, down, round, mul, div, lt
 use lib.Ieee.Fits.{and-i, add-fits}
 use lib.Ieee.Nearest.{div-mono}
 use lib.Ieee.Scale.{finite}
+use Rattle.common.specs.Floats.{one}
+use Rattle.common.specs.Floats as Floats
 use Rattle.wide.specs.IsqrtLaws.{isqrt-root}
 use Rattle.float.specs.Ops.{clamp}
 use Rattle.float.specs.SqrtLaws.{sqrt-fits}
-use Rattle.laws.specs.Place.{mag, mid, place}
-use Rattle.laws.specs.Order.{Held, held, lt-up, nlt-up, up-le, not-above}
-use Rattle.laws.specs.Clamp.{clamp-held, clamp-place}
-use Rattle.laws.specs.Finite.{finite-number}
-use Rattle.laws.specs.Signs.{plus, plus-number, place-plus, round-plus, square-plus, add-plus, sqrt-plus}
-use Rattle.laws.specs.Sizes.{Within, Beyond, in-held, add-in, sub-in, mul-in, div-in, neg-in, round-in}
-use Rattle.laws.specs.Unit.{finite-sqrt}
+use Rattle.float_laws.specs.Place.{mag, mid, place}
+use Rattle.float_laws.specs.Order.{Held, held, lt-up, nlt-up, up-le, not-above}
+use Rattle.float_laws.specs.Clamp.{clamp-held, clamp-place}
+use Rattle.float_laws.specs.Finite.{finite-number}
+use Rattle.float_laws.specs.Signs.{plus, plus-number, place-plus, round-plus, square-plus, add-plus, sqrt-plus}
+use Rattle.float_laws.specs.Sizes.{Within, Beyond, in-held, add-in, sub-in, mul-in, div-in, neg-in, round-in}
+use Rattle.float_laws.specs.Unit.{finite-sqrt}
 use Rattle.angles.specs.declared.Angle.{Angle}
 use Rattle.angles.specs.declared.Angle.the-variants as Angle
 use Rattle.angles.specs.Angles.{sizeOf}
 use Rattle.angles.specs.Arcs as Arcs
-use Rattle.geom.specs.Vec.{dot3, one, two, minusOne}
+use Rattle.geom.specs.Vec.{dot3, two, minusOne}
 use Rattle.geom.specs.Vec as Vec
 use Rattle.geom.specs.Quats.{quatMul, negateQ, conj, norm3, tiny, part, upright, logBy, logAt, logUp, logSo3}
 use Rattle.geom.specs.declared.Quat.{Quat}
@@ -72,7 +74,7 @@ minus-in = record { fit = unfold fits ofBits in tt; fine = unfold ofBits in tt; 
 two-in : Within binary64 1 two
 two-in = record { fit = unfold fits ofBits in tt; fine = unfold ofBits in tt; small = unfold mag ofBits in leb→le (2 ^ 1075) (2 ^ 1075) tt }
 
-zero-held : Held binary64 Vec.plusZero
+zero-held : Held binary64 Floats.plusZero
 unfolding fits ofBits
 zero-held = held tt tt
 
@@ -80,13 +82,13 @@ one-held : Held binary64 one
 unfolding fits ofBits
 one-held = held tt tt
 
-zero-place : place binary64 Vec.plusZero ≡ mid binary64
-zero-place = place-plus binary64 Vec.plusZero (unfold ofBits in tt) ∙ more none
+zero-place : place binary64 Floats.plusZero ≡ mid binary64
+zero-place = place-plus binary64 Floats.plusZero (unfold ofBits in tt) ∙ more none
   where
-    none : mag binary64 Vec.plusZero ≡ 0
+    none : mag binary64 Floats.plusZero ≡ 0
     none = unfold mag ofBits in refl
 
-    more : mag binary64 Vec.plusZero ≡ 0 → mid binary64 + mag binary64 Vec.plusZero ≡ mid binary64
+    more : mag binary64 Floats.plusZero ≡ 0 → mid binary64 + mag binary64 Floats.plusZero ≡ mid binary64
     more e = omega arith
 
 -- ---- the arc cosine is at most 2 ^ 7
@@ -145,18 +147,18 @@ acos-in w p q = go (le Arcs.none w && le w one) (and-i (le Arcs.none w) (le w on
     go false t = absurd t
 
 -- ---- the scalar part of an upright quaternion, clamped
-order : T (lt minusOne Vec.plusZero) × T (lt Vec.plusZero one)
+order : T (lt minusOne Floats.plusZero) × T (lt Floats.plusZero one)
 unfolding lt ofBits
 order = (tt, tt)
 
-clamp-unit : (w : Float) → Held binary64 w → mid binary64 ≤ place binary64 w → T (le Vec.plusZero (clamp minusOne one w)) × T (le (clamp minusOne one w) one)
+clamp-unit : (w : Float) → Held binary64 w → mid binary64 ≤ place binary64 w → T (le Floats.plusZero (clamp minusOne one w)) × T (le (clamp minusOne one w) one)
 clamp-unit w W h =
     let C = clamp-held binary64 minusOne one (in-held minus-in) one-held w W in
-    let a = lt-up binary64 minusOne Vec.plusZero (in-held minus-in) zero-held (order .0) in
-    let b = lt-up binary64 Vec.plusZero one zero-held one-held (order .1) in
+    let a = lt-up binary64 minusOne Floats.plusZero (in-held minus-in) zero-held (order .0) in
+    let b = lt-up binary64 Floats.plusZero one zero-held one-held (order .1) in
     let d = clamp-place binary64 minusOne one (in-held minus-in) one-held w W (omega arith) in
     let z = zero-place in
-    (up-le binary64 Vec.plusZero (clamp minusOne one w) zero-held C (omega arith), up-le binary64 (clamp minusOne one w) one C one-held (omega arith))
+    (up-le binary64 Floats.plusZero (clamp minusOne one w) zero-held C (omega arith), up-le binary64 (clamp minusOne one w) one C one-held (omega arith))
 
 flip-plus : (w : Float) → T (finite w) → place binary64 w < mid binary64 → T (plus (mul binary64 w minusOne))
 unfolding mul ofBits
@@ -174,18 +176,18 @@ record Up (k : ℕ) (q : Quat) : Type 0 where
   over : mid binary64 ≤ place binary64 (q .w)
 
 upright-in : (q : Quat) → WithinQ 115 q → Up 115 (upright q)
-upright-in q p = go (lt (q .w) Vec.plusZero) (λ h. h) (λ h. h)
+upright-in q p = go (lt (q .w) Floats.plusZero) (λ h. h) (λ h. h)
   where
     W : Held binary64 (q .w)
     W = in-held (p .w)
 
-    go : (b : Bool) → (T b → T (lt (q .w) Vec.plusZero)) → (T (not b) → T (not (lt (q .w) Vec.plusZero))) → Up 115 (cond b (negateQ q) q)
+    go : (b : Bool) → (T b → T (lt (q .w) Floats.plusZero)) → (T (not b) → T (not (lt (q .w) Floats.plusZero))) → Up 115 (cond b (negateQ q) q)
     go true a b =
-        let o = lt-up binary64 (q .w) Vec.plusZero W zero-held (a tt) in
+        let o = lt-up binary64 (q .w) Floats.plusZero W zero-held (a tt) in
         let z = zero-place in
         let s = place-plus binary64 (mul binary64 (q .w) minusOne) (flip-plus (q .w) (p .w .fine) (omega arith)) in
         record { sizes = record { w = mul-in (p .w) minus-in tt; x = mul-in (p .x) minus-in tt; y = mul-in (p .y) minus-in tt; z = mul-in (p .z) minus-in tt }; over = omega arith }
-    go false a b = let o = nlt-up binary64 (q .w) Vec.plusZero W zero-held (b tt) in let z = zero-place in record { sizes = p; over = omega arith }
+    go false a b = let o = nlt-up binary64 (q .w) Floats.plusZero W zero-held (b tt) in let z = zero-place in record { sizes = p; over = omega arith }
 
 -- ---- the logarithm
 -- a rotation vector of three finite numbers

@@ -9,7 +9,7 @@ use lib.ListN.{getD}
 use lib.Ieee.{Float, binary64, fits}
 use lib.Ieee.Scale.{finite}
 use Rattle.common.specs.Lists.{at}
-use Rattle.laws.specs.Finite.{div-finite}
+use Rattle.float_laws.specs.Finite.{div-finite}
 use Rattle.common.specs.declared.Fate.{Fate}
 use Rattle.common.specs.declared.Fate.the-variants.{Going, Refused}
 use Rattle.actuators.specs.Maps.{isSized, isEmpty, controlDim, gimbals}
@@ -23,7 +23,7 @@ use Rattle.forward.specs.Runs.{startOf, nodeOf, noNode, runFrom, bodyOf, runUnd
 use Rattle.controls.specs.Controls.{rigOf}
 use Rattle.control_rows.specs.declared.WheelLaw.the-variants.{Once}
 use Rattle.forward.specs.Steps.{Body}
-use Rattle.forward.specs.Operations.{admit, reconstructBy, reconstructUnder, reconstruct}
+use Rattle.forward.specs.Reconstruct.{admit, reconstructBy, reconstructUnder, reconstruct}
 use Rattle.forward.specs.declared.Node.{Node}
 use Rattle.forward.specs.declared.Run.{Run}
 use Rattle.run_laws.specs.Values.{goes, Fine3}
@@ -37,20 +37,20 @@ use Rattle.run_laws.specs.Checked.{FitsP, Ready, check-ready}
 abbrev pub control : ℕ → List Float → ℕ → ℕ → Float
 control c z k i = at z (1 + k * c + i)
 
-abbrev pub nodeAt : Run → ℕ → Node
-nodeAt r k = getD (r .nodes) k noNode
+abbrev pub runNode : Run → ℕ → Node
+runNode r k = getD (r .nodes) k noNode
 
 -- What a run with nodes is: a finite duration and finite controls, all 17 nodes in order at finite times, a finite body momentum at every node but the last, a
 -- largest defect that is neither a NaN nor minus infinity, node 16 with node 15's torque, node 0 at the start.
 pub record Path (p : CheckedProblem) (z : List Float) (r : Run) : Type 0 where
   pub duration : T (finite (at z 0))
   pub controls : (k : ℕ) → k < 16 → (i : ℕ) → i < controlDim (p .map) → T (finite (control (controlDim (p .map)) z k i))
-  pub nodes : (k : ℕ) → k < 17 → NodeOk (p .map .«wheel_count») (nodeAt r k)
-  pub times : (k : ℕ) → k < 17 → T (finite (nodeAt r k .t))
-  pub stored : (k : ℕ) → k < 16 → Fine3 (nodeAt r k .h)
+  pub nodes : (k : ℕ) → k < 17 → NodeOk (p .map .«wheel_count») (runNode r k)
+  pub times : (k : ℕ) → k < 17 → T (finite (runNode r k .t))
+  pub stored : (k : ℕ) → k < 16 → Fine3 (runNode r k .h)
   pub defect : T (grounded (r .defect))
-  pub repeats : nodeAt r 16 .tau ≡ nodeAt r 15 .tau
-  pub first : nodeAt r 0 ≡ nodeOf (stepTime z) 0 (startOf p) (nodeAt r 0 .tau)
+  pub repeats : runNode r 16 .tau ≡ runNode r 15 .tau
+  pub first : runNode r 0 ≡ nodeOf (stepTime z) 0 (startOf p) (runNode r 0 .tau)
 
 -- a control of the decision is one of the row that a step reads
 dim-width : (m : ActuatorMap) (i : ℕ) → i < controlDim m → i < width (rigOf m) (gimbals (m .cmgs))

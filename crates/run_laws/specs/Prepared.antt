@@ -6,10 +6,11 @@ use lib.Dec.{T}
 use lib.Ieee.{Float, binary64, lt, le, fits}
 use lib.Ieee.Fits.{and-l, and-r}
 use lib.Ieee.Scale.{finite}
+use Rattle.common.specs.Floats.{plusZero}
 use Rattle.common.specs.Lists.{at}
 use Rattle.common.specs.declared.Fate.the-variants.{Going}
-use Rattle.laws.specs.Limits.{Limit}
-use Rattle.geom.specs.Vec.{plusZero, isPositive}
+use Rattle.float_laws.specs.Limits.{Limit}
+use Rattle.geom.specs.Vec.{isPositive}
 use Rattle.actuators.specs.Prepare as Prepare
 use Rattle.actuators.specs.ReadyLaws.{Sound, prepared}
 use Rattle.actuators.specs.declared.CmgPyramid.{CmgPyramid}

@@ -10,14 +10,15 @@ use lib.IntN.{pos}
 use lib.Ieee.{Float, nan, binary64, mul, fits, ofInt, ofBits}
 use lib.Ieee.Fits.{add-fits, nan-fits}
 use lib.Ieee.Scale.{finite}
+use Rattle.common.specs.Floats as Floats
 use Rattle.common.specs.Iter.{iter}
 use Rattle.common.specs.Lists.{at, slice}
 use Rattle.common.specs.declared.Fate.{Fate}
 use Rattle.common.specs.declared.Fate.the-variants.{Going, Refused}
-use Rattle.laws.specs.Below.{below-none, below-next}
-use Rattle.laws.specs.Order.{held}
-use Rattle.laws.specs.Finite.{finite-number, add-number, mul-number}
-use Rattle.laws.specs.Unit.{Below1}
+use Rattle.float_laws.specs.Below.{below-none, below-next}
+use Rattle.float_laws.specs.Order.{held}
+use Rattle.float_laws.specs.Finite.{finite-number, add-number, mul-number}
+use Rattle.float_laws.specs.Unit.{Below1}
 use Rattle.geom.specs.Vec as Vec
 use Rattle.geom.specs.Quats.{quatMul}
 use Rattle.geom.specs.declared.Quat.{Quat}
@@ -26,8 +27,8 @@ use Rattle.control_rows.specs.Parts.{width}
 use Rattle.forward.specs.Decisions.{rowOf}
 use Rattle.control_rows.specs.Parts as Parts
 use Rattle.forward.specs.Steps.{Body, wheelMomenta, bodyMomentum, rateDot, rateNext, step}
-use Rattle.forward.specs.Runs.{start, nodeOf, blankNode, noNode, Course, advance, courseBy, courseTurn, startCourse, course, ended, endBy, endOf, runFrom}
-use Rattle.forward.specs.declared.State.{State}
+use Rattle.forward.specs.Runs.{start, nodeOf, blankNode, noNode, nodeAt, Rollout, advance, rolloutBy, rolloutTurn, startRollout, rollout, endedRun, endBy, endOf, runFrom}
+use Rattle.forward.specs.declared.BodyState.{BodyState}
 use Rattle.forward.specs.declared.Stepped.{Stepped}
 use Rattle.forward.specs.declared.Node.{Node}
 use Rattle.forward.specs.declared.Run.{Run}
@@ -39,10 +40,10 @@ use Rattle.run_laws.specs.Defects.{grounded, max-grounded}
 
 -- past n wheels stands +0
 abbrev pub Spare : ℕ → List Float → Type 0
-Spare n hw = (i : ℕ) → n ≤ i → i < 8 → at hw i ≡ Vec.plusZero
+Spare n hw = (i : ℕ) → n ≤ i → i < 8 → at hw i ≡ Floats.plusZero
 
 -- A state on the way: a finite attitude of at most 2 ^ 56, finite rates, momenta that are no NaN; where the body's momentum is finite, so are the wheels'.
-pub record StateOk (b : Body) (s : State) : Type 0 where
+pub record StateOk (b : Body) (s : BodyState) : Type 0 where
   pub q : WithinQ 56 (s .q)
   pub w : Fine3 (s .w)
   pub w-fits : Fit3 (s .w)
@@ -65,15 +66,15 @@ pub record NodeOk (nw : ℕ) (n : Node) : Type 0 where
 abbrev pub timeOf : Float → ℕ → Float
 timeOf dt k = mul binary64 (ofInt binary64 (pos k)) dt
 
-zero-fits : T (fits binary64 Vec.plusZero)
+zero-fits : T (fits binary64 Floats.plusZero)
 unfolding fits ofBits
 zero-fits = tt
 
-zero-finite : T (finite Vec.plusZero)
+zero-finite : T (finite Floats.plusZero)
 unfolding ofBits
 zero-finite = tt
 
-zero-grounded : T (grounded Vec.plusZero)
+zero-grounded : T (grounded Floats.plusZero)
 unfolding ofBits
 zero-grounded = tt
 
@@ -98,7 +99,7 @@ start-ok b axes n q0 hw Q M = record {
 }
 
 -- ---- one step
-module _ (b : Body) (u : List Float) (s : State) (g : Stepped) (B : Below1 (b .frame .tolerance)) (S : StateOk b s) (O : Once b u s g) where
+module _ (b : Body) (u : List Float) (s : BodyState) (g : Stepped) (B : Below1 (b .frame .tolerance)) (S : StateOk b s) (O : Once b u s g) where
   abbrev nw : ℕ
   nw = b .rig .«wheel_count»
 
@@ -164,18 +165,15 @@ pub slice-fits : (a e : ℕ) (z : List Float) → ((i : ℕ) → T (fits binary6
 slice-fits a e z F i = take-fits (drop a z) (e - a) (λ j. rw (getD-drop a z j nan) (F (a + j))) i
 
 -- ---- the run, with n controls a row, from a state that is in order
-module _ (b : Body) (n : ℕ) (z : List Float) (from : State) (B : Below1 (b .frame .tolerance)) (F : (i : ℕ) → T (fits binary64 (at z i))) (S : StateOk b from) where
+module _ (b : Body) (n : ℕ) (z : List Float) (from : BodyState) (B : Below1 (b .frame .tolerance)) (F : (i : ℕ) → T (fits binary64 (at z i))) (S : StateOk b from) where
   abbrev wheels : ℕ
   wheels = b .rig .«wheel_count»
 
   abbrev c : ℕ
   c = width (b .rig) (gimbals (b .rig .cmgs))
 
-  abbrev nodeAt : List Node → ℕ → Node
-  nodeAt ns i = getD ns i noNode
-
   -- after k steps that went on
-  pub record Kept (k : ℕ) (x : Course) : Type 0 where
+  pub record Kept (k : ℕ) (x : Rollout) : Type 0 where
     pub state : StateOk b (x .s)
     pub nodes : (i : ℕ) → i < k → NodeOk wheels (nodeAt (x .nodes) i)
     pub times : (i : ℕ) → i < k → nodeAt (x .nodes) i .t ≡ timeOf (b .frame .dt) i
@@ -187,7 +185,7 @@ module _ (b : Body) (n : ℕ) (z : List Float) (from : State) (B : Below1 (b .fr
     pub begins : k ≡ 0 → x .s ≡ from
     pub first : 0 < k → nodeAt (x .nodes) 0 ≡ nodeOf (b .frame .dt) 0 from (nodeAt (x .nodes) 0 .tau)
 
-  one-more : (k : ℕ) (x : Course) → k < 17 → Kept k x → T (goes (step b (rowOf n z k) k (x .s) .fate)) → Kept (suc k) (advance (b .frame .dt) k x (step b (rowOf n z k) k (x .s)))
+  one-more : (k : ℕ) (x : Rollout) → k < 17 → Kept k x → T (goes (step b (rowOf n z k) k (x .s) .fate)) → Kept (suc k) (advance (b .frame .dt) k x (step b (rowOf n z k) k (x .s)))
   unfolding advance
   one-more k x l K t = record {
     state = next-ok b u (x .s) g B (K .state) O;
@@ -226,25 +224,25 @@ module _ (b : Body) (n : ℕ) (z : List Float) (from : State) (B : Below1 (b .fr
       never : suc k ≡ 0 → ⊥
       never e = omega arith
 
-      made : (s : State) → s ≡ from → nodeAt ns 0 ≡ nodeOf (b .frame .dt) 0 s (g .tau) → nodeAt ns 0 ≡ nodeOf (b .frame .dt) 0 from (nodeAt ns 0 .tau)
-      made s e h = let t0 : nodeAt ns 0 .tau ≡ g .tau = ap (λ (y : Node). y .tau) h ∙ (unfold nodeOf in refl) in rw t0 (h ∙ ap (λ (y : State). nodeOf (b .frame .dt) 0 y (g .tau)) e)
+      made : (s : BodyState) → s ≡ from → nodeAt ns 0 ≡ nodeOf (b .frame .dt) 0 s (g .tau) → nodeAt ns 0 ≡ nodeOf (b .frame .dt) 0 from (nodeAt ns 0 .tau)
+      made s e h = let t0 : nodeAt ns 0 .tau ≡ g .tau = ap (λ (y : Node). y .tau) h ∙ (unfold nodeOf in refl) in rw t0 (h ∙ ap (λ (y : BodyState). nodeOf (b .frame .dt) 0 y (g .tau)) e)
 
       at-first : (j : ℕ) → j ≡ k → nodeAt ns 0 ≡ nodeOf (b .frame .dt) 0 from (nodeAt ns 0 .tau)
       at-first zero e = made (x .s) (K .begins (sym e)) (ap (λ (i : ℕ). nodeAt ns i) e ∙ same ∙ ap (λ (i : ℕ). nodeOf (b .frame .dt) i (x .s) (g .tau)) (sym e))
       at-first (suc j) e = let o = other 0 (λ (p : 0 ≡ k). omega arith) in rw o (K .first (omega arith))
 
-  turn-keeps : (k : ℕ) (x : Course) → k < 17 → (T (goes (x .fate)) → Kept k x) → T (goes (courseTurn b n z k x .fate)) → Kept (suc k) (courseTurn b n z k x)
-  unfolding courseTurn
+  turn-keeps : (k : ℕ) (x : Rollout) → k < 17 → (T (goes (x .fate)) → Kept k x) → T (goes (rolloutTurn b n z k x .fate)) → Kept (suc k) (rolloutTurn b n z k x)
+  unfolding rolloutTurn
   turn-keeps k x l K t = go (x .fate) refl t
     where
       went : T (goes (advance (b .frame .dt) k x (step b (rowOf n z k) k (x .s)) .fate)) → T (goes (step b (rowOf n z k) k (x .s) .fate))
       went t = unfold advance in t
 
-      go : (e : Fate) → x .fate ≡ e → T (goes (courseBy e b n z k x .fate)) → Kept (suc k) (courseBy e b n z k x)
+      go : (e : Fate) → x .fate ≡ e → T (goes (rolloutBy e b n z k x .fate)) → Kept (suc k) (rolloutBy e b n z k x)
       go Going p t = one-more k x l (K (rw p tt)) (went t)
       go (Refused i j) p t = absurd (rw p at t)
 
-  keeps : (k : ℕ) → k ≤ 17 → T (goes (iter (courseTurn b n z) (startCourse from) k .fate)) → Kept k (iter (courseTurn b n z) (startCourse from) k)
+  keeps : (k : ℕ) → k ≤ 17 → T (goes (iter (rolloutTurn b n z) (startRollout from) k .fate)) → Kept k (iter (rolloutTurn b n z) (startRollout from) k)
   unfolding iter
   keeps zero l t = record {
     state = S;
@@ -261,7 +259,7 @@ module _ (b : Body) (n : ℕ) (z : List Float) (from : State) (B : Below1 (b .fr
     where
       none : 0 < 0 → ⊥
       none h = omega arith
-  keeps (suc k) l t = turn-keeps k (iter (courseTurn b n z) (startCourse from) k) l (λ t. keeps k (omega arith) t) t
+  keeps (suc k) l t = turn-keeps k (iter (rolloutTurn b n z) (startRollout from) k) l (λ t. keeps k (omega arith) t) t
 
   -- what a run with nodes is
   pub record Flown (r : Run) : Type 0 where
@@ -278,9 +276,9 @@ module _ (b : Body) (n : ℕ) (z : List Float) (from : State) (B : Below1 (b .fr
     -- node 0 is the start
     pub first : nodeAt (r .nodes) 0 ≡ nodeOf (b .frame .dt) 0 from (nodeAt (r .nodes) 0 .tau)
 
-  ended-ok : (x : Course) → Kept 16 x → Flown (ended b x)
+  ended-run-ok : (x : Rollout) → Kept 16 x → Flown (endedRun b x)
   unfolding nodeOf
-  ended-ok x K = record {
+  ended-run-ok x K = record {
     nodes = below-next (λ i. NodeOk wheels (nodeAt ns i)) 16 (rw same ok) (λ i h. rw (other i (λ (e : i ≡ 16). omega arith)) (K .nodes i h));
     rows = K .rows;
     time = K .time (omega arith);
@@ -312,11 +310,11 @@ module _ (b : Body) (n : ℕ) (z : List Float) (from : State) (B : Below1 (b .fr
   -- A RUN WITH NODES
   pub run-flown : T (goes (runFrom b n z from .fate)) → Flown (runFrom b n z from)
   unfolding runFrom endOf
-  run-flown t = go (course b n z from .fate) refl t
+  run-flown t = go (rollout b n z from .fate) refl t
     where
-      kept : T (goes (course b n z from .fate)) → Kept 16 (course b n z from)
-      kept t = unfold course in keeps 16 (omega arith) t
+      kept : T (goes (rollout b n z from .fate)) → Kept 16 (rollout b n z from)
+      kept t = unfold rollout in keeps 16 (omega arith) t
 
-      go : (e : Fate) → course b n z from .fate ≡ e → T (goes (endBy e b (course b n z from) .fate)) → Flown (endBy e b (course b n z from))
-      go Going p t = ended-ok (course b n z from) (kept (rw p tt))
+      go : (e : Fate) → rollout b n z from .fate ≡ e → T (goes (endBy e b (rollout b n z from) .fate)) → Flown (endBy e b (rollout b n z from))
+      go Going p t = ended-run-ok (rollout b n z from) (kept (rw p tt))
       go (Refused i j) p t = absurd t

@@ -9,7 +9,7 @@ use lib.Ieee.Scale.{finite}
 use Rattle.common.specs.Lists.{at, slice}
 use Rattle.common.specs.declared.Fate.{Fate}
 use Rattle.common.specs.declared.Fate.the-variants.{Going, Refused}
-use Rattle.laws.specs.Finite.{finites}
+use Rattle.float_laws.specs.Finite.{finites}
 use Rattle.geom.specs.Vec as Vec
 use Rattle.geom.specs.Quats.{quatMul, expSo3, normalized}
 use Rattle.geom.specs.declared.Quat.{Quat}
@@ -19,8 +19,8 @@ use Rattle.geom.specs.declared.Turned.{Turned}
 use Rattle.geom.specs.declared.Turned.the-variants as Turned
 use Rattle.control_rows.specs.Parts.{rowTorque}
 use Rattle.control_limits.specs.Limits.{powerExcess}
-use Rattle.forward.specs.Steps.{Body, stop, matrixAt, rateDot, rateNext, turnOf, defectOf, gimbalRow, swing, stateNext, slack, powered, swungStep, attitudeStep, normedStep, turnedStep, ratedStep, torquedStep, matrixStep, step}
-use Rattle.forward.specs.declared.State.{State}
+use Rattle.forward.specs.Steps.{Body, stop, matrixAt, rateDot, rateNext, turnOf, defectOf, gimbalRow, stepGimbals, stateNext, slack, powered, gimbalsStep, attitudeStep, normedStep, turnedStep, ratedStep, torquedStep, matrixStep, step}
+use Rattle.forward.specs.declared.BodyState.{BodyState}
 use Rattle.forward.specs.declared.Stepped.{Stepped}
 use Rattle.run_laws.specs.Values.{goes, Fine3}
 use Rattle.run_laws.specs.Attitudes.{isTurned, exp-finite, Normed, normalized-is}
@@ -41,7 +41,7 @@ rate-back w wd dt t = search finites
 
 -- What a step g with the row u from the state s is, where it goes on: finite rates at both ends, finite torque and stored momentum, and how its torque,
 -- rate, attitude and state were made. a is the pyramid's matrix, d the gimbals' angles, e the turn.
-pub record Once (b : Body) (u : List Float) (s : State) (g : Stepped) : Type 0 where
+pub record Once (b : Body) (u : List Float) (s : BodyState) (g : Stepped) : Type 0 where
   pub w : Fine3 (s .w)
   pub w2 : Fine3 (g .s .w)
   pub tau : Fine3 (g .tau)
@@ -55,7 +55,7 @@ pub record Once (b : Body) (u : List Float) (s : State) (g : Stepped) : Type 0 w
   pub e : Quat
   pub attitude : Normed (b .frame .tolerance) (quatMul (s .q) e) (g .s .q)
 
-module _ (b : Body) (u : List Float) (k : ℕ) (s : State) (a : List Float) where
+module _ (b : Body) (u : List Float) (k : ℕ) (s : BodyState) (a : List Float) where
   abbrev tau0 : List Float
   tau0 = rowTorque (b .rig) (b .wheels) (b .thrusters) u (s .w) (s .h) a
 
@@ -86,13 +86,13 @@ module _ (b : Body) (u : List Float) (k : ℕ) (s : State) (a : List Float) wher
         go true t = absurd t
         go false t = ok
 
-    swung-goes : (e q2 : Quat) (x : Fate) (d : List Float) → Fine3 turn0 → Normed (b .frame .tolerance) (quatMul (s .q) e) q2 → T (goes (swungStep x d b u k s tau0 defect rate2 q2 .fate)) → Once b u s (swungStep x d b u k s tau0 defect rate2 q2)
-    swung-goes e q2 Going d f n t = powered-goes e q2 d f n t
-    swung-goes e q2 (Refused i j) d f n t = absurd t
+    gimbals-goes : (e q2 : Quat) (x : Fate) (d : List Float) → Fine3 turn0 → Normed (b .frame .tolerance) (quatMul (s .q) e) q2 → T (goes (gimbalsStep x d b u k s tau0 defect rate2 q2 .fate)) → Once b u s (gimbalsStep x d b u k s tau0 defect rate2 q2)
+    gimbals-goes e q2 Going d f n t = powered-goes e q2 d f n t
+    gimbals-goes e q2 (Refused i j) d f n t = absurd t
 
     attitude-goes : (e q2 : Quat) → Fine3 turn0 → Normed (b .frame .tolerance) (quatMul (s .q) e) q2 → T (goes (attitudeStep b u k s tau0 defect rate2 q2 .fate)) → Once b u s (attitudeStep b u k s tau0 defect rate2 q2)
     unfolding attitudeStep
-    attitude-goes e q2 f n t = let x = swing (b .rig .cmgs) (gimbalRow (b .rig) u) (s .delta) (b .frame .dt) k in swung-goes e q2 (x .fate) (x .delta) f n t
+    attitude-goes e q2 f n t = let x = stepGimbals (b .rig .cmgs) (gimbalRow (b .rig) u) (s .delta) (b .frame .dt) k in gimbals-goes e q2 (x .fate) (x .delta) f n t
 
     normed-goes : (e : Quat) (m : Normal) → normalized (b .frame .tolerance) (quatMul (s .q) e) ≡ m → Fine3 turn0 → T (goes (normedStep m b u k s tau0 defect rate2 .fate)) → Once b u s (normedStep m b u k s tau0 defect rate2)
     normed-goes e Normal.Not h f t = absurd t
@@ -111,6 +111,6 @@ module _ (b : Body) (u : List Float) (k : ℕ) (s : State) (a : List Float) wher
   matrix-goes (Refused i j) t = absurd t
 
 -- ONE STEP that goes on
-pub step-goes : (b : Body) (u : List Float) (k : ℕ) (s : State) → T (goes (step b u k s .fate)) → Once b u s (step b u k s)
+pub step-goes : (b : Body) (u : List Float) (k : ℕ) (s : BodyState) → T (goes (step b u k s .fate)) → Once b u s (step b u k s)
 unfolding step
 step-goes b u k s t = matrix-goes b u k s (matrixAt (b .rig .cmgs) (s .delta) .a) (matrixAt (b .rig .cmgs) (s .delta) .fate) t

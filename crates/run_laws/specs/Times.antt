@@ -12,9 +12,9 @@ use lib.Ieee.Exact.{HasValue, round-exact}
 use lib.Ieee.Fits.{down-pos, and-l, and-r}
 use lib.Ieee.Order.{round-mono}
 use lib.Ieee.Scale.{finite}
-use Rattle.laws.specs.Finite.{finite-neg, between-finite, div-finite}
-use Rattle.laws.specs.Signs.{round-neg}
-use Rattle.laws.specs.Sizes.{Within, round-in, mul-in}
+use Rattle.float_laws.specs.Finite.{finite-neg, between-finite, div-finite}
+use Rattle.float_laws.specs.Signs.{round-neg}
+use Rattle.float_laws.specs.Sizes.{Within, round-in, mul-in}
 use Rattle.forward.specs.Decisions.{sixteen}
 use Rattle.run_laws.specs.Runs.{timeOf}
 

@@ -12,8 +12,8 @@ use lib.Ieee.Fits.{add-fits}
 use lib.Ieee.Scale.{finite}
 use Rattle.common.specs.Iter.{iter}
 use Rattle.common.specs.Lists.{at, slice}
-use Rattle.laws.specs.Below.{below-none, below-next, below-three, below-four}
-use Rattle.laws.specs.Finite.{finites, add-finite, mul-finite}
+use Rattle.float_laws.specs.Below.{below-none, below-next, below-three, below-four}
+use Rattle.float_laws.specs.Finite.{finites, add-finite, mul-finite}
 use Rattle.geom.specs.Vec.{add3, scale3, zero3, minusOne}
 use Rattle.actuators.specs.Maps.{axisAt, gimbals, noCmgs}
 use Rattle.actuators.specs.declared.Cmgs.{Cmgs}

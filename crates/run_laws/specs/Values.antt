@@ -9,8 +9,8 @@ use Rattle.common.specs.Lists.{at}
 use Rattle.common.specs.declared.Fate.{Fate}
 use Rattle.common.specs.declared.Fate.the-variants.{Going, Refused}
 use Rattle.geom.specs.declared.Quat.{Quat}
-use Rattle.laws.specs.Order.{Held}
-use Rattle.laws.specs.Sizes.{Within}
+use Rattle.float_laws.specs.Order.{Held}
+use Rattle.float_laws.specs.Sizes.{Within}
 
 -- it goes on: no refusal
 abbrev pub goes : Fate → Bool

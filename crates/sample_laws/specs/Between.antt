@@ -4,13 +4,13 @@ use mathlib.Core.List.{List}
 use Prim.Native.Nat.{ℕ, _+_, _<_}
 use lib.Dec.{T}
 use lib.Ieee.{Float, binary64, sub, div, lt, le, eq}
+use Rattle.common.specs.Floats.{plusZero}
 use Rattle.common.specs.Answer.{Given}
 use Rattle.common.specs.Lists.{at}
-use Rattle.geom.specs.Vec.{plusZero}
-use Rattle.laws.specs.Exact.{exact}
+use Rattle.float_laws.specs.Exact.{exact}
 use Rattle.mean_laws.specs.Means.{Fraction, Bounded}
 use Rattle.forward.specs.declared.Node.{Node}
-use Rattle.residuals.specs.Sums.{nodeAt}
+use Rattle.forward.specs.Runs.{nodeAt}
 use Rattle.planner.specs.declared.Path.{Path}
 use Rattle.samples.specs.Answers.{ofSampled}
 use Rattle.samples.specs.Rows.{rows}

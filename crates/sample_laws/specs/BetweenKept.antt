@@ -10,13 +10,13 @@ use lib.Ieee.Scale.{finite}
 use Rattle.common.specs.Answer.{Given}
 use Rattle.common.specs.Lists.{at}
 use Rattle.common.specs.declared.Fate.the-variants.{Going}
-use Rattle.laws.specs.Finite.{mul-finite}
+use Rattle.float_laws.specs.Finite.{mul-finite}
 use Rattle.mean_laws.specs.Means.{size}
 use Rattle.problem.specs.Problems.{check}
 use Rattle.problem.specs.declared.Problem.{Problem}
 use Rattle.forward.specs.Decisions.{stepTime}
 use Rattle.forward.specs.declared.Node.{Node}
-use Rattle.residuals.specs.Sums.{nodeAt}
+use Rattle.forward.specs.Runs.{nodeAt}
 use Rattle.run_laws.specs.Checked.{FitsP}
 use Rattle.search_laws.specs.Fits.{Fit}
 use Rattle.planner.specs.Plans as Plans

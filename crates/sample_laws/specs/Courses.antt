@@ -11,17 +11,17 @@ use lib.Ieee.Fits.{add-fits}
 use Rattle.common.specs.Iter.{iter}
 use Rattle.common.specs.declared.Fate.{Fate}
 use Rattle.common.specs.declared.Fate.the-variants.{Going, Refused}
-use Rattle.laws.specs.Below.{below-none, below-next}
+use Rattle.float_laws.specs.Below.{below-none, below-next}
 use Rattle.control_rows.specs.declared.WheelLaw.the-variants.{Once}
 use Rattle.problem.specs.declared.Problem.{Problem}
 use Rattle.problem.specs.declared.CheckedProblem.{CheckedProblem}
 use Rattle.forward.specs.Decisions.{rowOf, stepTime}
-use Rattle.forward.specs.Operations.{admit, reconstructBy, reconstructUnder, reconstruct}
-use Rattle.forward.specs.Runs.{start, startOf, nodeOf, noNode, blankNode, Course, advance, courseBy, courseTurn, startCourse, course, endBy, endOf, runFrom, runUnder}
+use Rattle.forward.specs.Reconstruct.{admit, reconstructBy, reconstructUnder, reconstruct}
+use Rattle.forward.specs.Runs.{start, startOf, nodeOf, noNode, blankNode, Rollout, advance, rolloutBy, rolloutTurn, startRollout, rollout, endBy, endOf, runFrom, runUnder}
 use Rattle.forward.specs.Steps.{Body, rateNext, step}
 use Rattle.forward.specs.declared.Node.{Node}
-use Rattle.forward.specs.declared.State.{State}
-use Rattle.residuals.specs.Sums.{nodeAt}
+use Rattle.forward.specs.declared.BodyState.{BodyState}
+use Rattle.forward.specs.Runs.{nodeAt}
 use Rattle.run_laws.specs.Runs.{timeOf}
 use Rattle.run_laws.specs.Steps.{step-goes}
 use Rattle.run_laws.specs.Values.{goes, Fit3}
@@ -31,7 +31,7 @@ pub record RunNode (dt : Float) (k : ℕ) (n : Node) : Type 0 where
   pub t : n .t ≡ timeOf dt k
   pub w : Fit3 (n .w)
 
-run-node : (dt : Float) (k : ℕ) (s : State) (tau : List Float) → Fit3 (s .w) → RunNode dt k (nodeOf dt k s tau)
+run-node : (dt : Float) (k : ℕ) (s : BodyState) (tau : List Float) → Fit3 (s .w) → RunNode dt k (nodeOf dt k s tau)
 unfolding nodeOf
 run-node dt k s tau f = record { t = refl; w = f }
 
@@ -50,17 +50,17 @@ put dt k ns n l e h f =
     (λ i g. rw (getD-set-other ns k i n noNode (λ (q : i ≡ k). omega arith)) (f i g))
 
 -- ---- a run with n controls a row, from a state whose rate f64 holds
-module _ (b : Body) (n : ℕ) (z : List Float) (from : State) (F : Fit3 (from .w)) where
+module _ (b : Body) (n : ℕ) (z : List Float) (from : BodyState) (F : Fit3 (from .w)) where
   abbrev dt : Float
   dt = b .frame .dt
 
   -- after k steps that went on
-  record Kept (k : ℕ) (x : Course) : Type 0 where
+  record Kept (k : ℕ) (x : Rollout) : Type 0 where
     pub rate : Fit3 (x .s .w)
     pub nodes : Nodes dt k (x .nodes)
     pub long : length (x .nodes) ≡ 17
 
-  one-more : (k : ℕ) (x : Course) → k < 17 → Kept k x → T (goes (step b (rowOf n z k) k (x .s) .fate)) → Kept (suc k) (advance dt k x (step b (rowOf n z k) k (x .s)))
+  one-more : (k : ℕ) (x : Rollout) → k < 17 → Kept k x → T (goes (step b (rowOf n z k) k (x .s) .fate)) → Kept (suc k) (advance dt k x (step b (rowOf n z k) k (x .s)))
   unfolding advance
   one-more k x l K t = record {
     rate = subst Fit3 (sym (step-goes b (rowOf n z k) k (x .s) t .is-w2)) (rate-fits (x .s .w) _ dt);
@@ -68,31 +68,31 @@ module _ (b : Body) (n : ℕ) (z : List Float) (from : State) (F : Fit3 (from .w
     long = length-set (x .nodes) k _ ∙ K .long;
   }
 
-  turn : (k : ℕ) (x : Course) → k < 17 → (T (goes (x .fate)) → Kept k x) → T (goes (courseTurn b n z k x .fate)) → Kept (suc k) (courseTurn b n z k x)
-  unfolding courseTurn
+  turn : (k : ℕ) (x : Rollout) → k < 17 → (T (goes (x .fate)) → Kept k x) → T (goes (rolloutTurn b n z k x .fate)) → Kept (suc k) (rolloutTurn b n z k x)
+  unfolding rolloutTurn
   turn k x l K t = go (x .fate) refl t
     where
       went : T (goes (advance dt k x (step b (rowOf n z k) k (x .s)) .fate)) → T (goes (step b (rowOf n z k) k (x .s) .fate))
       went t = unfold advance in t
 
-      go : (e : Fate) → x .fate ≡ e → T (goes (courseBy e b n z k x .fate)) → Kept (suc k) (courseBy e b n z k x)
+      go : (e : Fate) → x .fate ≡ e → T (goes (rolloutBy e b n z k x .fate)) → Kept (suc k) (rolloutBy e b n z k x)
       go Going p t = one-more k x l (K (rw p tt)) (went t)
       go (Refused i j) p t = absurd (rw p at t)
 
-  turns : (k : ℕ) → k ≤ 17 → T (goes (iter (courseTurn b n z) (startCourse from) k .fate)) → Kept k (iter (courseTurn b n z) (startCourse from) k)
+  turns : (k : ℕ) → k ≤ 17 → T (goes (iter (rolloutTurn b n z) (startRollout from) k .fate)) → Kept k (iter (rolloutTurn b n z) (startRollout from) k)
   unfolding iter
   turns zero l t = record { rate = F; nodes = below-none (λ i. RunNode dt i (nodeAt (replicate 17 blankNode) i)); long = length-replicate 17 blankNode }
-  turns (suc k) l t = turn k (iter (courseTurn b n z) (startCourse from) k) l (λ t. turns k (omega arith) t) t
+  turns (suc k) l t = turn k (iter (rolloutTurn b n z) (startRollout from) k) l (λ t. turns k (omega arith) t) t
 
   run-nodes : T (goes (runFrom b n z from .fate)) → Nodes dt 17 (runFrom b n z from .nodes)
   unfolding runFrom endOf
-  run-nodes t = go (course b n z from .fate) refl t
+  run-nodes t = go (rollout b n z from .fate) refl t
     where
-      kept : T (goes (course b n z from .fate)) → Kept 16 (course b n z from)
-      kept t = unfold course in turns 16 (omega arith) t
+      kept : T (goes (rollout b n z from .fate)) → Kept 16 (rollout b n z from)
+      kept t = unfold rollout in turns 16 (omega arith) t
 
-      go : (e : Fate) → course b n z from .fate ≡ e → T (goes (endBy e b (course b n z from) .fate)) → Nodes dt 17 (endBy e b (course b n z from) .nodes)
-      go Going p t = let K = kept (rw p tt) in put dt 16 (course b n z from .nodes) _ (omega arith) (K .long) (run-node dt 16 (course b n z from .s) _ (K .rate)) (K .nodes)
+      go : (e : Fate) → rollout b n z from .fate ≡ e → T (goes (endBy e b (rollout b n z from) .fate)) → Nodes dt 17 (endBy e b (rollout b n z from) .nodes)
+      go Going p t = let K = kept (rw p tt) in put dt 16 (rollout b n z from .nodes) _ (omega arith) (K .long) (run-node dt 16 (rollout b n z from .s) _ (K .rate)) (K .nodes)
       go (Refused i j) p t = absurd t
 
 -- a run begins at rest

@@ -10,16 +10,16 @@ use lib.Ieee.{Float, nan, inf, fin, binary64, up, down, unlike, size, units, rou
 use lib.Ieee.Fits.{ofInt-fits}
 use lib.Ieee.Order.{round-mono}
 use lib.Ieee.Scale.{finite}
+use Rattle.common.specs.Floats.{one, plusZero}
 use Rattle.float.specs.Ops.{number}
-use Rattle.laws.specs.Commute.{mul-swap}
-use Rattle.laws.specs.Finite.{mul-number}
-use Rattle.laws.specs.Order.{held, lt-le-trans, place-neg}
-use Rattle.laws.specs.Place.{mid, place}
-use Rattle.laws.specs.Signs.{plus, place-plus, round-plus, round-neg, round-number, round-held}
-use Rattle.laws.specs.Sizes.{Within, round-in}
-use Rattle.laws.specs.Unit.{one}
+use Rattle.float_laws.specs.Commute.{mul-swap}
+use Rattle.float_laws.specs.Finite.{mul-number}
+use Rattle.float_laws.specs.Order.{held, lt-le-trans, place-neg}
+use Rattle.float_laws.specs.Place.{mid, place}
+use Rattle.float_laws.specs.Signs.{plus, place-plus, round-plus, round-neg, round-number, round-held}
+use Rattle.float_laws.specs.Sizes.{Within, round-in}
 use Rattle.mean_laws.specs.Fractions.{gap, gap-fine, mag-null}
-use Rattle.mean_laws.specs.Means.{Plain, plusZero}
+use Rattle.mean_laws.specs.Means.{Plain}
 use Rattle.mean_laws.specs.Weights.{nought, nought-place, none-is}
 use Rattle.run_laws.specs.Runs as Runs
 use Rattle.samples.specs.CountLaws.{given-count}
@@ -79,7 +79,7 @@ times-plus (fin false m e) j k p a b h = plus-times (ofInt binary64 (pos k)) m e
 
 -- a count that is given is 17 at least
 least-count : (duration : Float) (requested : ℕ) (alpha : Float) {n : ℕ} → sampleCount duration requested alpha ≡ Of n → 17 ≤ n
-unfolding sampleCount Counts.held
+unfolding sampleCount Counts.countWithin
 least-count duration requested alpha {n} = by (most requested (fromRate duration alpha)) (ltb 100000 (most requested (fromRate duration alpha))) (omega arith)
   where
     by : (m : ℕ) (b : Bool) → 17 ≤ m → cond b TooMany (Of m) ≡ Of n → 17 ≤ n

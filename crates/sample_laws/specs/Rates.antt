@@ -9,24 +9,24 @@ use lib.Dec.{T, ltb}
 use lib.Ieee.{Float, binary64, sub, div, lt, le, eq, fits}
 use lib.Ieee.Fits.{mul-fits, div-fits}
 use lib.Ieee.Scale.{finite}
+use Rattle.common.specs.Floats.{plusZero}
 use Rattle.common.specs.Answer.{Given}
 use Rattle.common.specs.Answer as Answer
 use Rattle.common.specs.Lists.{at}
 use Rattle.common.specs.declared.Fate.{Fate}
 use Rattle.common.specs.declared.Fate.the-variants.{Going, Refused}
-use Rattle.geom.specs.Vec.{plusZero}
-use Rattle.laws.specs.Below.{below-three}
-use Rattle.laws.specs.Exact.{exact}
-use Rattle.laws.specs.Finite.{between-finite}
-use Rattle.laws.specs.Order.{Held, held, lt-up, le-up, lt-le, not-above, not-most}
-use Rattle.laws.specs.Place.{mid, place}
+use Rattle.float_laws.specs.Below.{below-three}
+use Rattle.float_laws.specs.Exact.{exact}
+use Rattle.float_laws.specs.Finite.{between-finite}
+use Rattle.float_laws.specs.Order.{Held, held, lt-up, le-up, lt-le, not-above, not-most}
+use Rattle.float_laws.specs.Place.{mid, place}
 use Rattle.mean_laws.specs.Fractions.{plus-from0, fraction-later}
 use Rattle.mean_laws.specs.Means.{Plain, Fraction, Bounded}
 use Rattle.mean_laws.specs.MeanLaws.{mean-bounded, mean-null, first-bounded, second-bounded}
 use Rattle.mean_laws.specs.Weights.{plain-held}
 use Rattle.forward.specs.StepLaws.{refused-going}
 use Rattle.forward.specs.declared.Node.{Node}
-use Rattle.residuals.specs.Sums.{nodeAt}
+use Rattle.forward.specs.Runs.{nodeAt}
 use Rattle.run_laws.specs.Values.{Fine3}
 use Rattle.run_laws.specs.Runs as Runs
 use Rattle.samples.specs.Answers.{ofSampled}

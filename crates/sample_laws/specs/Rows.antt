@@ -6,12 +6,13 @@ use native.Mathlib.Omega.{arith}
 use lib.ListN.{getD, length, set, replicate, length-set, length-replicate}
 use lib.Seq.{getD-set-same, getD-set-other}
 use lib.Ieee.{Float}
+use Rattle.common.specs.Floats as Floats
 use Rattle.common.specs.Lists.{at}
 use Rattle.geom.specs.Vec as Vec
-use Rattle.laws.specs.Below.{below-three, below-next, below-turns}
+use Rattle.float_laws.specs.Below.{below-three, below-next, below-turns}
 use Rattle.forward.specs.Runs.{noNode}
 use Rattle.forward.specs.declared.Node.{Node}
-use Rattle.residuals.specs.Sums.{nodeAt}
+use Rattle.forward.specs.Runs.{nodeAt}
 use Rattle.samples.specs.Samples.{time, rate}
 use Rattle.samples.specs.Rows.{row, rows, rowTurn}
 
@@ -32,8 +33,8 @@ fill nodes n h l s =
 pub row-is : (nodes : List Node) (k : ℕ) → k < 17 → Vec.row (rows nodes) k ≡ row (nodeAt nodes k)
 unfolding rows
 row-is nodes =
-    below-turns (Filled nodes) (rowTurn nodes) (replicate 17 (replicate 22 Vec.plusZero)) 17 (fill nodes)
-    (record { long = length-replicate 17 (replicate 22 Vec.plusZero); done = λ k b. absurd (omega (arith, b)) }) .done
+    below-turns (Filled nodes) (rowTurn nodes) (replicate 17 (replicate 22 Floats.plusZero)) 17 (fill nodes)
+    (record { long = length-replicate 17 (replicate 22 Floats.plusZero); done = λ k b. absurd (omega (arith, b)) }) .done
 
 pub time-is : (nodes : List Node) (k : ℕ) → k < 17 → time (rows nodes) k ≡ nodeAt nodes k .t
 unfolding row

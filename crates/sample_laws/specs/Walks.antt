@@ -7,7 +7,7 @@ use Prim.Native.Nat.{ℕ, suc, _+_}
 use native.Mathlib.Omega.{arith}
 use lib.Dec.{T}
 use lib.Ieee.{Float, lt, le}
-use Rattle.laws.specs.Below.{below-turns}
+use Rattle.float_laws.specs.Below.{below-turns}
 use Rattle.samples.specs.Samples.{time, onward, earlier}
 use Rattle.samples.specs.Laws.{has-next}
 

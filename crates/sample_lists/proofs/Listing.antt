@@ -10,27 +10,28 @@ use borrow.Author.Tests.{lt-ltb, le-ltb}
 use lib.ListN.{length, set, drop, getD, length-append}
 use lib.Seq.{set-at, drop-cons}
 use lib.Ieee.{Float}
-use Rattle.common.specs.Iter.{iter, iter-none, iter-next, iter-stays}
+use Rattle.common.specs.Iter.{iter}
+use Rattle.common.specs.IterLaws.{iter-none, iter-next, iter-stays}
 use Rattle.common.specs.declared.Fate.the-variants as Fate
-use Rattle.samples.specs.Counts.{fromRate, held, sampleCount}
+use Rattle.samples.specs.Counts.{fromRate, countWithin, sampleCount}
 use Rattle.samples.specs.Samples.{sample}
 use Rattle.samples.specs.SampleLaws.{in-count}
 use Rattle.samples.specs.declared.Count.the-variants as Count
 use Rattle.samples.specs.declared.Sampled.{Sampled}
 use Rattle.sample_lists.specs.declared.Listed.{Listed}
-use Rattle.sample_lists.specs.Lists.{numbers, ended, onwardBy, onward, listing, sampleList, Lists, Listing}
+use Rattle.sample_lists.specs.Lists.{numbers, listingWith, onwardBy, onward, listing, sampleList, Lists, Listing}
 use Rattle.sample_lists.specs.StagesInner.{timed}
 
 -- k samples have their rows, and the list goes on
 pub record Going (sample : ℕ → Sampled) (k : ℕ) (out out′ : List (List Float)) : Type 0 where
   pub rows : List (List Float)
-  pub is : ended Fate.Going rows ≡ listing sample k
+  pub is : listingWith Fate.Going rows ≡ listing sample k
   pub count : length rows ≡ k
   pub left : out′ ≡ rows ++ drop k out
 
 pub goes-first : (sample : ℕ → Sampled) (out : List (List Float)) → Going sample 0 out out
 unfolding listing
-goes-first sample out = record { rows = []; is = iter-none (onward sample) (ended Fate.Going []); count = refl; left = refl }
+goes-first sample out = record { rows = []; is = iter-none (onward sample) (listingWith Fate.Going []); count = refl; left = refl }
 
 module _ (sample : ℕ → Sampled) {k : ℕ} {out out′ : List (List Float)} {d : Sampled} (g : Going sample k out out′) (e : d ≡ sample k) where
   pub goes-next : k < length out → d .fate ≡ Fate.Going → {row : List Float} → row ≡ numbers (d .sample) → Going sample (k + 1) out (set out′ k row)
@@ -38,7 +39,7 @@ module _ (sample : ℕ → Sampled) {k : ℕ} {out out′ : List (List Float)} {
   goes-next h f {row} n =
       record {
         rows = g .rows ++ row ∷ [];
-        is = iter-next (onward sample) (ended Fate.Going []) k (g .is) (rw (← e, f, n));
+        is = iter-next (onward sample) (listingWith Fate.Going []) k (g .is) (rw (← e, f, n));
         count = length-append (g .rows) (row ∷ []) ∙ omega (arith, g .count);
         left =
             rw (g .left, drop-cons out k [] h, add-one k) (set-at (g .rows) (getD out k []) (drop (suc k) out) row k (g .count) ∙ sym (append-assoc (g .rows) (row ∷ []) (drop (suc k) out)));
@@ -47,7 +48,7 @@ module _ (sample : ℕ → Sampled) {k : ℕ} {out out′ : List (List Float)} {
   pub goes-cut : {n p m : ℕ} → k < m → d .fate ≡ Fate.Refused n p → Lists (listing sample m) out (record { fate = Fate.Refused n p; rows = k }) out′
   unfolding listing onward
   goes-cut {n} {p} {m} h f =
-      let stopped : ended (Fate.Refused n p) (g .rows) ≡ iter (onward sample) (ended Fate.Going []) m = iter-stays (onward sample) (ended Fate.Going []) (k + 1) m (omega arith) (iter-next (onward sample) (ended Fate.Going []) k (g .is) (rw (← e, f))) (λ j. refl) in
+      let stopped : listingWith (Fate.Refused n p) (g .rows) ≡ iter (onward sample) (listingWith Fate.Going []) m = iter-stays (onward sample) (listingWith Fate.Going []) (k + 1) m (omega arith) (iter-next (onward sample) (listingWith Fate.Going []) k (g .is) (rw (← e, f))) (λ j. refl) in
       record { fate = rw (← stopped); count = rw (← stopped) (sym (g .count)); rows = rw (← stopped, g .count) (g .left) }
 
 pub goes-whole : (sample : ℕ → Sampled) {k : ℕ} {out out′ : List (List Float)} → Going sample k out out′ → Lists (listing sample k) out (record { fate = Fate.Going; rows = k }) out′
@@ -61,7 +62,7 @@ same f g (suc n) h = rw (same f g n (λ k b. h k (omega (arith, b))), h n (omega
 
 -- a count that is given is not 0
 pub some-count : (duration : Float) (requested : ℕ) (alpha : Float) {n : ℕ} → sampleCount duration requested alpha ≡ Count.Of n → 0 < n
-unfolding sampleCount held
+unfolding sampleCount countWithin
 some-count duration requested alpha {n} = by (max requested (fromRate duration alpha)) (ltb 100000 (max (max requested (fromRate duration alpha)) 17))
   where
     by : (m : ℕ) (b : Bool) → cond b Count.TooMany (Count.Of (max m 17)) ≡ Count.Of n → 0 < n

@@ -34,17 +34,17 @@ pub record Listing : Type 0 where
   pub fate : Fate
   pub rows : List (List Float)
 
-abbrev pub ended : Fate → List (List Float) → Listing
-ended f rows = record { fate = f; rows = rows }
+abbrev pub listingWith : Fate → List (List Float) → Listing
+listingWith f rows = record { fate = f; rows = rows }
 
 -- one more sample: its row, or its refusal
 abbrev pub addedBy : Fate → PathSample → List (List Float) → Listing
-addedBy Fate.Going s rows = ended Fate.Going (rows ++ numbers s ∷ [])
-addedBy (Fate.Refused n place) s rows = ended (Fate.Refused n place) rows
+addedBy Fate.Going s rows = listingWith Fate.Going (rows ++ numbers s ∷ [])
+addedBy (Fate.Refused n place) s rows = listingWith (Fate.Refused n place) rows
 
 abbrev pub onwardBy : Fate → List (List Float) → Sampled → Listing
 onwardBy Fate.Going rows s = addedBy (s .fate) (s .sample) rows
-onwardBy (Fate.Refused n place) rows s = ended (Fate.Refused n place) rows
+onwardBy (Fate.Refused n place) rows s = listingWith (Fate.Refused n place) rows
 
 -- a list that ended stays
 unfoldable pub onward : (ℕ → Sampled) → ℕ → Listing → Listing
@@ -52,12 +52,12 @@ onward sample k l = onwardBy (l .fate) (l .rows) (sample k)
 
 -- the list of the first n samples
 unfoldable pub listing : (ℕ → Sampled) → ℕ → Listing
-listing sample n = iter (onward sample) (ended Fate.Going []) n
+listing sample n = iter (onward sample) (listingWith Fate.Going []) n
 
 -- `lent` rows are lent: fewer than there are samples get nothing, and 99 is told, which is no refusal's number
 abbrev pub sampleListBy : Count → (ℕ → Sampled) → ℕ → Listing
-sampleListBy Count.TooMany sample lent = ended (Fate.Refused 20 0) []
-sampleListBy (Count.Of count) sample lent = cond (ltb lent count) (ended (Fate.Refused 99 0) []) (listing sample count)
+sampleListBy Count.TooMany sample lent = listingWith (Fate.Refused 20 0) []
+sampleListBy (Count.Of count) sample lent = cond (ltb lent count) (listingWith (Fate.Refused 99 0) []) (listing sample count)
 
 unfoldable pub sampleList : List (List Float) → Float → Float → List (List Float) → ℕ → Float → ℕ → Listing
 sampleList j tol duration nodes requested alpha lent =
@@ -68,11 +68,15 @@ abbrev pub ofListing : Listing → Answer (List (List Float))
 ofListing l = ofFate (l .rows) (l .fate)
 
 -- the lent rows at exit: the list's rows, then what stood after them
-abbrev pub over : Listing → List (List Float) → List (List Float)
-over l out = l .rows ++ drop (length (l .rows)) out
+abbrev pub overRows : Listing → List (List Float) → List (List Float)
+overRows l out = l .rows ++ drop (length (l .rows)) out
 
 -- what is told of a list, and the lent rows
 pub record Lists (l : Listing) (out : List (List Float)) (r : Listed) (out′ : List (List Float)) : Type 0 where
   pub fate : r .fate ≡ l .fate
   pub count : r .rows ≡ length (l .rows)
-  pub rows : out′ ≡ over l out
+  pub rows : out′ ≡ overRows l out
+
+-- all samples of a path into the rows `out`
+abbrev pub Gives : List (List Float) → Float → Float → List (List Float) → ℕ → Float → List (List Float) → Listed → List (List Float) → Type 0
+Gives j tol duration nodes requested alpha out r out′ = Lists (sampleList j tol duration nodes requested alpha (length out)) out r out′

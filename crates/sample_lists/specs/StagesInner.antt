@@ -12,6 +12,7 @@ use Rattle.geom.specs.Quats.{norm3, expAt}
 use Rattle.samples.specs.Samples.{time, attitude, rate, momentum, mean, rateChange, rotation, atNode, turnedBy, onward, interpolate, timeOf}
 use Rattle.samples.specs.declared.PathSample.{PathSample}
 use Rattle.samples.specs.declared.Sampled.{Sampled}
+use Rattle.sample_lists.specs.Lists.{Listing, listing}
 use Rattle.sample_lists.specs.declared.stages.Placed.{Placed}
 use Rattle.sample_lists.specs.declared.stages.Turning.{Turning}
 
@@ -61,18 +62,22 @@ placedAt nodes steps t i =
 unfoldable pub placed : List (List Float) → List (List Float) → Float → Placed
 placed nodes steps t = placedAt nodes steps t (walk nodes t)
 
+-- p is the sample at t, placed, and a walk to a later time can go on from its node
+abbrev pub PlacedFor : List (List Float) → List (List Float) → Float → Placed → Type 0
+PlacedFor nodes steps t p = (p ≡ placed nodes steps t) × (p .i < 16) × Passed nodes (p .t) (p .i)
+
 unfoldable pub turning : Placed → Turning
 turning p = record { t = p .t; i = p .i; s = p .s; turn = expAt (p .v) (p .n) }
 
 -- a sample's numbers but its attitude, which is node i's: at the time t, s after that node
-abbrev pub held : List (List Float) → List (List Float) → List (List Float) → ℕ → Float → Float → PathSample
-held j nodes steps i t s =
+abbrev pub countWithin : List (List Float) → List (List Float) → List (List Float) → ℕ → Float → Float → PathSample
+countWithin j nodes steps i t s =
     let w = mean (rate nodes i) (rate nodes (i + 1)) (div binary64 s (stepTime steps i)) in
     let h = mean (momentum nodes i) (momentum nodes (i + 1)) (div binary64 s (stepTime steps i)) in
     record { t = t; q = attitude nodes i; w = w; tau = Vec.add3 (stepTorque steps i) (Vec.cross w (Vec.add3 (Vec.applyTensor j w) h)); h = h }
 
 unfoldable pub amidst : List (List Float) → Float → List (List Float) → List (List Float) → Turning → ℕ → Sampled
-amidst j tol nodes steps p index = turnedBy (p .turn) tol (held j nodes steps (p .i) (p .t) (p .s)) index
+amidst j tol nodes steps p index = turnedBy (p .turn) tol (countWithin j nodes steps (p .i) (p .t) (p .s)) index
 
 unfoldable pub finished : List (List Float) → Float → List (List Float) → List (List Float) → Turning → ℕ → Sampled
 finished j tol nodes steps p index =
@@ -83,3 +88,6 @@ finished j tol nodes steps p index =
 -- sample number k of count, by its time
 abbrev pub timed : List (List Float) → Float → Float → List (List Float) → ℕ → ℕ → Sampled
 timed j tol duration nodes count k = interpolate j tol nodes (timeOf duration count k) k
+
+abbrev pub timedList : List (List Float) → Float → Float → List (List Float) → ℕ → Listing
+timedList j tol duration nodes count = listing (timed j tol duration nodes count) count

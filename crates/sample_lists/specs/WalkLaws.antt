@@ -9,9 +9,10 @@ use native.Mathlib.Omega.{arith}
 use lib.Dec.{T}
 use lib.Ieee.{Float, binary64, lt, le, fits}
 use lib.Ieee.Bits.{is-true}
-use Rattle.laws.specs.Below.{below-next, below-none}
-use Rattle.laws.specs.Order.{lt-le-trans}
-use Rattle.common.specs.Iter.{iter, iter-none, iter-next, iter-stays}
+use Rattle.float_laws.specs.Below.{below-next, below-none}
+use Rattle.float_laws.specs.Order.{lt-le-trans}
+use Rattle.common.specs.Iter.{iter}
+use Rattle.common.specs.IterLaws.{iter-none, iter-next, iter-stays}
 use Rattle.samples.specs.Samples.{time, onward, earlier}
 use Rattle.sample_lists.specs.StagesInner.{walk, Passed}
 

@@ -1,19 +1,19 @@
-// All dense samples of a path as one list, into lent memory: what `samples::sample` gives for each index. The count is taken once, and what is the same for all samples
-// between two nodes is formed once.
+// All dense samples of a path as one list, into lent memory: what `samples::sample` gives for each index. The count is taken once, what is the same for all samples between
+// two nodes is formed once, and the search for a sample's interval goes on from the one before.
 ghost use mathlib.Core.Path.{_≡_};
 ghost use Prim.Native.Nat.{_<_, _≤_};
 ghost use lib.ListN.{length};
 ghost use Rattle.sample_lists.specs.Lists as Lists;
 ghost use Rattle.sample_lists.specs.StagesInner as Stages;
-use self::stages::Turning;
 use self::stages::finish;
 use self::stages::numbers;
 use self::stages::place;
 use self::stages::turn;
 use self::stages::unplaced;
+use self::stages::unturned;
 use self::steps::step_rows;
 use common::Fate;
-use geom::Turned;
+use common::SOLVER_NODES;
 use samples::Count;
 use samples::sample_count;
 
@@ -40,21 +40,16 @@ fn put_rows(
     inertia: [[f64; 3]; 3],
     tolerance: f64,
     duration: f64,
-    nodes: &[[f64; 22]; 17],
+    nodes: &[[f64; 22]; SOLVER_NODES],
     count: usize,
     out: &mut [[f64; 14]],
 ) -> Listed
     requires { ⌜ (0 < count) × (count ≤ 100000) × (count ≤ length (now out)) ⌝ }
-    ensures { λ r. ⌜ Lists.Lists (Lists.listing (Stages.timed inertia tolerance duration (now (nodes .entry)) count) count) (now (out .entry)) r (now (out .exit)) ⌝ }
+    ensures { λ r. ⌜ Lists.Lists (Stages.timedList inertia tolerance duration (now (nodes .entry)) count) (now (out .entry)) r (now (out .exit)) ⌝ }
 {
     let steps = step_rows(inertia, nodes);
     let mut placed = unplaced();
-    let mut turning = Turning {
-        t: 0.0,
-        i: 0,
-        s: 0.0,
-        turn: Turned::Outside,
-    };
+    let mut turning = unturned();
     let mut j: usize = 0;
     while j < count + 2 {
         let turned = turn(placed);
@@ -98,12 +93,12 @@ pub fn sample_list(
     inertia: [[f64; 3]; 3],
     tolerance: f64,
     duration: f64,
-    nodes: &[[f64; 22]; 17],
+    nodes: &[[f64; 22]; SOLVER_NODES],
     requested: usize,
     alpha: f64,
     out: &mut [[f64; 14]],
 ) -> Listed
-    ensures { λ r. ⌜ Lists.Lists (Lists.sampleList inertia tolerance duration (now (nodes .entry)) requested alpha (length (now (out .entry)))) (now (out .entry)) r (now (out .exit)) ⌝ }
+    ensures { λ r. ⌜ Lists.Gives inertia tolerance duration (now (nodes .entry)) requested alpha (now (out .entry)) r (now (out .exit)) ⌝ }
 {
     let counted = sample_count(duration, requested, alpha);
     match counted {

@@ -8,6 +8,7 @@ ghost use Rattle.sample_lists.specs.StagesInner as Stages;
 use super::steps::step_change;
 use super::steps::step_time;
 use super::steps::step_torque;
+use common::SOLVER_NODES;
 use geom::Turned;
 use samples::PathSample;
 use samples::Sampled;
@@ -52,8 +53,20 @@ pub fn unplaced() -> Placed
     }
 }
 
+// Before the first sample is turned.
+pub fn unturned() -> Turning
+    ensures { λ r. ⌜ r .i ≡ 0 ⌝ }
+{
+    Turning {
+        t: 0.0,
+        i: 0,
+        s: 0.0,
+        turn: Turned::Outside,
+    }
+}
+
 // The last node before t, by the first 16. All nodes up to `from` but the first are before t.
-fn walk(nodes: &[[f64; 22]; 17], from: usize, t: f64) -> usize
+fn walk(nodes: &[[f64; 22]; SOLVER_NODES], from: usize, t: f64) -> usize
     requires { ⌜ (from < 16) × Stages.Passed (now nodes) t from ⌝ }
     ensures { λ r. ⌜ (r ≡ Stages.walk (now (nodes .entry)) t) × (r < 16) × Stages.Passed (now (nodes .entry)) t r ⌝ }
 {
@@ -70,7 +83,7 @@ fn walk(nodes: &[[f64; 22]; 17], from: usize, t: f64) -> usize
 // Stage 1 of sample k. The walk along the nodes goes on from node `from`, where the walk to the time `since` ended, unless the time has fallen.
 pub fn place(
     duration: f64,
-    nodes: &[[f64; 22]; 17],
+    nodes: &[[f64; 22]; SOLVER_NODES],
     steps: &[[f64; 7]; 16],
     count: usize,
     from: usize,
@@ -78,7 +91,7 @@ pub fn place(
     k: usize,
 ) -> Placed
     requires { ⌜ (k < count) × (count ≤ 100000) × (from < 16) × Stages.Passed (now nodes) since from ⌝ }
-    ensures { λ r. ⌜ (r ≡ Stages.placed (now (nodes .entry)) (now (steps .entry)) (Samples.timeOf duration count k)) × (r .i < 16) × Stages.Passed (now (nodes .entry)) (r .t) (r .i) ⌝ }
+    ensures { λ r. ⌜ Stages.PlacedFor (now (nodes .entry)) (now (steps .entry)) (Samples.timeOf duration count k) r ⌝ }
 {
     let t = time_of(duration, count, k);
     let start = if since <= t { from } else { 0 };
@@ -113,7 +126,7 @@ pub fn turn(p: Placed) -> Turning
 fn amidst(
     inertia: [[f64; 3]; 3],
     tolerance: f64,
-    nodes: &[[f64; 22]; 17],
+    nodes: &[[f64; 22]; SOLVER_NODES],
     steps: &[[f64; 7]; 16],
     p: Turning,
     index: usize,
@@ -143,7 +156,7 @@ fn amidst(
 pub fn finish(
     inertia: [[f64; 3]; 3],
     tolerance: f64,
-    nodes: &[[f64; 22]; 17],
+    nodes: &[[f64; 22]; SOLVER_NODES],
     steps: &[[f64; 7]; 16],
     p: Turning,
     index: usize,

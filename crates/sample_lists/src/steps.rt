@@ -2,12 +2,13 @@
 ghost use mathlib.Core.Path.{_≡_};
 ghost use Prim.Native.Nat.{_<_};
 ghost use Rattle.sample_lists.specs.StagesInner as Stages;
+use common::SOLVER_NODES;
 use samples::nodes::rate;
 use samples::nodes::rate_change;
 use samples::nodes::time;
 
 // The numbers of the step from node i.
-fn step_row(inertia: [[f64; 3]; 3], nodes: &[[f64; 22]; 17], i: usize) -> [f64; 7]
+fn step_row(inertia: [[f64; 3]; 3], nodes: &[[f64; 22]; SOLVER_NODES], i: usize) -> [f64; 7]
     requires { ⌜ i < 16 ⌝ }
     ensures { λ r. ⌜ r ≡ Stages.stepRow inertia (now (nodes .entry)) i ⌝ }
 {
@@ -19,7 +20,7 @@ fn step_row(inertia: [[f64; 3]; 3], nodes: &[[f64; 22]; 17], i: usize) -> [f64; 
 }
 
 // Those of all 16.
-pub fn step_rows(inertia: [[f64; 3]; 3], nodes: &[[f64; 22]; 17]) -> [[f64; 7]; 16]
+pub fn step_rows(inertia: [[f64; 3]; 3], nodes: &[[f64; 22]; SOLVER_NODES]) -> [[f64; 7]; 16]
     ensures { λ r. ⌜ Stages.StepRows inertia (now (nodes .entry)) r ⌝ }
 {
     let blank = [0.0; 7];

@@ -7,6 +7,7 @@ ghost use Rattle.planner.specs.Plans as Plans;
 ghost use Rattle.sample_text.specs.SampleTexts as SampleTexts;
 ghost use Rattle.sample_text.specs.SampleTexts.{Gives, planCourse};
 use common::Fate;
+use common::SOLVER_NODES;
 use forward::Node;
 use geom::tensor;
 use plan_text::plan_read;
@@ -32,7 +33,7 @@ pub struct Course {
     pub tolerance: f64,
     pub alpha: f64,
     pub duration: f64,
-    pub nodes: [Node; 17],
+    pub nodes: [Node; SOLVER_NODES],
 }
 
 // A dense sample of a text's plan, or the refusal of either, and the runs of a refused plan.

@@ -15,11 +15,11 @@ use lib.Ieee.Exact.{HasValue}
 use lib.Ieee.Fits.{down-pos}
 use lib.Ieee.Order.{round-mono}
 use Rattle.float.specs.Ops as Ops
-use Rattle.laws.specs.Numbers.{lt-nan-r}
-use Rattle.laws.specs.Order.{le-up, up-nlt}
-use Rattle.laws.specs.Place.{same-lt}
-use Rattle.laws.specs.Signs.{plus, round-plus, round-neg, round-held}
-use Rattle.samples.specs.Counts.{spacing, fromRate, most, held, sampleCount}
+use Rattle.float_laws.specs.Numbers.{lt-nan-r}
+use Rattle.float_laws.specs.Order.{le-up, up-nlt}
+use Rattle.float_laws.specs.Place.{same-lt}
+use Rattle.float_laws.specs.Signs.{plus, round-plus, round-neg, round-held}
+use Rattle.samples.specs.Counts.{spacing, fromRate, most, countWithin, sampleCount}
 use Rattle.samples.specs.declared.Count.the-variants.{Of, TooMany}
 use Rattle.samples.specs.CountInner.{Steps}
 
@@ -221,11 +221,11 @@ module _ (duration : Float) (requested : ℕ) (alpha : Float) {v : Float} {n : �
   rated = rw d
 
   many : 100000 < most requested (ceiling steps + 1) → TooMany ≡ sampleCount duration requested alpha
-  unfolding sampleCount held
+  unfolding sampleCount countWithin
   many h = rw (← rated, is-true (ltb 100000 (most requested (ceiling steps + 1))) (lt→ltb 100000 (most requested (ceiling steps + 1)) h))
 
   few : {k : ℕ} → k ≡ most requested (ceiling steps + 1) → k ≤ 100000 → Of k ≡ sampleCount duration requested alpha
-  unfolding sampleCount held
+  unfolding sampleCount countWithin
   few {k} q h = rw (← rated, ← q, is-false (ltb 100000 k) (le→nltb 100000 k h))
 
   pub many-requested : 100000 < n → TooMany ≡ sampleCount duration requested alpha
@@ -250,7 +250,7 @@ module _ (duration : Float) (requested : ℕ) (alpha : Float) {v : Float} {n : �
 
 -- a count that is given is at most 100,000
 pub given-count : (duration : Float) (requested : ℕ) (alpha : Float) {n : ℕ} → sampleCount duration requested alpha ≡ Of n → n ≤ 100000
-unfolding sampleCount held
+unfolding sampleCount countWithin
 given-count duration requested alpha {n} = by (most requested (fromRate duration alpha)) (ltb 100000 (most requested (fromRate duration alpha))) refl
   where
     by : (m : ℕ) (b : Bool) → ltb 100000 m ≡ b → cond b TooMany (Of m) ≡ Of n → n ≤ 100000

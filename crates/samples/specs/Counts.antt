@@ -34,8 +34,8 @@ abbrev pub most : ℕ → ℕ → ℕ
 most requested rate = max (max requested rate) 17
 
 -- 100,000 samples are given, 100,001 refused
-unfoldable pub held : ℕ → Count
-held count = cond (ltb 100000 count) TooMany (Of count)
+unfoldable pub countWithin : ℕ → Count
+countWithin count = cond (ltb 100000 count) TooMany (Of count)
 
 unfoldable pub sampleCount : Float → ℕ → Float → Count
-sampleCount duration requested alpha = held (most requested (fromRate duration alpha))
+sampleCount duration requested alpha = countWithin (most requested (fromRate duration alpha))

@@ -8,17 +8,17 @@ use Prim.Native.Nat.{ℕ, zero, suc, _+_, _≤_, _<_}
 use native.Mathlib.Nat.{eq-or-lt-of-le}
 use native.Mathlib.Omega.{arith}
 use lib.Ieee.{Float, lt, le}
+use Rattle.common.specs.Floats.{one}
 use Rattle.common.specs.Iter.{iter}
 use Rattle.common.specs.Lists.{at}
 use Rattle.common.specs.declared.Fate.the-variants.{Going}
-use Rattle.geom.specs.Vec.{one}
 use Rattle.geom.specs.Quats.{expSo3, normalized, quatMul}
 use Rattle.geom.specs.declared.Normal.{Normal}
 use Rattle.geom.specs.declared.Normal.the-variants as Normal
 use Rattle.geom.specs.declared.Turned.{Turned}
 use Rattle.geom.specs.declared.Turned.the-variants as Turned
-use Rattle.laws.specs.Below.{below-three, below-turns}
-use Rattle.laws.specs.Exact.{exact}
+use Rattle.float_laws.specs.Below.{below-three, below-turns}
+use Rattle.float_laws.specs.Exact.{exact}
 use Rattle.mean_laws.specs.Means.{Plain}
 use Rattle.mean_laws.specs.Weights.{nought, mean-first, mean-last}
 use Rattle.forward.specs.StepLaws.{refused-going}

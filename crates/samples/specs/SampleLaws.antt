@@ -7,7 +7,8 @@ use lib.Dec.{ltb, lt→ltb}
 use lib.Arith.{le→nltb}
 use lib.Ieee.{Float, binary64, sub, div, lt, le, eq}
 use lib.Ieee.Bits.{is-true, is-false}
-use Rattle.common.specs.Iter.{iter, iter-next, iter-stays}
+use Rattle.common.specs.Iter.{iter}
+use Rattle.common.specs.IterLaws.{iter-next, iter-stays}
 use Rattle.geom.specs.Vec.{eulerLhs}
 use Rattle.geom.specs.declared.Quat.{Quat}
 use Rattle.samples.specs.Counts.{sampleCount}

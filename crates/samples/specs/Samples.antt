@@ -5,6 +5,7 @@ use mathlib.Core.Bool.{cond}
 use lib.Dec.{ltb}
 use lib.IntN.{pos}
 use lib.Ieee.{Float, binary64, sub, mul, div, lt, le, ofInt}
+use Rattle.common.specs.Floats as Floats
 use Rattle.common.specs.Iter.{iter}
 use Rattle.common.specs.Lists.{at}
 use Rattle.common.specs.declared.Fate.the-variants as Fate
@@ -25,7 +26,7 @@ use Rattle.samples.specs.declared.Sampled.{Sampled}
 abbrev pub refused : ℕ → ℕ → Sampled
 refused n place = record {
   fate = Fate.Refused n place;
-  sample = record { t = Vec.plusZero; q = quat Vec.plusZero Vec.plusZero Vec.plusZero Vec.plusZero; w = Vec.zero3; tau = Vec.zero3; h = Vec.zero3 };
+  sample = record { t = Floats.plusZero; q = quat Floats.plusZero Floats.plusZero Floats.plusZero Floats.plusZero; w = Vec.zero3; tau = Vec.zero3; h = Vec.zero3 };
 }
 
 abbrev pub given : PathSample → Sampled
@@ -55,11 +56,11 @@ atNode nodes k t = given (record { t = t; q = attitude nodes k; w = rate nodes k
 
 -- the weighted mean, the fraction f of the way from a to b
 unfoldable pub mean : List Float → List Float → Float → List Float
-mean a b f = Vec.add3 (Vec.scale3 a (sub binary64 Vec.one f)) (Vec.scale3 b f)
+mean a b f = Vec.add3 (Vec.scale3 a (sub binary64 Floats.one f)) (Vec.scale3 b f)
 
 -- the rate's change from a to b over the time dt
 unfoldable pub rateChange : List Float → List Float → Float → List Float
-rateChange a b dt = Vec.scale3 (Vec.sub3 b a) (div binary64 Vec.one dt)
+rateChange a b dt = Vec.scale3 (Vec.sub3 b a) (div binary64 Floats.one dt)
 
 -- the rotation over the time s from the rate w, which changes by wd
 unfoldable pub rotation : List Float → List Float → Float → List Float
@@ -112,7 +113,7 @@ interpolate j tol nodes t index =
 
 -- the time of sample index of count, which divide the duration evenly
 unfoldable pub timeOf : Float → ℕ → ℕ → Float
-timeOf duration count index = div binary64 (mul binary64 duration (ofInt binary64 (pos index))) (sub binary64 (ofInt binary64 (pos count)) Vec.one)
+timeOf duration count index = div binary64 (mul binary64 duration (ofInt binary64 (pos index))) (sub binary64 (ofInt binary64 (pos count)) Floats.one)
 
 abbrev pub sampleBy : Count → List (List Float) → Float → Float → List (List Float) → ℕ → Sampled
 sampleBy Count.TooMany j tol duration nodes index = refused 20 0

@@ -10,7 +10,11 @@ use self::counts::whole_above;
 use self::nodes::refused;
 use self::nodes::time_of;
 use common::Fate;
+use common::SOLVER_NODES;
 use geom::Quat;
+
+// The most dense samples of a path.
+const MAX_SAMPLES: usize = 100_000;
 
 pub mod counts;
 pub mod nodes;
@@ -43,7 +47,7 @@ pub fn sample_count(duration: f64, requested: usize, alpha: f64) -> Count
     ensures { λ r. ⌜ r ≡ Counts.sampleCount duration requested alpha ⌝ }
 {
     let least = larger(requested, 17);
-    if least > 100_000 {
+    if least > MAX_SAMPLES {
         return Count::TooMany;
     }
     let steps = duration / spacing(alpha);
@@ -62,7 +66,7 @@ pub fn sample(
     inertia: [[f64; 3]; 3],
     tolerance: f64,
     duration: f64,
-    nodes: &[[f64; 22]; 17],
+    nodes: &[[f64; 22]; SOLVER_NODES],
     requested: usize,
     alpha: f64,
     index: usize,

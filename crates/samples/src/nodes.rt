@@ -9,6 +9,7 @@ use super::PathSample;
 use super::Sampled;
 use super::counts::whole;
 use common::Fate;
+use common::SOLVER_NODES;
 use geom::Normal;
 use geom::Quat;
 use geom::Turned;
@@ -45,14 +46,14 @@ pub fn time_of(duration: f64, count: usize, index: usize) -> f64
     duration * whole(index) / (whole(count) - 1.0)
 }
 
-pub fn time(nodes: &[[f64; 22]; 17], k: usize) -> f64
+pub fn time(nodes: &[[f64; 22]; SOLVER_NODES], k: usize) -> f64
     requires { ⌜ k < 17 ⌝ }
     ensures { λ r. ⌜ r ≡ Samples.time (now (nodes .entry)) k ⌝ }
 {
     nodes[k][0]
 }
 
-pub fn attitude(nodes: &[[f64; 22]; 17], k: usize) -> Quat
+pub fn attitude(nodes: &[[f64; 22]; SOLVER_NODES], k: usize) -> Quat
     requires { ⌜ k < 17 ⌝ }
     ensures { λ r. ⌜ r ≡ Samples.attitude (now (nodes .entry)) k ⌝ }
 {
@@ -64,21 +65,21 @@ pub fn attitude(nodes: &[[f64; 22]; 17], k: usize) -> Quat
     }
 }
 
-pub fn rate(nodes: &[[f64; 22]; 17], k: usize) -> [f64; 3]
+pub fn rate(nodes: &[[f64; 22]; SOLVER_NODES], k: usize) -> [f64; 3]
     requires { ⌜ k < 17 ⌝ }
     ensures { λ r. ⌜ r ≡ Samples.rate (now (nodes .entry)) k ⌝ }
 {
     [nodes[k][5], nodes[k][6], nodes[k][7]]
 }
 
-fn torque(nodes: &[[f64; 22]; 17], k: usize) -> [f64; 3]
+fn torque(nodes: &[[f64; 22]; SOLVER_NODES], k: usize) -> [f64; 3]
     requires { ⌜ k < 17 ⌝ }
     ensures { λ r. ⌜ r ≡ Samples.torque (now (nodes .entry)) k ⌝ }
 {
     [nodes[k][8], nodes[k][9], nodes[k][10]]
 }
 
-pub fn momentum(nodes: &[[f64; 22]; 17], k: usize) -> [f64; 3]
+pub fn momentum(nodes: &[[f64; 22]; SOLVER_NODES], k: usize) -> [f64; 3]
     requires { ⌜ k < 17 ⌝ }
     ensures { λ r. ⌜ r ≡ Samples.momentum (now (nodes .entry)) k ⌝ }
 {
@@ -86,7 +87,7 @@ pub fn momentum(nodes: &[[f64; 22]; 17], k: usize) -> [f64; 3]
 }
 
 // Node k, at the sample's own time.
-pub fn at_node(nodes: &[[f64; 22]; 17], k: usize, t: f64) -> Sampled
+pub fn at_node(nodes: &[[f64; 22]; SOLVER_NODES], k: usize, t: f64) -> Sampled
     requires { ⌜ k < 17 ⌝ }
     ensures { λ r. ⌜ r ≡ Samples.atNode (now (nodes .entry)) k t ⌝ }
 {
@@ -166,7 +167,7 @@ fn turned(tolerance: f64, s: PathSample, v: [f64; 3], index: usize) -> Sampled
 fn between(
     inertia: [[f64; 3]; 3],
     tolerance: f64,
-    nodes: &[[f64; 22]; 17],
+    nodes: &[[f64; 22]; SOLVER_NODES],
     i: usize,
     t: f64,
     index: usize,
@@ -196,7 +197,7 @@ fn between(
 }
 
 // The last node before t, by the first 16; the last node's time is not before t.
-fn earlier(nodes: &[[f64; 22]; 17], t: f64) -> usize
+fn earlier(nodes: &[[f64; 22]; SOLVER_NODES], t: f64) -> usize
     requires { ⌜ lt (Samples.time (now nodes) 16) t ≡ false ⌝ }
     ensures { λ r. ⌜ (r ≡ Samples.earlier (now (nodes .entry)) t) × (r < 16) ⌝ }
 {
@@ -214,7 +215,7 @@ fn earlier(nodes: &[[f64; 22]; 17], t: f64) -> usize
 pub fn interpolate(
     inertia: [[f64; 3]; 3],
     tolerance: f64,
-    nodes: &[[f64; 22]; 17],
+    nodes: &[[f64; 22]; SOLVER_NODES],
     t: f64,
     index: usize,
 ) -> Sampled

@@ -1,6 +1,7 @@
 // A path's nodes as rows of numbers: time, attitude, rate, torque, body momentum, the wheels' momenta.
 ghost use mathlib.Core.Path.{_≡_};
 ghost use Rattle.samples.specs.Rows as Rows;
+use common::SOLVER_NODES;
 use forward::Node;
 
 // A node's numbers.
@@ -39,13 +40,13 @@ fn row(n: Node) -> [f64; 22]
 }
 
 // The rows of 17 nodes.
-pub fn rows(nodes: [Node; 17]) -> [[f64; 22]; 17]
+pub fn rows(nodes: [Node; SOLVER_NODES]) -> [[f64; 22]; SOLVER_NODES]
     ensures { λ r. ⌜ r ≡ Rows.rows nodes ⌝ }
 {
     let blank = [0.0; 22];
-    let mut out = [blank; 17];
+    let mut out = [blank; SOLVER_NODES];
     let mut k: usize = 0;
-    while k < 17 {
+    while k < SOLVER_NODES {
         let next = row(nodes[k]);
         out[k] = next;
         k += 1;

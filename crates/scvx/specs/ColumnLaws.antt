@@ -8,7 +8,8 @@ use lib.ListN.{length, take, length-append, List·getD-append}
 use lib.Seq.{getD-at}
 use borrow.Author.Count.{below-more}
 use lib.Ieee.{Float}
-use Rattle.common.specs.Iter.{iter, iter-next, iter-stays}
+use Rattle.common.specs.Iter.{iter}
+use Rattle.common.specs.IterLaws.{iter-next, iter-stays}
 use Rattle.common.specs.Lists.{at}
 use Rattle.common.specs.declared.Fate.{Fate}
 use Rattle.common.specs.declared.Fate.the-variants.{Going, Refused}
@@ -16,11 +17,12 @@ use Rattle.problem.specs.declared.CheckedProblem.{CheckedProblem}
 use Rattle.residuals.specs.Residuals.{residualsOf}
 use Rattle.residuals.specs.declared.ResidualVector.{ResidualVector}
 use Rattle.normal_equations.specs.Normal.{line, slopes}
-use Rattle.normal_equations.specs.Rows.{row, row-take}
+use Rattle.normal_equations.specs.Rows.{row}
+use Rattle.normal_equations.specs.RowsLaws.{row-take}
 use Rattle.kept_rows.specs.Kept.{kept, scatter, columns}
 use Rattle.kept_rows.specs.KeptLaws.{columns-none, columns-more, columns-same}
-use Rattle.scvx.specs.Search.{numbers, width, nudged, Columns, Formed, Broken, columnBy, columnOf, columnTurn, jacobian}
-use Rattle.scvx.specs.Stands.{ColumnStands, ColumnLeft, SameFrom, columnsIn}
+use Rattle.scvx.specs.Search.{numbers, width, perturb, Columns, Formed, Broken, columnBy, columnOf, columnTurn, jacobian}
+use Rattle.scvx.specs.ProgressInner.{ColumnStands, ColumnLeft, SameFrom, columnsIn}
 
 module _ (p : CheckedProblem) (m : ℕ) (z r0 : List Float) where
   -- v holds the kept rows of the first c columns, one after the other
@@ -33,7 +35,7 @@ module _ (p : CheckedProblem) (m : ℕ) (z r0 : List Float) where
 
   module _ (c : ℕ) (v : List Float) (front : Front c v) where
     abbrev e : ResidualVector
-    e = residualsOf p (nudged p z c)
+    e = residualsOf p (perturb p z c)
 
     by-run : {j : Columns} → j ≡ columnOf m r0 c (columns c m v) e → j ≡ iter (columnTurn p m z r0) (Formed []) (c + 1)
     by-run g = iter-next (columnTurn p m z r0) (Formed []) c (sym front) g
@@ -76,27 +78,27 @@ module _ (p : CheckedProblem) (m : ℕ) (z r0 : List Float) where
   -- the first k columns: each is made by its own run, which goes on
   pub record Each (k : ℕ) (l : List (List Float)) : Type 0 where
     pub count : length l ≡ k
-    pub goes : (c : ℕ) → c < k → residualsOf p (nudged p z c) .fate ≡ Going
-    pub own : (c : ℕ) → c < k → line l c ≡ slopes m (residualsOf p (nudged p z c) .r) r0
+    pub goes : (c : ℕ) → c < k → residualsOf p (perturb p z c) .fate ≡ Going
+    pub own : (c : ℕ) → c < k → line l c ≡ slopes m (residualsOf p (perturb p z c) .r) r0
 
-  each-more : (k : ℕ) (l : List (List Float)) {x : List (List Float)} (f : Fate) → residualsOf p (nudged p z k) .fate ≡ f
-      → columnBy m r0 k l f (residualsOf p (nudged p z k) .r) ≡ Formed x → Each k l → Each (suc k) x
+  each-more : (k : ℕ) (l : List (List Float)) {x : List (List Float)} (f : Fate) → residualsOf p (perturb p z k) .fate ≡ f
+      → columnBy m r0 k l f (residualsOf p (perturb p z k) .r) ≡ Formed x → Each k l → Each (suc k) x
   each-more k l {x} Going g e h =
-      let q : List Float = slopes m (residualsOf p (nudged p z k) .r) r0 in
+      let q : List Float = slopes m (residualsOf p (perturb p z k) .r) r0 in
       let longer : l ++ (q ∷ []) ≡ x = cc in
       subst (λ y. Each (suc k) y) longer
       (record {
         count = omega (arith, length-append l (q ∷ []), h .count);
-        goes = λ c b. below-more (λ d. residualsOf p (nudged p z d) .fate ≡ Going) k (h .goes) g c (omega arith);
+        goes = λ c b. below-more (λ d. residualsOf p (perturb p z d) .fate ≡ Going) k (h .goes) g c (omega arith);
         own = λ c b.
-            below-more (λ d. line (l ++ (q ∷ [])) d ≡ slopes m (residualsOf p (nudged p z d) .r) r0) k
+            below-more (λ d. line (l ++ (q ∷ [])) d ≡ slopes m (residualsOf p (perturb p z d) .r) r0) k
             (λ d b. List·getD-append l (q ∷ []) [] d (omega (arith, h .count)) ∙ h .own d b)
             (getD-at l q [] [] k (h .count)) c (omega arith);
       })
   each-more k l (Refused number place) g e h = let no : _≡_ {A = ℕ} 0 1 = cc in absurd (omega arith)
 
   each-turn : (k : ℕ) (j : Columns) → ((l : List (List Float)) → j ≡ Formed l → Each k l) → (x : List (List Float)) → columnTurn p m z r0 k j ≡ Formed x → Each (suc k) x
-  each-turn k (Formed l) h x e = each-more k l (residualsOf p (nudged p z k) .fate) refl e (h l refl)
+  each-turn k (Formed l) h x e = each-more k l (residualsOf p (perturb p z k) .fate) refl e (h l refl)
   each-turn k (Broken number place runs) h x e = let no : _≡_ {A = ℕ} 0 1 = cc in absurd (omega arith)
 
   each-of : (k : ℕ) (l : List (List Float)) → iter (columnTurn p m z r0) (Formed []) k ≡ Formed l → Each k l

@@ -9,7 +9,7 @@ use lib.Ieee.{Float, nan, binary64, add, neg}
 use Rattle.common.specs.Lists.{at}
 use Rattle.problem.specs.declared.CheckedProblem.{CheckedProblem}
 use Rattle.residuals.specs.Residuals.{residualsOf}
-use Rattle.normal_equations.specs.Tab.{getD-tab}
+use Rattle.normal_equations.specs.TabLaws.{getD-tab}
 use Rattle.normal_equations.specs.Normal as Normal
 use Rattle.normal_equations.specs.Normal.{line, cell, slopes, dot}
 use Rattle.normal_equations.specs.NormalLaws.{normal-cell, right-sums}
@@ -17,8 +17,8 @@ use Rattle.normal_equations.specs.Rows.{rows}
 use Rattle.normal_equations.specs.Placed.{Equations}
 use Rattle.kept_rows.specs.Kept.{kept, Gathered, Zeros}
 use Rattle.kept_rows.specs.KeptLaws.{matrix-kept, right-kept}
-use Rattle.scvx.specs.Search.{numbers, width, nudged, Formed, jacobian, normalMatrix, rightSide}
-use Rattle.scvx.specs.Stands.{columnsIn, width-laid}
+use Rattle.scvx.specs.Search.{numbers, width, perturb, Formed, jacobian, normalMatrix, rightSide}
+use Rattle.scvx.specs.ProgressInner.{columnsIn, width-laid}
 use Rattle.scvx.specs.ColumnLaws.{jacobian-each}
 
 -- a, by rows, and g are the normal equations that the search names at the decision z, whose residuals are r0
@@ -26,7 +26,7 @@ pub record SearchEquations (p : CheckedProblem) (z r0 : List Float) (lambda : Fl
   -- the columns of the Jacobian, each made by its own run
   pub columns : List (List Float)
   pub formed : jacobian p z r0 ≡ Formed columns
-  pub each : (c : ℕ) → c < numbers p → line columns c ≡ slopes (width p) (residualsOf p (nudged p z c) .r) r0
+  pub each : (c : ℕ) → c < numbers p → line columns c ≡ slopes (width p) (residualsOf p (perturb p z c) .r) r0
   -- the equations of these columns
   pub matrix : a ≡ normalMatrix p columns lambda
   pub right : g ≡ rightSide p columns r0

@@ -2,9 +2,9 @@
 -- ---- meaning
 pub mod Search  -- state, Jacobian, step, trial, iteration, and the whole search
 -- ---- laws
-pub mod Counts  -- how many forward runs it begins
+pub mod CountLaws  -- how many forward runs it begins
 pub mod ColumnLaws  -- the loop over the Jacobian's columns
 pub mod EquationLaws  -- the equations that the code forms are the search's
 pub mod StepLaws  -- the parts of an iteration by what the code has in hand
 -- ---- inner words of proofs
-pub mod Stands  -- sizes, and what the code keeps besides a state; with their laws
+pub mod ProgressInner  -- sizes, and what the code keeps besides a state; with their laws

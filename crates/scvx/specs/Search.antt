@@ -5,26 +5,26 @@
 --     seed_omega.len() != n, seed_duration <= 0.0           planner `Plans.seeded`: refusal 10
 --     allocate_body_torque, project_controls(&mut row       seeds `Seeds.seedDecision`
 --     lambda = LM_LAMBDA0                                   `firstDamping`, in `startOf`
---     best = residual_norm(problem, &z)                     `start`, `measured`
+--     best = residual_norm(problem, &z)                     `start`, `seedCandidate`
 --     for iter in 0..MAX_ITERS                              `searched`: 40 times `turn`, which leaves a search that has ended as it is
---     iters = iter as u32 + 1, r = residuals(problem, &z)   `begun`, `going`
+--     iters = iter as u32 + 1, r = residuals(problem, &z)   `beginIteration`, `iterate`
 --     mag <= DEFECT_TOL                                     `goal`, `improved`
---     jac = jacobian(problem, &z, &r)                       `jacobian`, in `linear`
+--     jac = jacobian(problem, &z, &r)                       `jacobian`, in `linearStep`
 --     a[c][d] += .., a[k][k] += lambda                      `normalMatrix`: normal_equations `Normal.normalMatrix`
 --     g[c] += .., g[k] = -g[k]                              `rightSide`: normal_equations `Normal.rightSide`
 --     solve_dense(&mut a, &mut g)                           `stepOf`: elimination `Elimination.solveDense`
---     (lambda * 8.0).min(1.0e6)                             `stiffer`, in `steppedBy`
+--     (lambda * 8.0).min(1.0e6)                             `stiffer`, in `takeStepBy`
 --     apply_step(&z, &g), project_decision                  `applied`, `trialOf`
---     trial_norm = residual_norm(problem, &trial)           `tried`, `weighed`
---     trial_norm < best, z = trial                          `judged`, `moved`
+--     trial_norm = residual_norm(problem, &trial)           `tryStep`, `trialCandidate`
+--     trial_norm < best, z = trial                          `judge`, `moveTo`
 --     (lambda * 0.3).max(1.0e-8)                            `weaker`
 --     (lambda * 4.0).min(1.0e6)                             `stronger`
---     path = reconstruct(problem, &z), after the loop       `last`
---     ATT_TOL, RATE_TOL, max_defect > DEFECT_TOL, > 1.0e-9  ends `Ends.endFate`
---     out.iterations = iters                                `lastBy`
+--     path = reconstruct(problem, &z), after the loop       `finalRun`
+--     ATT_TOL, RATE_TOL, max_defect > DEFECT_TOL, > 1.0e-9  end_checks `Ends.endFate`
+--     out.iterations = iters                                `finalRunBy`
 --   `jacobian`
 --     for c in 0..n_z                                       `jacobian`, `columnTurn`
---     plus[c] += FD_EPS, unpack, project_decision           `nudged`, `held`
+--     plus[c] += FD_EPS, unpack, project_decision           `perturb`, `project`
 --     rp = residuals(problem, &zp)?                         `columnOf`; a refusal is `Broken`
 --     jac[i][c] = (rp[i] - r0[i]) / FD_EPS                  normal_equations `Normal.slopes`, `fdEps`
 --   `packed_len` is `numbers`, `residual_norm` is `residualLength`. Not here: `cancelled`; the test in `jacobian` of how many residuals there are (`width`).
@@ -33,13 +33,13 @@ use mathlib.Core.Bool.{Bool, true, false, cond}
 use mathlib.Core.List.{List, [], _∷_, _++_}
 use lib.ListN.{set, replicate}
 use lib.Ieee.{Float, binary64, add, mul, lt, le, ofBits}
+use Rattle.common.specs.Floats.{plusZero}
 use Rattle.common.specs.Iter.{iter}
 use Rattle.common.specs.Lists.{at}
 use Rattle.common.specs.declared.Fate.{Fate}
 use Rattle.common.specs.declared.Fate.the-variants as Fate
 use Rattle.float.specs.Ops.{min, max}
 use Rattle.actuators.specs.Maps.{controlDim}
-use Rattle.geom.specs.Vec.{plusZero}
 use Rattle.problem.specs.declared.CheckedProblem.{CheckedProblem}
 use Rattle.held_counts.specs.Counts.{heldCounts, noneHeld}
 use Rattle.forward.specs.Decisions.{packedLen, unpack, projectDecision}
@@ -54,7 +54,7 @@ use Rattle.elimination.specs.Elimination.{Solution, Solved, Singular, solveDens
 use Rattle.scvx.specs.declared.Status.{Status}
 use Rattle.scvx.specs.declared.Status.the-variants.{Going, Ended, Refused}
 use Rattle.scvx.specs.declared.Candidate.{Candidate}
-use Rattle.scvx.specs.declared.State.{State}
+use Rattle.scvx.specs.declared.SearchState.{SearchState}
 use Rattle.scvx.specs.declared.Found.{Found}
 
 -- n: the numbers of a decision
@@ -73,22 +73,22 @@ abbrev pub residualLength : CheckedProblem → List Float → Float
 residualLength p z = lengthOf p (residualsOf p z)
 
 -- the seed's decision z with its residual length, r being its residuals, of which m count
-abbrev pub measured : List Float → List Float → ℕ → Candidate
-measured z r m = record { z = z; residual = normSlice r m; tried = false; held = noneHeld }
+abbrev pub seedCandidate : List Float → List Float → ℕ → Candidate
+seedCandidate z r m = record { z = z; residual = normSlice r m; tried = false; held = noneHeld }
 
 -- a trial's decision with its residual length and with how many controls its projection held, place by place in a row
-abbrev pub weighed : List Float → List Float → ℕ → List ℕ → Candidate
-weighed z r m held = record { z = z; residual = normSlice r m; tried = true; held = held }
+abbrev pub trialCandidate : List Float → List Float → ℕ → List ℕ → Candidate
+trialCandidate z r m held = record { z = z; residual = normSlice r m; tried = true; held = held }
 
 -- every decision but the seed's: the duration at least 1e-6, then within 0.001..10,000, each control held to its limit
-abbrev pub held : CheckedProblem → List Float → List Float
-held p z = projectDecision (p .map) (p .«torque_limit») (unpack z)
+abbrev pub project : CheckedProblem → List Float → List Float
+project p z = projectDecision (p .map) (p .«torque_limit») (unpack z)
 
 -- ---- the Jacobian, by columns
 
 -- the decision whose residuals make column c: number c moved by the step by which the difference is divided
-abbrev pub nudged : CheckedProblem → List Float → ℕ → List Float
-nudged p z c = held p (set z c (add binary64 (at z c) fdEps))
+abbrev pub perturb : CheckedProblem → List Float → ℕ → List Float
+perturb p z c = project p (set z c (add binary64 (at z c) fdEps))
 
 -- the columns so far, or the refusal of a column's run: its number, its place and the columns' runs begun
 pub data Columns : Type 0 where
@@ -104,7 +104,7 @@ columnOf m r0 c l e = columnBy m r0 c l (e .fate) (e .r)
 
 -- column c of m residuals, after those before it; a refusal ends them
 abbrev pub columnTurn : CheckedProblem → ℕ → List Float → List Float → ℕ → Columns → Columns
-columnTurn p m z r0 c (Formed l) = columnOf m r0 c l (residualsOf p (nudged p z c))
+columnTurn p m z r0 c (Formed l) = columnOf m r0 c l (residualsOf p (perturb p z c))
 columnTurn p m z r0 c (Broken number place runs) = Broken number place runs
 
 -- at the decision z, whose residuals are r0
@@ -126,17 +126,17 @@ abbrev pub stepOf : CheckedProblem → List (List Float) → List Float → Floa
 stepOf p j r lambda = solveDense (numbers p) (normalMatrix p j lambda) (rightSide p j r)
 
 -- ---- the parts of an iteration
-abbrev pub ran : State → ℕ → State
-ran s more = record { candidate = s .candidate; lambda = s .lambda; iterations = s .iterations; runs = s .runs + more; status = s .status }
+abbrev pub countRuns : SearchState → ℕ → SearchState
+countRuns s more = record { candidate = s .candidate; lambda = s .lambda; iterations = s .iterations; runs = s .runs + more; status = s .status }
 
-abbrev pub ended : State → Status → State
-ended s f = record { candidate = s .candidate; lambda = s .lambda; iterations = s .iterations; runs = s .runs; status = f }
+abbrev pub withStatus : SearchState → Status → SearchState
+withStatus s f = record { candidate = s .candidate; lambda = s .lambda; iterations = s .iterations; runs = s .runs; status = f }
 
-abbrev pub damped : State → Float → State
-damped s x = record { candidate = s .candidate; lambda = x; iterations = s .iterations; runs = s .runs; status = s .status }
+abbrev pub withDamping : SearchState → Float → SearchState
+withDamping s x = record { candidate = s .candidate; lambda = x; iterations = s .iterations; runs = s .runs; status = s .status }
 
-abbrev pub moved : State → Candidate → Float → State
-moved s t x = record { candidate = t; lambda = x; iterations = s .iterations; runs = s .runs; status = s .status }
+abbrev pub moveTo : SearchState → Candidate → Float → SearchState
+moveTo s t x = record { candidate = t; lambda = x; iterations = s .iterations; runs = s .runs; status = s .status }
 
 -- 1e6, the most of the damping factor
 abbrev pub strongest : Float
@@ -155,15 +155,15 @@ abbrev pub stronger : Float → Float
 stronger x = min (mul binary64 x (ofBits binary64 0x4010_0000_0000_0000)) strongest
 
 -- a trial t is taken where its length is strictly smaller
-unfoldable pub judged : State → Candidate → State
-judged s t = cond (lt (t .residual) (s .candidate .residual)) (moved s t (weaker (s .lambda))) (damped s (stronger (s .lambda)))
+unfoldable pub judge : SearchState → Candidate → SearchState
+judge s t = cond (lt (t .residual) (s .candidate .residual)) (moveTo s t (weaker (s .lambda))) (withDamping s (stronger (s .lambda)))
 
-abbrev pub triedBy : CheckedProblem → State → List Float → List ℕ → ResidualVector → Fate → State
-triedBy p s t held e Fate.Going = judged s (weighed t (e .r) (width p) held)
-triedBy p s t held e (Fate.Refused number place) = ended s (Refused number place)
+abbrev pub tryStepBy : CheckedProblem → SearchState → List Float → List ℕ → ResidualVector → Fate → SearchState
+tryStepBy p s t held e Fate.Going = judge s (trialCandidate t (e .r) (width p) held)
+tryStepBy p s t held e (Fate.Refused number place) = withStatus s (Refused number place)
 
-abbrev pub triedOf : CheckedProblem → State → List Float → List ℕ → ResidualVector → State
-triedOf p s t held e = triedBy p s t held e (e .fate)
+abbrev pub tryStepOf : CheckedProblem → SearchState → List Float → List ℕ → ResidualVector → SearchState
+tryStepOf p s t held e = tryStepBy p s t held e (e .fate)
 
 -- number i of the decision, moved by the step d
 abbrev pub addTurn : List Float → ℕ → List Float → List Float
@@ -175,7 +175,7 @@ applied p z d = iter (addTurn d) z (numbers p)
 
 -- the decision of a trial
 unfoldable pub trialOf : CheckedProblem → List Float → List Float → List Float
-trialOf p z d = held p (applied p z d)
+trialOf p z d = project p (applied p z d)
 
 -- how many controls its projection holds, place by place in a row
 unfoldable pub trialHeld : CheckedProblem → List Float → List Float → List ℕ
@@ -183,56 +183,56 @@ trialHeld p z d = heldCounts (p .map) (p .«torque_limit») (applied p z d)
 
 -- a trial as a candidate: one run
 abbrev pub candidateOf : CheckedProblem → List Float → List Float → Candidate
-candidateOf p z d = weighed (trialOf p z d) (residualsOf p (trialOf p z d) .r) (width p) (trialHeld p z d)
+candidateOf p z d = trialCandidate (trialOf p z d) (residualsOf p (trialOf p z d) .r) (width p) (trialHeld p z d)
 
 -- the trial of a step d: one run
-unfoldable pub tried : CheckedProblem → State → List Float → State
-tried p s d = triedOf p (ran s 1) (trialOf p (s .candidate .z) d) (trialHeld p (s .candidate .z) d) (residualsOf p (trialOf p (s .candidate .z) d))
+unfoldable pub tryStep : CheckedProblem → SearchState → List Float → SearchState
+tryStep p s d = tryStepOf p (countRuns s 1) (trialOf p (s .candidate .z) d) (trialHeld p (s .candidate .z) d) (residualsOf p (trialOf p (s .candidate .z) d))
 
-abbrev pub steppedBy : CheckedProblem → State → Solution → State
-steppedBy p s (Solved d) = tried p s d
-steppedBy p s Singular = damped s (stiffer (s .lambda))
+abbrev pub takeStepBy : CheckedProblem → SearchState → Solution → SearchState
+takeStepBy p s (Solved d) = tryStep p s d
+takeStepBy p s Singular = withDamping s (stiffer (s .lambda))
 
 -- the step of the normal equations of the columns j and the residuals r
-unfoldable pub stepped : CheckedProblem → State → List (List Float) → List Float → State
-stepped p s j r = steppedBy p s (stepOf p j r (s .lambda))
+unfoldable pub takeStep : CheckedProblem → SearchState → List (List Float) → List Float → SearchState
+takeStep p s j r = takeStepBy p s (stepOf p j r (s .lambda))
 
 -- each column is one run
-abbrev pub linearBy : CheckedProblem → State → List Float → Columns → State
-linearBy p s r (Formed j) = stepped p (ran s (numbers p)) j r
-linearBy p s r (Broken number place runs) = ended (ran s runs) (Refused number place)
+abbrev pub linearStepBy : CheckedProblem → SearchState → List Float → Columns → SearchState
+linearStepBy p s r (Formed j) = takeStep p (countRuns s (numbers p)) j r
+linearStepBy p s r (Broken number place runs) = withStatus (countRuns s runs) (Refused number place)
 
-unfoldable pub linear : CheckedProblem → State → List Float → State
-linear p s r = linearBy p s r (jacobian p (s .candidate .z) r)
+unfoldable pub linearStep : CheckedProblem → SearchState → List Float → SearchState
+linearStep p s r = linearStepBy p s r (jacobian p (s .candidate .z) r)
 
 -- DEFECT_TOL, 0.005
 abbrev pub goal : Float
 goal = ofBits binary64 0x3f74_7ae1_47ae_147b
 
 -- `mag <= DEFECT_TOL` ends the search; a NaN goes on
-unfoldable pub improved : CheckedProblem → State → ResidualVector → State
-improved p s e = cond (le (lengthOf p e) goal) (ended s Ended) (linear p s (e .r))
+unfoldable pub improved : CheckedProblem → SearchState → ResidualVector → SearchState
+improved p s e = cond (le (lengthOf p e) goal) (withStatus s Ended) (linearStep p s (e .r))
 
-abbrev pub goingBy : CheckedProblem → State → ResidualVector → Fate → State
-goingBy p s e Fate.Going = improved p s e
-goingBy p s e (Fate.Refused number place) = ended s (Refused number place)
+abbrev pub iterateBy : CheckedProblem → SearchState → ResidualVector → Fate → SearchState
+iterateBy p s e Fate.Going = improved p s e
+iterateBy p s e (Fate.Refused number place) = withStatus s (Refused number place)
 
-abbrev pub goingOf : CheckedProblem → State → ResidualVector → State
-goingOf p s e = goingBy p s e (e .fate)
+abbrev pub iterateOf : CheckedProblem → SearchState → ResidualVector → SearchState
+iterateOf p s e = iterateBy p s e (e .fate)
 
 -- iteration k + 1 begins with one run of the decision
-abbrev pub begun : ℕ → State → State
-begun k s = record { candidate = s .candidate; lambda = s .lambda; iterations = k + 1; runs = s .runs + 1; status = s .status }
+abbrev pub beginIteration : ℕ → SearchState → SearchState
+beginIteration k s = record { candidate = s .candidate; lambda = s .lambda; iterations = k + 1; runs = s .runs + 1; status = s .status }
 
-unfoldable pub going : CheckedProblem → ℕ → State → State
-going p k s = goingOf p (begun k s) (residualsOf p (s .candidate .z))
+unfoldable pub iterate : CheckedProblem → ℕ → SearchState → SearchState
+iterate p k s = iterateOf p (beginIteration k s) (residualsOf p (s .candidate .z))
 
-abbrev pub turnBy : CheckedProblem → ℕ → State → Status → State
-turnBy p k s Going = going p k s
+abbrev pub turnBy : CheckedProblem → ℕ → SearchState → Status → SearchState
+turnBy p k s Going = iterate p k s
 turnBy p k s Ended = s
 turnBy p k s (Refused number place) = s
 
-unfoldable pub turn : CheckedProblem → ℕ → State → State
+unfoldable pub turn : CheckedProblem → ℕ → SearchState → SearchState
 turn p k s = turnBy p k s (s .status)
 
 -- ---- the whole
@@ -245,40 +245,40 @@ statusOf (Fate.Refused number place) = Refused number place
 abbrev pub firstDamping : Float
 firstDamping = ofBits binary64 0x3f84_7ae1_47ae_147b
 
-abbrev pub startOf : CheckedProblem → List Float → ResidualVector → State
-startOf p seed e = record { candidate = measured seed (e .r) (width p); lambda = firstDamping; iterations = 0; runs = 1; status = statusOf (e .fate) }
+abbrev pub startOf : CheckedProblem → List Float → ResidualVector → SearchState
+startOf p seed e = record { candidate = seedCandidate seed (e .r) (width p); lambda = firstDamping; iterations = 0; runs = 1; status = statusOf (e .fate) }
 
 -- the seed's decision, its duration as it stands: one run
-unfoldable pub start : CheckedProblem → List Float → State
+unfoldable pub start : CheckedProblem → List Float → SearchState
 start p seed = startOf p seed (residualsOf p seed)
 
 -- MAX_ITERS: at most 40 iterations
-unfoldable pub searched : CheckedProblem → List Float → State
+unfoldable pub searched : CheckedProblem → List Float → SearchState
 searched p seed = iter (turn p) (start p seed) 40
 
 -- a refusal: no decision
-abbrev pub none : ℕ → ℕ → ℕ → Found
-none number place runs = record { fate = Fate.Refused number place; runs = runs; iterations = 0; z = replicate 193 plusZero; run = refusedRun number place; tried = false; held = noneHeld }
+abbrev pub notFound : ℕ → ℕ → ℕ → Found
+notFound number place runs = record { fate = Fate.Refused number place; runs = runs; iterations = 0; z = replicate 193 plusZero; run = refusedRun number place; tried = false; held = noneHeld }
 
-abbrev pub lastBy : State → Run → Fate → Found
-lastBy s run Fate.Going = record { fate = Fate.Going; runs = s .runs + 1; iterations = s .iterations; z = s .candidate .z; run = run; tried = s .candidate .tried; held = s .candidate .held }
-lastBy s run (Fate.Refused number place) = none number place (s .runs + 1)
+abbrev pub finalRunBy : SearchState → Run → Fate → Found
+finalRunBy s run Fate.Going = record { fate = Fate.Going; runs = s .runs + 1; iterations = s .iterations; z = s .candidate .z; run = run; tried = s .candidate .tried; held = s .candidate .held }
+finalRunBy s run (Fate.Refused number place) = notFound number place (s .runs + 1)
 
 -- the run of the decision that is handed out, the last that is counted
-unfoldable pub last : CheckedProblem → State → Found
-last p s = lastBy s (runOf p (s .candidate .z)) (runOf p (s .candidate .z) .fate)
+unfoldable pub finalRun : CheckedProblem → SearchState → Found
+finalRun p s = finalRunBy s (runOf p (s .candidate .z)) (runOf p (s .candidate .z) .fate)
 
-abbrev pub closedBy : CheckedProblem → State → Status → Found
-closedBy p s Going = last p s
-closedBy p s Ended = last p s
-closedBy p s (Refused number place) = none number place (s .runs)
+abbrev pub concludeBy : CheckedProblem → SearchState → Status → Found
+concludeBy p s Going = finalRun p s
+concludeBy p s Ended = finalRun p s
+concludeBy p s (Refused number place) = notFound number place (s .runs)
 
-unfoldable pub closed : CheckedProblem → State → Found
-closed p s = closedBy p s (s .status)
+unfoldable pub conclude : CheckedProblem → SearchState → Found
+conclude p s = concludeBy p s (s .status)
 
 -- THE SEARCH from a seed's decision: what it finds, and how many forward runs it begins
 unfoldable pub search : CheckedProblem → List Float → Found
-search p seed = closed p (searched p seed)
+search p seed = conclude p (searched p seed)
 
 -- the numbers that the lent workspace needs
 unfoldable pub room : CheckedProblem → ℕ

@@ -7,7 +7,8 @@ use native.Mathlib.Omega.{arith}
 use lib.ListN.{length, take, drop}
 use lib.Seq.{length-take-le, take-append-le, take-take}
 use lib.Ieee.{Float, lt, le}
-use Rattle.common.specs.Iter.{iter, iter-none, iter-stays}
+use Rattle.common.specs.Iter.{iter}
+use Rattle.common.specs.IterLaws.{iter-none, iter-stays}
 use Rattle.common.specs.declared.Fate.{Fate}
 use Rattle.common.specs.declared.Fate.the-variants as Fate
 use Rattle.problem.specs.declared.CheckedProblem.{CheckedProblem}
@@ -22,10 +23,10 @@ use Rattle.kept_rows.specs.KeptLaws.{matrix-kept, right-kept}
 use Rattle.scvx.specs.declared.Status.{Status}
 use Rattle.scvx.specs.declared.Status.the-variants.{Going, Ended, Refused}
 use Rattle.scvx.specs.declared.Candidate.{Candidate}
-use Rattle.scvx.specs.declared.State.{State}
-use Rattle.scvx.specs.Search.{numbers, width, Columns, Formed, Broken, jacobian, ran, ended, damped, moved, stiffer, weaker, stronger, judged, tried, steppedBy, stepped, linearBy, linear, goal, improved, goingBy, begun, going, turnBy, turn, statusOf, startOf, start, searched, none, lastBy, last, closedBy, closed, search}
-use Rattle.scvx.specs.Stands.{Standing, columnsIn}
-use Rattle.scvx.specs.Stands as Stands
+use Rattle.scvx.specs.declared.SearchState.{SearchState}
+use Rattle.scvx.specs.Search.{numbers, width, Columns, Formed, Broken, jacobian, countRuns, withStatus, withDamping, moveTo, stiffer, weaker, stronger, judge, tryStep, takeStepBy, takeStep, linearStepBy, linearStep, goal, improved, iterateBy, beginIteration, iterate, turnBy, turn, statusOf, startOf, start, searched, notFound, finalRunBy, finalRun, concludeBy, conclude, search}
+use Rattle.scvx.specs.ProgressInner.{Standing, columnsIn}
+use Rattle.scvx.specs.ProgressInner as ProgressInner
 
 -- ---- the step of the equations, on a front of the workspace: w is the length of the lent right side
 module _ (w n m : ℕ) (v : List Float) (e : w ≡ n) (fits : n * m + n * n ≤ length v) where
@@ -48,52 +49,52 @@ pub step-kept : (n m : ℕ) (v r x : List Float) (lambda : Float) → Laid m →
 unfolding dampedStep
 step-kept n m v r x lambda l g z = rw (matrix-kept n m (take (n * kept m) v) l lambda, right-kept n m (take (n * kept m) v) l r x g z)
 
-module _ (p : CheckedProblem) (s : State) (n m : ℕ) (j : List (List Float)) (r : List Float) (en : n ≡ numbers p) (em : m ≡ width p) where
-  by-told : (b : Bool) (d : List Float) → told b d ≡ dampedStep n m j r (s .lambda) → steppedBy p s (told b d) ≡ stepped p s j r
-  unfolding stepped dampedStep
-  by-told b d e = rw (← en, ← em) (ap (λ (x : Solution). steppedBy p s x) e)
+module _ (p : CheckedProblem) (s : SearchState) (n m : ℕ) (j : List (List Float)) (r : List Float) (en : n ≡ numbers p) (em : m ≡ width p) where
+  by-told : (b : Bool) (d : List Float) → told b d ≡ dampedStep n m j r (s .lambda) → takeStepBy p s (told b d) ≡ takeStep p s j r
+  unfolding takeStep dampedStep
+  by-told b d e = rw (← en, ← em) (ap (λ (x : Solution). takeStepBy p s x) e)
 
-  pub singular : (b : Bool) (d : List Float) → told b d ≡ dampedStep n m j r (s .lambda) → b ≡ false → damped s (stiffer (s .lambda)) ≡ stepped p s j r
-  singular b d e h = sym (ap (λ (x : Bool). steppedBy p s (told x d)) h) ∙ by-told b d e
+  pub singular : (b : Bool) (d : List Float) → told b d ≡ dampedStep n m j r (s .lambda) → b ≡ false → withDamping s (stiffer (s .lambda)) ≡ takeStep p s j r
+  singular b d e h = sym (ap (λ (x : Bool). takeStepBy p s (told x d)) h) ∙ by-told b d e
 
-  pub solved : (b : Bool) (d : List Float) → told b d ≡ dampedStep n m j r (s .lambda) → b ≡ true → tried p s d ≡ stepped p s j r
-  solved b d e h = sym (ap (λ (x : Bool). steppedBy p s (told x d)) h) ∙ by-told b d e
+  pub solved : (b : Bool) (d : List Float) → told b d ≡ dampedStep n m j r (s .lambda) → b ≡ true → tryStep p s d ≡ takeStep p s j r
+  solved b d e h = sym (ap (λ (x : Bool). takeStepBy p s (told x d)) h) ∙ by-told b d e
 
 -- ---- the verdict on a trial
-module _ (s : State) (t : Candidate) where
-  pub judged-taken : lt (t .residual) (s .candidate .residual) ≡ true → moved s t (weaker (s .lambda)) ≡ judged s t
-  unfolding judged
-  judged-taken h = sym (ap (λ b. cond b (moved s t (weaker (s .lambda))) (damped s (stronger (s .lambda)))) h)
+module _ (s : SearchState) (t : Candidate) where
+  pub judge-taken : lt (t .residual) (s .candidate .residual) ≡ true → moveTo s t (weaker (s .lambda)) ≡ judge s t
+  unfolding judge
+  judge-taken h = sym (ap (λ b. cond b (moveTo s t (weaker (s .lambda))) (withDamping s (stronger (s .lambda)))) h)
 
-  pub judged-left : lt (t .residual) (s .candidate .residual) ≡ false → damped s (stronger (s .lambda)) ≡ judged s t
-  unfolding judged
-  judged-left h = sym (ap (λ b. cond b (moved s t (weaker (s .lambda))) (damped s (stronger (s .lambda)))) h)
+  pub judge-left : lt (t .residual) (s .candidate .residual) ≡ false → withDamping s (stronger (s .lambda)) ≡ judge s t
+  unfolding judge
+  judge-left h = sym (ap (λ b. cond b (moveTo s t (weaker (s .lambda))) (withDamping s (stronger (s .lambda)))) h)
 
 -- ---- the columns
-module _ (p : CheckedProblem) (s : State) (r : List Float) where
-  pub linear-formed : {n : ℕ} {j : List (List Float)} → n ≡ numbers p → jacobian p (s .candidate .z) r ≡ Formed j → stepped p (ran s n) j r ≡ linear p s r
-  unfolding linear
-  linear-formed {n} {j} en e = ap (λ k. stepped p (ran s k) j r) en ∙ sym (ap (λ (x : Columns). linearBy p s r x) e)
+module _ (p : CheckedProblem) (s : SearchState) (r : List Float) where
+  pub linear-step-formed : {n : ℕ} {j : List (List Float)} → n ≡ numbers p → jacobian p (s .candidate .z) r ≡ Formed j → takeStep p (countRuns s n) j r ≡ linearStep p s r
+  unfolding linearStep
+  linear-step-formed {n} {j} en e = ap (λ k. takeStep p (countRuns s k) j r) en ∙ sym (ap (λ (x : Columns). linearStepBy p s r x) e)
 
-  pub linear-broken : {number place runs : ℕ} → jacobian p (s .candidate .z) r ≡ Broken number place runs → ended (ran s runs) (Refused number place) ≡ linear p s r
-  unfolding linear
-  linear-broken e = sym (ap (λ (x : Columns). linearBy p s r x) e)
+  pub linear-step-broken : {number place runs : ℕ} → jacobian p (s .candidate .z) r ≡ Broken number place runs → withStatus (countRuns s runs) (Refused number place) ≡ linearStep p s r
+  unfolding linearStep
+  linear-step-broken e = sym (ap (λ (x : Columns). linearStepBy p s r x) e)
 
 -- ---- an iteration whose decision's residuals are known
-module _ (p : CheckedProblem) (k : ℕ) (s : State) {r : List Float} {columns : Bool} {j : List (List Float)} (h : Standing p (s .candidate) r columns j) where
-  by-length : going p k s ≡ cond (le (s .candidate .residual) goal) (ended (begun k s) Ended) (linear p (begun k s) r)
-  unfolding going improved
-  by-length = ap (λ (f : Fate). goingBy p (begun k s) (residualsOf p (s .candidate .z)) f) (h .known .goes) ∙ rw (h .known .are, ← h .known .long)
+module _ (p : CheckedProblem) (k : ℕ) (s : SearchState) {r : List Float} {columns : Bool} {j : List (List Float)} (h : Standing p (s .candidate) r columns j) where
+  by-length : iterate p k s ≡ cond (le (s .candidate .residual) goal) (withStatus (beginIteration k s) Ended) (linearStep p (beginIteration k s) r)
+  unfolding iterate improved
+  by-length = ap (λ (f : Fate). iterateBy p (beginIteration k s) (residualsOf p (s .candidate .z)) f) (h .known .goes) ∙ rw (h .known .are, ← h .known .long)
 
-  pub going-ends : le (s .candidate .residual) goal ≡ true → ended (begun k s) Ended ≡ going p k s
-  going-ends e = sym (by-length ∙ ap (λ b. cond b (ended (begun k s) Ended) (linear p (begun k s) r)) e)
+  pub iterate-ends : le (s .candidate .residual) goal ≡ true → withStatus (beginIteration k s) Ended ≡ iterate p k s
+  iterate-ends e = sym (by-length ∙ ap (λ b. cond b (withStatus (beginIteration k s) Ended) (linearStep p (beginIteration k s) r)) e)
 
-  pub going-on : le (s .candidate .residual) goal ≡ false → linear p (begun k s) r ≡ going p k s
-  going-on e = sym (by-length ∙ ap (λ b. cond b (ended (begun k s) Ended) (linear p (begun k s) r)) e)
+  pub iterate-on : le (s .candidate .residual) goal ≡ false → linearStep p (beginIteration k s) r ≡ iterate p k s
+  iterate-on e = sym (by-length ∙ ap (λ b. cond b (withStatus (beginIteration k s) Ended) (linearStep p (beginIteration k s) r)) e)
 
 -- ---- a turn, by the status
-module _ (p : CheckedProblem) (k : ℕ) (s : State) where
-  pub turn-going : s .status ≡ Going → turn p k s ≡ going p k s
+module _ (p : CheckedProblem) (k : ℕ) (s : SearchState) where
+  pub turn-going : s .status ≡ Going → turn p k s ≡ iterate p k s
   unfolding turn
   turn-going h = ap (λ (f : Status). turnBy p k s f) h
 
@@ -107,28 +108,28 @@ module _ (p : CheckedProblem) (k : ℕ) (s : State) where
 
 -- ---- the whole
 
-module _ (p : CheckedProblem) (s : State) where
-  pub closed-going : s .status ≡ Going → last p s ≡ closed p s
-  unfolding closed
-  closed-going h = sym (ap (λ (f : Status). closedBy p s f) h)
+module _ (p : CheckedProblem) (s : SearchState) where
+  pub conclude-going : s .status ≡ Going → finalRun p s ≡ conclude p s
+  unfolding conclude
+  conclude-going h = sym (ap (λ (f : Status). concludeBy p s f) h)
 
-  pub closed-ended : s .status ≡ Ended → last p s ≡ closed p s
-  unfolding closed
-  closed-ended h = sym (ap (λ (f : Status). closedBy p s f) h)
+  pub conclude-ended : s .status ≡ Ended → finalRun p s ≡ conclude p s
+  unfolding conclude
+  conclude-ended h = sym (ap (λ (f : Status). concludeBy p s f) h)
 
-  pub closed-refused : {number place : ℕ} → s .status ≡ Refused number place → none number place (s .runs) ≡ closed p s
-  unfolding closed
-  closed-refused h = sym (ap (λ (f : Status). closedBy p s f) h)
+  pub conclude-refused : {number place : ℕ} → s .status ≡ Refused number place → notFound number place (s .runs) ≡ conclude p s
+  unfolding conclude
+  conclude-refused h = sym (ap (λ (f : Status). concludeBy p s f) h)
 
   -- the last run, by its fate
-  pub last-by : {x : Run} {f : Fate} → x ≡ runOf p (s .candidate .z) → x .fate ≡ f → lastBy s x f ≡ last p s
-  unfolding last
-  last-by {x} q h = sym (ap (λ (f : Fate). lastBy s x f) h) ∙ ap (λ (y : Run). lastBy s y (y .fate)) q
+  pub final-run-by : {x : Run} {f : Fate} → x ≡ runOf p (s .candidate .z) → x .fate ≡ f → finalRunBy s x f ≡ finalRun p s
+  unfolding finalRun
+  final-run-by {x} q h = sym (ap (λ (f : Fate). finalRunBy s x f) h) ∙ ap (λ (y : Run). finalRunBy s y (y .fate)) q
 
 module _ (p : CheckedProblem) (seed : List Float) {e : ResidualVector} (q : e ≡ residualsOf p seed) where
-  pub start-going : {m : ℕ} → m ≡ width p → e .fate ≡ Fate.Going → Stands.start m seed (e .r) .state ≡ start p seed
+  pub start-going : {m : ℕ} → m ≡ width p → e .fate ≡ Fate.Going → ProgressInner.start m seed (e .r) .state ≡ start p seed
   unfolding start
-  start-going {m} em g = let here : Stands.start m seed (e .r) .state ≡ startOf p seed e = rw (g, em) in here ∙ ap (λ (x : ResidualVector). startOf p seed x) q
+  start-going {m} em g = let here : ProgressInner.start m seed (e .r) .state ≡ startOf p seed e = rw (g, em) in here ∙ ap (λ (x : ResidualVector). startOf p seed x) q
 
   refused-start : {number place : ℕ} → e .fate ≡ Fate.Refused number place → start p seed .status ≡ Refused number place
   unfolding start
@@ -139,9 +140,9 @@ module _ (p : CheckedProblem) (seed : List Float) {e : ResidualVector} (q : e �
   one-run = refl
 
   -- a seed whose run is refused ends the search before its first iteration
-  pub search-refused : {number place : ℕ} → e .fate ≡ Fate.Refused number place → none number place 1 ≡ search p seed
+  pub search-refused : {number place : ℕ} → e .fate ≡ Fate.Refused number place → notFound number place 1 ≡ search p seed
   unfolding search searched
   search-refused {number} {place} g =
       let r = refused-start g in
       let same : start p seed ≡ iter (turn p) (start p seed) 40 = iter-stays (turn p) (start p seed) 0 40 (omega arith) (iter-none (turn p) (start p seed)) (λ j. turn-refused p j (start p seed) r) in
-      sym (ap (λ k. none number place k) one-run) ∙ closed-refused p (start p seed) r ∙ ap (λ (s : State). closed p s) same
+      sym (ap (λ k. notFound number place k) one-run) ∙ conclude-refused p (start p seed) r ∙ ap (λ (s : SearchState). conclude p s) same

@@ -10,10 +10,14 @@ ghost use Rattle.residuals.specs.Residuals.{residualsOf};
 ghost use Rattle.shared_runs.specs.Shared as Shared;
 ghost use Rattle.kept_rows.specs.Kept.{kept, Zeros};
 ghost use Rattle.scvx.specs.Search as Search;
-ghost use Rattle.scvx.specs.Stands.{Sizes, ColumnMade, SameFrom, columnsIn, columnsOf};
+ghost use Rattle.scvx.specs.ProgressInner.{Sizes, ColumnMade, SameFrom, columnsIn, columnsOf};
 use super::Slopes;
 use actuators::control_dim;
+use common::Decision;
 use common::Fate;
+use common::ResidualNumbers;
+use common::SOLVER_NODES;
+use common::STEPS;
 use forward::decisions::project_decision;
 use forward::decisions::unpack;
 use kept_rows::gather;
@@ -32,7 +36,7 @@ pub fn numbers(p: CheckedProblem) -> usize
     ensures { λ r. ⌜ r ≡ Search.numbers p ⌝ }
 {
     let map = p.map;
-    1 + 16 * control_dim(map)
+    1 + STEPS * control_dim(map)
 }
 
 // The residuals of a decision: 28, or 79 with a pointing weight above 0.
@@ -44,9 +48,9 @@ pub fn width(p: CheckedProblem) -> usize
 }
 
 // The decision with its duration and its controls held to their limits.
-pub fn held(p: CheckedProblem, z: [f64; 193]) -> [f64; 193]
+pub fn project(p: CheckedProblem, z: Decision) -> Decision
     requires { ⌜ controlDim (p .map) ≤ 12 ⌝ }
-    ensures { λ r. ⌜ r ≡ Search.held p z ⌝ }
+    ensures { λ r. ⌜ r ≡ Search.project p z ⌝ }
 {
     let map = p.map;
     let limit = p.torque_limit;
@@ -54,13 +58,13 @@ pub fn held(p: CheckedProblem, z: [f64; 193]) -> [f64; 193]
 }
 
 // The decision with number c moved by the step of the difference.
-fn nudged(p: CheckedProblem, z: &[f64; 193], c: usize) -> [f64; 193]
+fn perturb(p: CheckedProblem, z: &Decision, c: usize) -> Decision
     requires { ⌜ (controlDim (p .map) ≤ 12) × (c < 193) ⌝ }
-    ensures { λ r. ⌜ r ≡ Search.nudged p (now (z .entry)) c ⌝ }
+    ensures { λ r. ⌜ r ≡ Search.perturb p (now (z .entry)) c ⌝ }
 {
     let mut plus = *z;
     plus[c] = plus[c] + FD_EPS;
-    held(p, plus)
+    project(p, plus)
 }
 
 // Column c of m numbers at the decision z, whose residuals' kept rows are r0 and whose base run is b: one run. Its kept rows are put; every other column and all
@@ -71,17 +75,24 @@ fn column(
     v: &mut [f64],
     m: usize,
     c: usize,
-    z: &[f64; 193],
-    r0: &[f64; 79],
+    z: &Decision,
+    r0: &ResidualNumbers,
     b: Base,
-    nodes: &mut [[f64; 22]; 17],
+    nodes: &mut [[f64; 22]; SOLVER_NODES],
     errors: &[[f64; 3]; 16],
 ) -> Fate
-    requires { ⌜ (isSized (p .map) ≡ true) × ((controlDim (p .map) ≤ 12) × ((controls ≡ controlDim (p .map)) × ((c < 193) × ((m ≡ Search.width p) × ((c * kept m + kept m ≤ length (now v)) × Shared.Holds p (now z) b (now nodes) (now errors)))))) ⌝ }
-    ensures { λ r. ⌜ (r ≡ residualsOf p (Search.nudged p (now (z .entry)) c) .fate) × ColumnMade p m c (now (z .entry)) (now (r0 .entry)) r (now (v .entry)) (now (v .exit)) ⌝ }
+    requires { ⌜ (isSized (p .map) ≡ true)
+        × ((controlDim (p .map) ≤ 12)
+        × ((controls ≡ controlDim (p .map))
+        × ((c < 193)
+        × ((m ≡ Search.width p)
+        × ((c * kept m + kept m ≤ length (now v))
+        × Shared.Holds p (now z) b (now nodes) (now errors)))))) ⌝ }
+    ensures { λ r. ⌜ (r ≡ residualsOf p (Search.perturb p (now (z .entry)) c) .fate)
+        × ColumnMade p m c (now (z .entry)) (now (r0 .entry)) r (now (v .entry)) (now (v .exit)) ⌝ }
     ensures { λ r. ⌜ Shared.Holds p (now (z .entry)) b (now (nodes .exit)) (now (errors .entry)) ⌝ }
 {
-    let y = nudged(p, z, c);
+    let y = perturb(p, z, c);
     let e = residuals_sharing(p, controls, z, b, &y, nodes, errors);
     let fate = e.fate;
     match fate {
@@ -99,7 +110,7 @@ fn column(
 fn past_row(steps: usize, controls: usize, c: usize) -> bool
     requires { ⌜ controls ≤ 12 ⌝ }
 {
-    if steps >= 16 {
+    if steps >= STEPS {
         return false;
     }
     (steps + 1) * controls < c
@@ -112,8 +123,8 @@ pub fn jacobian(
     v: &mut [f64],
     n: usize,
     m: usize,
-    z: [f64; 193],
-    r0: [f64; 79],
+    z: Decision,
+    r0: ResidualNumbers,
 ) -> Slopes
     requires { ⌜ Sizes p n m (length (now v)) × Zeros m r0 ⌝ }
     ensures { λ r. ⌜ (Search.jacobian p z r0 ≡ columnsOf r (columnsIn n m (now (v .exit)))) × SameFrom (n * kept m) (now (v .entry)) (now (v .exit)) ⌝ }

@@ -10,11 +10,13 @@ ghost use Rattle.actuators.specs.Maps.{controlDim, isSized};
 ghost use Rattle.scvx.specs.Search as Search;
 use self::columns::numbers;
 use self::columns::width;
-use self::turns::closed;
-use self::turns::none;
+use self::turns::conclude;
+use self::turns::not_found;
 use self::turns::start;
 use self::turns::turns;
+use common::Decision;
 use common::Fate;
+use common::ResidualNumbers;
 use forward::Run;
 use problem::CheckedProblem;
 use residuals::terms::residuals_of;
@@ -34,14 +36,14 @@ pub enum Status {
 // A decision with its residual length, and the projection that made it: the seed's, or a trial's with how many of its 16 controls it held at each place of a row
 // (zeros for the seed's, whose counts stand beside it).
 pub struct Candidate {
-    pub z: [f64; 193],
+    pub z: Decision,
     pub residual: f64,
     pub tried: bool,
     pub held: [usize; 12],
 }
 
 // The search after some iterations: the decision that it stands at, the damping factor, the iterations and the forward runs begun.
-pub struct State {
+pub struct SearchState {
     pub candidate: Candidate,
     pub lambda: f64,
     pub iterations: usize,
@@ -51,8 +53,8 @@ pub struct State {
 
 // A state with what is kept beside it: the residuals of its decision, and whether the columns of its Jacobian stand in the front of the workspace.
 pub struct Progress {
-    pub state: State,
-    pub r: [f64; 79],
+    pub state: SearchState,
+    pub r: ResidualNumbers,
     pub columns: bool,
 }
 
@@ -64,14 +66,14 @@ pub enum Slopes {
 
 // A trial's decision, and how many of its 16 controls at each place of a row were held to their limits.
 pub struct Trial {
-    pub z: [f64; 193],
+    pub z: Decision,
     pub held: [usize; 12],
 }
 
 // A step of the normal equations: the first numbers of d, where they could be solved.
 pub struct Step {
     pub solved: bool,
-    pub d: [f64; 193],
+    pub d: Decision,
 }
 
 // What the search answers: how it ended, the forward runs begun, and of a decision that was found its iterations, the decision and its run (blank where refused),
@@ -80,7 +82,7 @@ pub struct Found {
     pub fate: Fate,
     pub runs: usize,
     pub iterations: usize,
-    pub z: [f64; 193],
+    pub z: Decision,
     pub run: Run,
     pub tried: bool,
     pub held: [usize; 12],
@@ -97,19 +99,19 @@ pub fn room(p: CheckedProblem) -> usize
 }
 
 // The search from a seed's decision. What it leaves in the workspace is free.
-pub fn search(p: CheckedProblem, seed: [f64; 193], ws: &mut [f64]) -> Found
+pub fn search(p: CheckedProblem, seed: Decision, ws: &mut [f64]) -> Found
     requires { ⌜ (isSized (p .map) ≡ true) × (controlDim (p .map) ≤ 12) × (Search.room p ≤ length (now ws)) ⌝ }
     ensures { λ r. ⌜ (r ≡ Search.search p seed) × (length (now (ws .exit)) ≡ length (now (ws .entry))) ⌝ }
 {
     let e = residuals_of(p, seed);
     let fate = e.fate;
     match fate {
-        Fate::Refused(number, place) => none(number, place, 1),
+        Fate::Refused(number, place) => not_found(number, place, 1),
         Fate::Going => {
             let n = numbers(p);
             let m = width(p);
             let r = e.r;
-            closed(p, turns(p, ws, n, m, start(m, seed, r)))
+            conclude(p, turns(p, ws, n, m, start(m, seed, r)))
         }
     }
 }

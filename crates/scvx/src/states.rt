@@ -2,18 +2,20 @@
 ghost use mathlib.Core.Path.{_≡_};
 ghost use Prim.Native.Nat.{_+_, _≤_, _<_};
 ghost use Rattle.scvx.specs.Search as Search;
-ghost use Rattle.scvx.specs.Stands as Stands;
+ghost use Rattle.scvx.specs.ProgressInner as ProgressInner;
 use super::Candidate;
 use super::Progress;
-use super::State;
+use super::SearchState;
 use super::Status;
 use super::Trial;
+use common::Decision;
+use common::ResidualNumbers;
 use residuals::sums::norm_slice;
 
 // The seed's decision z, whose residuals are r, of which m count.
-pub fn measured(z: [f64; 193], r: [f64; 79], m: usize) -> Candidate
+pub fn seed_candidate(z: Decision, r: ResidualNumbers, m: usize) -> Candidate
     requires { ⌜ m ≤ 79 ⌝ }
-    ensures { λ x. ⌜ x ≡ Search.measured z r m ⌝ }
+    ensures { λ x. ⌜ x ≡ Search.seedCandidate z r m ⌝ }
 {
     let held: [usize; 12] = [0; 12];
     Candidate {
@@ -25,9 +27,9 @@ pub fn measured(z: [f64; 193], r: [f64; 79], m: usize) -> Candidate
 }
 
 // A trial's decision as a candidate.
-pub fn weighed(t: Trial, r: [f64; 79], m: usize) -> Candidate
+pub fn trial_candidate(t: Trial, r: ResidualNumbers, m: usize) -> Candidate
     requires { ⌜ m ≤ 79 ⌝ }
-    ensures { λ x. ⌜ x ≡ Search.weighed (t .z) r m (t .held) ⌝ }
+    ensures { λ x. ⌜ x ≡ Search.trialCandidate (t .z) r m (t .held) ⌝ }
 {
     let z = t.z;
     let held = t.held;
@@ -40,13 +42,13 @@ pub fn weighed(t: Trial, r: [f64; 79], m: usize) -> Candidate
 }
 
 // More runs begun.
-pub fn ran(s: State, more: usize) -> State
+pub fn count_runs(s: SearchState, more: usize) -> SearchState
     requires { ⌜ s .runs + more ≤ 9000 ⌝ }
-    ensures { λ r. ⌜ r ≡ Search.ran s more ⌝ }
+    ensures { λ r. ⌜ r ≡ Search.countRuns s more ⌝ }
 {
     let candidate = s.candidate;
     let status = s.status;
-    State {
+    SearchState {
         candidate: candidate,
         lambda: s.lambda,
         iterations: s.iterations,
@@ -56,11 +58,11 @@ pub fn ran(s: State, more: usize) -> State
 }
 
 // Another status.
-pub fn ended(s: State, status: Status) -> State
-    ensures { λ r. ⌜ r ≡ Search.ended s status ⌝ }
+pub fn with_status(s: SearchState, status: Status) -> SearchState
+    ensures { λ r. ⌜ r ≡ Search.withStatus s status ⌝ }
 {
     let candidate = s.candidate;
-    State {
+    SearchState {
         candidate: candidate,
         lambda: s.lambda,
         iterations: s.iterations,
@@ -70,12 +72,12 @@ pub fn ended(s: State, status: Status) -> State
 }
 
 // Another damping factor.
-pub fn damped(s: State, x: f64) -> State
-    ensures { λ r. ⌜ r ≡ Search.damped s x ⌝ }
+pub fn with_damping(s: SearchState, x: f64) -> SearchState
+    ensures { λ r. ⌜ r ≡ Search.withDamping s x ⌝ }
 {
     let candidate = s.candidate;
     let status = s.status;
-    State {
+    SearchState {
         candidate: candidate,
         lambda: x,
         iterations: s.iterations,
@@ -85,11 +87,11 @@ pub fn damped(s: State, x: f64) -> State
 }
 
 // The decision of t, with the damping factor x.
-pub fn moved(s: State, t: Candidate, x: f64) -> State
-    ensures { λ r. ⌜ r ≡ Search.moved s t x ⌝ }
+pub fn move_to(s: SearchState, t: Candidate, x: f64) -> SearchState
+    ensures { λ r. ⌜ r ≡ Search.moveTo s t x ⌝ }
 {
     let status = s.status;
-    State {
+    SearchState {
         candidate: t,
         lambda: x,
         iterations: s.iterations,
@@ -99,13 +101,13 @@ pub fn moved(s: State, t: Candidate, x: f64) -> State
 }
 
 // Iteration k + 1 begins, and its run of the decision is counted.
-pub fn begun(k: usize, s: State) -> State
+pub fn begin_iteration(k: usize, s: SearchState) -> SearchState
     requires { ⌜ (k < 40) × (s .runs < 9000) ⌝ }
-    ensures { λ r. ⌜ r ≡ Search.begun k s ⌝ }
+    ensures { λ r. ⌜ r ≡ Search.beginIteration k s ⌝ }
 {
     let candidate = s.candidate;
     let status = s.status;
-    State {
+    SearchState {
         candidate: candidate,
         lambda: s.lambda,
         iterations: k + 1,
@@ -115,8 +117,8 @@ pub fn begun(k: usize, s: State) -> State
 }
 
 // The same decision, residuals and columns with another state of them.
-pub fn over(g: Progress, s: State) -> Progress
-    ensures { λ r. ⌜ r ≡ Stands.over g s ⌝ }
+pub fn with_state(g: Progress, s: SearchState) -> Progress
+    ensures { λ r. ⌜ r ≡ ProgressInner.withState g s ⌝ }
 {
     let r = g.r;
     Progress {

@@ -9,23 +9,27 @@ ghost use Rattle.problem.specs.declared.CheckedProblem.{CheckedProblem};
 ghost use Rattle.elimination.specs.Elimination.{told, dampedStep};
 ghost use Rattle.kept_rows.specs.Kept.{Laid, kept, Zeros};
 ghost use Rattle.scvx.specs.Search as Search;
-ghost use Rattle.scvx.specs.Stands.{Sizes, Known, Keeps, Holds, columnsIn};
+ghost use Rattle.scvx.specs.ProgressInner.{Sizes, Known, Keeps, Holds, columnsIn};
 use super::Candidate;
 use super::Progress;
 use super::Slopes;
 use super::Status;
 use super::Step;
 use super::Trial;
-use super::columns::held;
 use super::columns::jacobian;
-use super::states::begun;
-use super::states::damped;
-use super::states::ended;
-use super::states::moved;
-use super::states::over;
-use super::states::ran;
-use super::states::weighed;
+use super::columns::project;
+use super::states::begin_iteration;
+use super::states::count_runs;
+use super::states::move_to;
+use super::states::trial_candidate;
+use super::states::with_damping;
+use super::states::with_state;
+use super::states::with_status;
+use common::DECISION_NUMBERS;
+use common::DEFECT_TOL;
+use common::Decision;
 use common::Fate;
+use common::ResidualNumbers;
 use elimination::damped_step;
 use float::max;
 use float::min;
@@ -36,7 +40,7 @@ use problem::CheckedProblem;
 use residuals::terms::residuals_of;
 
 // The decision moved by the step d.
-fn apply_step(z: [f64; 193], d: &[f64]) -> [f64; 193]
+fn apply_step(z: Decision, d: &[f64]) -> Decision
     requires { ⌜ length (now d) ≤ 193 ⌝ }
     ensures { λ r. ⌜ r ≡ iter (Search.addTurn (now (d .entry))) z (length (now (d .entry))) ⌝ }
 {
@@ -50,7 +54,7 @@ fn apply_step(z: [f64; 193], d: &[f64]) -> [f64; 193]
 }
 
 // The decision of a trial, and how many of its controls were held.
-fn trial_of(p: CheckedProblem, z: [f64; 193], d: &[f64]) -> Trial
+fn trial_of(p: CheckedProblem, z: Decision, d: &[f64]) -> Trial
     requires { ⌜ (controlDim (p .map) ≤ 12) × ((length (now d) ≤ 193) × (length (now d) ≡ Search.numbers p)) ⌝ }
     ensures { λ r. ⌜ (r .z ≡ Search.trialOf p z (now (d .entry))) × (r .held ≡ Search.trialHeld p z (now (d .entry))) ⌝ }
 {
@@ -58,7 +62,7 @@ fn trial_of(p: CheckedProblem, z: [f64; 193], d: &[f64]) -> Trial
     let map = p.map;
     let limit = p.torque_limit;
     let counts = held_counts(map, limit, &moved);
-    let projected = held(p, moved);
+    let projected = project(p, moved);
     Trial {
         z: projected,
         held: counts,
@@ -66,26 +70,26 @@ fn trial_of(p: CheckedProblem, z: [f64; 193], d: &[f64]) -> Trial
 }
 
 // A trial t with the residuals r: it is taken where it is strictly shorter.
-fn judged(g: Progress, t: Candidate, r: [f64; 79]) -> Progress
-    ensures { λ x. ⌜ (x .state ≡ Search.judged (g .state) t) × ((p : CheckedProblem) → Known p t r → Keeps p g x) ⌝ }
+fn judge(g: Progress, t: Candidate, r: ResidualNumbers) -> Progress
+    ensures { λ x. ⌜ (x .state ≡ Search.judge (g .state) t) × ((p : CheckedProblem) → Known p t r → Keeps p g x) ⌝ }
 {
     let s = g.state;
     let c = s.candidate;
     if t.residual < c.residual {
-        let next = moved(s, t, max(s.lambda * 0.3, 1.0e-8));
+        let next = move_to(s, t, max(s.lambda * 0.3, 1.0e-8));
         return Progress {
             state: next,
             r: r,
             columns: false,
         };
     }
-    over(g, damped(s, min(s.lambda * 4.0, 1.0e6)))
+    with_state(g, with_damping(s, min(s.lambda * 4.0, 1.0e6)))
 }
 
 // The trial of a step d: one run.
-fn tried(p: CheckedProblem, g: Progress, d: &[f64], m: usize) -> Progress
+fn try_step(p: CheckedProblem, g: Progress, d: &[f64], m: usize) -> Progress
     requires { ⌜ Sizes p (length (now d)) m (length (now d) * kept m + length (now d) * length (now d)) × (g .state .runs ≤ 8500) ⌝ }
-    ensures { λ x. ⌜ (x .state ≡ Search.tried p (g .state) (now (d .entry))) × Keeps p g x ⌝ }
+    ensures { λ x. ⌜ (x .state ≡ Search.tryStep p (g .state) (now (d .entry))) × Keeps p g x ⌝ }
 {
     let s = g.state;
     let c = s.candidate;
@@ -93,27 +97,32 @@ fn tried(p: CheckedProblem, g: Progress, d: &[f64], m: usize) -> Progress
     let t = trial_of(p, z, d);
     let moved = t.z;
     let e = residuals_of(p, moved);
-    let s1 = ran(s, 1);
+    let s1 = count_runs(s, 1);
     let fate = e.fate;
     match fate {
-        Fate::Refused(number, place) => over(g, ended(s1, Status::Refused(number, place))),
+        Fate::Refused(number, place) => with_state(
+            g,
+            with_status(s1, Status::Refused(number, place)),
+        ),
         Fate::Going => {
             let r = e.r;
-            judged(over(g, s1), weighed(t, r, m), r)
+            judge(with_state(g, s1), trial_candidate(t, r, m), r)
         }
     }
 }
 
 // The step of the equations whose n columns of m numbers have their kept rows in the front of ws, where they stay.
-fn step_of(ws: &mut [f64], n: usize, m: usize, r: [f64; 79], lambda: f64) -> Step
+fn step_of(ws: &mut [f64], n: usize, m: usize, r: ResidualNumbers, lambda: f64) -> Step
     requires { ⌜ (n ≤ 193) × (Laid m × ((n * kept m + n * n ≤ length (now ws)) × Zeros m r)) ⌝ }
-    ensures { λ x. ⌜ (told (x .solved) (take n (x .d)) ≡ dampedStep n m (columnsIn n m (now (ws .entry))) r lambda) × ((length (x .d) ≡ 193) × (columnsIn n m (now (ws .exit)) ≡ columnsIn n m (now (ws .entry)))) ⌝ }
+    ensures { λ x. ⌜ (told (x .solved) (take n (x .d)) ≡ dampedStep n m (columnsIn n m (now (ws .entry))) r lambda)
+        × ((length (x .d) ≡ 193)
+        × (columnsIn n m (now (ws .exit)) ≡ columnsIn n m (now (ws .entry)))) ⌝ }
 {
     let w = kept(m);
     let mut front = r;
     gather(m, &mut front[..]);
     let end = n * w + n * n;
-    let mut d = [0.0; 193];
+    let mut d = [0.0; DECISION_NUMBERS];
     let solved = damped_step(&mut ws[..end], w, &front, lambda, &mut d[..n]);
     Step {
         solved: solved,
@@ -122,24 +131,26 @@ fn step_of(ws: &mut [f64], n: usize, m: usize, r: [f64; 79], lambda: f64) -> Ste
 }
 
 // The step of an iteration whose columns stand there: its trial, or a stronger damping where the equations are singular.
-fn stepped(p: CheckedProblem, ws: &mut [f64], n: usize, m: usize, g: Progress) -> Progress
+fn take_step(p: CheckedProblem, ws: &mut [f64], n: usize, m: usize, g: Progress) -> Progress
     requires { ⌜ Sizes p n m (length (now ws)) × ((g .state .runs ≤ 8400) × Zeros m (g .r)) ⌝ }
-    ensures { λ x. ⌜ (x .state ≡ Search.stepped p (g .state) (columnsIn n m (now (ws .entry))) (g .r)) × (Keeps p g x × (columnsIn n m (now (ws .exit)) ≡ columnsIn n m (now (ws .entry)))) ⌝ }
+    ensures { λ x. ⌜ (x .state ≡ Search.takeStep p (g .state) (columnsIn n m (now (ws .entry))) (g .r))
+        × (Keeps p g x
+        × (columnsIn n m (now (ws .exit)) ≡ columnsIn n m (now (ws .entry)))) ⌝ }
 {
     let s = g.state;
     let r = g.r;
     let step = step_of(ws, n, m, r, s.lambda);
     if !step.solved {
-        return over(g, damped(s, min(s.lambda * 8.0, 1.0e6)));
+        return with_state(g, with_damping(s, min(s.lambda * 8.0, 1.0e6)));
     }
     let d = step.d;
-    tried(p, g, &d[..n], m)
+    try_step(p, g, &d[..n], m)
 }
 
 // The columns of the decision are formed, then the step.
-fn formed(p: CheckedProblem, ws: &mut [f64], n: usize, m: usize, g: Progress) -> Progress
+fn form_columns(p: CheckedProblem, ws: &mut [f64], n: usize, m: usize, g: Progress) -> Progress
     requires { ⌜ Sizes p n m (length (now ws)) × ((g .state .runs ≤ 8200) × Holds p (columnsIn n m (now ws)) g) ⌝ }
-    ensures { λ x. ⌜ (x .state ≡ Search.linear p (g .state) (g .r)) × Holds p (columnsIn n m (now (ws .exit))) x ⌝ }
+    ensures { λ x. ⌜ (x .state ≡ Search.linearStep p (g .state) (g .r)) × Holds p (columnsIn n m (now (ws .exit))) x ⌝ }
 {
     let s = g.state;
     let c = s.candidate;
@@ -148,7 +159,7 @@ fn formed(p: CheckedProblem, ws: &mut [f64], n: usize, m: usize, g: Progress) ->
     let j = jacobian(p, ws, n, m, z, r);
     match j {
         Slopes::Broken(number, place, runs) => {
-            let next = ended(ran(s, runs), Status::Refused(number, place));
+            let next = with_status(count_runs(s, runs), Status::Refused(number, place));
             Progress {
                 state: next,
                 r: r,
@@ -156,31 +167,31 @@ fn formed(p: CheckedProblem, ws: &mut [f64], n: usize, m: usize, g: Progress) ->
             }
         }
         Slopes::Filled => {
-            let next = ran(s, n);
+            let next = count_runs(s, n);
             let whole = Progress {
                 state: next,
                 r: r,
                 columns: true,
             };
-            stepped(p, ws, n, m, whole)
+            take_step(p, ws, n, m, whole)
         }
     }
 }
 
 // The step of an iteration. Columns that stand there already are counted as runs, and not formed again.
-fn linear(p: CheckedProblem, ws: &mut [f64], n: usize, m: usize, g: Progress) -> Progress
+fn linear_step(p: CheckedProblem, ws: &mut [f64], n: usize, m: usize, g: Progress) -> Progress
     requires { ⌜ Sizes p n m (length (now ws)) × ((g .state .runs ≤ 8200) × Holds p (columnsIn n m (now ws)) g) ⌝ }
-    ensures { λ x. ⌜ (x .state ≡ Search.linear p (g .state) (g .r)) × Holds p (columnsIn n m (now (ws .exit))) x ⌝ }
+    ensures { λ x. ⌜ (x .state ≡ Search.linearStep p (g .state) (g .r)) × Holds p (columnsIn n m (now (ws .exit))) x ⌝ }
 {
     if g.columns {
         let s = g.state;
-        return stepped(p, ws, n, m, over(g, ran(s, n)));
+        return take_step(p, ws, n, m, with_state(g, count_runs(s, n)));
     }
-    formed(p, ws, n, m, g)
+    form_columns(p, ws, n, m, g)
 }
 
 // Iteration k + 1 of a search that goes on. Its run of the decision is counted, and not made: the residuals are known, and the candidate has their length.
-pub fn going(
+pub fn iterate(
     p: CheckedProblem,
     ws: &mut [f64],
     n: usize,
@@ -189,13 +200,13 @@ pub fn going(
     g: Progress,
 ) -> Progress
     requires { ⌜ Sizes p n m (length (now ws)) × ((k < 40) × ((g .state .runs ≤ 8000) × Holds p (columnsIn n m (now ws)) g)) ⌝ }
-    ensures { λ x. ⌜ (x .state ≡ Search.going p k (g .state)) × Holds p (columnsIn n m (now (ws .exit))) x ⌝ }
+    ensures { λ x. ⌜ (x .state ≡ Search.iterate p k (g .state)) × Holds p (columnsIn n m (now (ws .exit))) x ⌝ }
 {
     let before = g.state;
-    let s = begun(k, before);
+    let s = begin_iteration(k, before);
     let c = s.candidate;
-    if c.residual <= 5.0e-3 {
-        return over(g, ended(s, Status::Ended));
+    if c.residual <= DEFECT_TOL {
+        return with_state(g, with_status(s, Status::Ended));
     }
-    linear(p, ws, n, m, over(g, s))
+    linear_step(p, ws, n, m, with_state(g, s))
 }

@@ -8,28 +8,36 @@ ghost use Rattle.common.specs.Iter.{iter};
 ghost use Rattle.actuators.specs.Maps.{controlDim, isSized};
 ghost use Rattle.scvx.specs.declared.Status.the-variants.{Going};
 ghost use Rattle.scvx.specs.Search as Search;
-ghost use Rattle.scvx.specs.Stands as Stands;
-ghost use Rattle.scvx.specs.Stands.{Sizes, Holds, columnsIn};
+ghost use Rattle.scvx.specs.ProgressInner as ProgressInner;
+ghost use Rattle.scvx.specs.ProgressInner.{Sizes, Holds, columnsIn};
 use super::Found;
 use super::Progress;
-use super::State;
+use super::SearchState;
 use super::Status;
-use super::states::measured;
-use super::steps::going;
+use super::states::seed_candidate;
+use super::steps::iterate;
+use common::DECISION_NUMBERS;
+use common::Decision;
 use common::Fate;
+use common::ResidualNumbers;
 use forward::runs::refused_run;
 use forward::runs::run_of;
 use problem::CheckedProblem;
 
+// The most iterations of a search, and its damping factor at the start.
+const MAX_ITERS: usize = 40;
+
+const LM_LAMBDA0: f64 = 1.0e-2;
+
 // The seed's decision, whose residuals r are known: one run.
-pub fn start(m: usize, seed: [f64; 193], r: [f64; 79]) -> Progress
+pub fn start(m: usize, seed: Decision, r: ResidualNumbers) -> Progress
     requires { ⌜ m ≤ 79 ⌝ }
-    ensures { λ g. ⌜ g ≡ Stands.start m seed r ⌝ }
+    ensures { λ g. ⌜ g ≡ ProgressInner.start m seed r ⌝ }
 {
-    let candidate = measured(seed, r, m);
-    let state = State {
+    let candidate = seed_candidate(seed, r, m);
+    let state = SearchState {
         candidate: candidate,
-        lambda: 1.0e-2,
+        lambda: LM_LAMBDA0,
         iterations: 0,
         runs: 1,
         status: Status::Going,
@@ -42,14 +50,14 @@ pub fn start(m: usize, seed: [f64; 193], r: [f64; 79]) -> Progress
 }
 
 // At most 40 iterations, left where the search no longer goes on.
-pub fn turns(p: CheckedProblem, ws: &mut [f64], n: usize, m: usize, first: Progress) -> State
+pub fn turns(p: CheckedProblem, ws: &mut [f64], n: usize, m: usize, first: Progress) -> SearchState
     requires { ⌜ Sizes p n m (length (now ws)) × ((first .state .runs ≡ 1) × ((first .state .status ≡ Going) × Holds p (columnsIn n m (now ws)) first)) ⌝ }
     ensures { λ s. ⌜ s ≡ iter (Search.turn p) (first .state) 40 ⌝ }
 {
     let mut g = first;
     let mut k: usize = 0;
-    while k < 40 {
-        g = going(p, ws, n, m, k, g);
+    while k < MAX_ITERS {
+        g = iterate(p, ws, n, m, k, g);
         k += 1;
         let s = g.state;
         let status = s.status;
@@ -63,10 +71,10 @@ pub fn turns(p: CheckedProblem, ws: &mut [f64], n: usize, m: usize, first: Progr
 }
 
 // A refusal: no decision.
-pub fn none(number: usize, place: usize, runs: usize) -> Found
-    ensures { λ r. ⌜ r ≡ Search.none number place runs ⌝ }
+pub fn not_found(number: usize, place: usize, runs: usize) -> Found
+    ensures { λ r. ⌜ r ≡ Search.notFound number place runs ⌝ }
 {
-    let z = [0.0; 193];
+    let z = [0.0; DECISION_NUMBERS];
     let held: [usize; 12] = [0; 12];
     Found {
         fate: Fate::Refused(number, place),
@@ -80,9 +88,9 @@ pub fn none(number: usize, place: usize, runs: usize) -> Found
 }
 
 // The run of the decision that is handed out, the last that is counted.
-fn last(p: CheckedProblem, s: State) -> Found
+fn final_run(p: CheckedProblem, s: SearchState) -> Found
     requires { ⌜ (isSized (p .map) ≡ true) × ((controlDim (p .map) ≤ 12) × (s .runs ≤ 8500)) ⌝ }
-    ensures { λ r. ⌜ r ≡ Search.last p s ⌝ }
+    ensures { λ r. ⌜ r ≡ Search.finalRun p s ⌝ }
 {
     let c = s.candidate;
     let z = c.z;
@@ -90,7 +98,7 @@ fn last(p: CheckedProblem, s: State) -> Found
     let run = run_of(p, z);
     let fate = run.fate;
     match fate {
-        Fate::Refused(number, place) => none(number, place, s.runs + 1),
+        Fate::Refused(number, place) => not_found(number, place, s.runs + 1),
         Fate::Going => Found {
             fate: Fate::Going,
             runs: s.runs + 1,
@@ -104,14 +112,14 @@ fn last(p: CheckedProblem, s: State) -> Found
 }
 
 // What is found, by how the search ended.
-pub fn closed(p: CheckedProblem, s: State) -> Found
+pub fn conclude(p: CheckedProblem, s: SearchState) -> Found
     requires { ⌜ (isSized (p .map) ≡ true) × ((controlDim (p .map) ≤ 12) × (s .runs ≤ 8500)) ⌝ }
-    ensures { λ r. ⌜ r ≡ Search.closed p s ⌝ }
+    ensures { λ r. ⌜ r ≡ Search.conclude p s ⌝ }
 {
     let status = s.status;
     match status {
-        Status::Going => last(p, s),
-        Status::Ended => last(p, s),
-        Status::Refused(number, place) => none(number, place, s.runs),
+        Status::Going => final_run(p, s),
+        Status::Ended => final_run(p, s),
+        Status::Refused(number, place) => not_found(number, place, s.runs),
     }
 }

@@ -11,9 +11,9 @@ use Rattle.common.specs.Lists.{at}
 use Rattle.common.specs.declared.Fate.{Fate}
 use Rattle.common.specs.declared.Fate.the-variants.{Going, Refused}
 use Rattle.float.specs.Ops.{abs}
-use Rattle.laws.specs.Finite.{finite-number}
-use Rattle.laws.specs.Limits.{Under}
-use Rattle.laws.specs.Order.{Held, held}
+use Rattle.float_laws.specs.Finite.{finite-number}
+use Rattle.float_laws.specs.Limits.{Under}
+use Rattle.float_laws.specs.Order.{Held, held}
 use Rattle.geom.specs.Quats.{norm3}
 use Rattle.actuators.specs.Maps.{controlDim}
 use Rattle.actuators.specs.declared.ActuatorMap.{ActuatorMap}
@@ -23,10 +23,10 @@ use Rattle.problem.specs.declared.CheckedProblem.{CheckedProblem}
 use Rattle.forward.specs.Decisions.{packedLen}
 use Rattle.forward.specs.Runs.{runOf}
 use Rattle.forward.specs.declared.Run.{Run}
-use Rattle.residuals.specs.Sums.{nodeAt}
+use Rattle.forward.specs.Runs.{nodeAt}
 use Rattle.residuals.specs.Residuals.{errorOf, residualsOf}
 use Rattle.scvx.specs.Search.{search, searched, residualLength}
-use Rattle.ends.specs.Ends as Ends
+use Rattle.end_checks.specs.Ends as Ends
 use Rattle.run_laws.specs.Values.{goes}
 use Rattle.run_laws.specs.Checked.{Ready}
 use Rattle.run_laws.specs.Defects.{grounded-finite}

@@ -12,15 +12,16 @@ use lib.Ieee.{Float, nan, inf, fin, binary64, low, up, down, round, units, add, 
 use lib.Ieee.Fits.{down-pos, add-fits, mul-fits}
 use lib.Ieee.Order.{round-mono}
 use lib.Ieee.Scale.{finite}
+use Rattle.common.specs.Floats.{one}
 use Rattle.common.specs.Lists.{at}
 use Rattle.float.specs.Sqrt.{sqrt}
 use Rattle.float.specs.SqrtLaws.{sqrt-fits}
-use Rattle.laws.specs.Place.{mag, mid, place, mag-exact}
-use Rattle.laws.specs.Order.{Held, held, nlt-up}
-use Rattle.laws.specs.Signs.{plus, place-plus, square-plus, add-plus, sqrt-plus}
-use Rattle.laws.specs.Finite.{finite-number, add-finite, mul-finite, sqrt-finite}
-use Rattle.laws.specs.Sizes.{Within, Beyond, mul-in, div-in}
-use Rattle.geom.specs.Vec.{dot3, one}
+use Rattle.float_laws.specs.Place.{mag, mid, place, mag-exact}
+use Rattle.float_laws.specs.Order.{Held, held, nlt-up}
+use Rattle.float_laws.specs.Signs.{plus, place-plus, square-plus, add-plus, sqrt-plus}
+use Rattle.float_laws.specs.Finite.{finite-number, add-finite, mul-finite, sqrt-finite}
+use Rattle.float_laws.specs.Sizes.{Within, Beyond, mul-in, div-in}
+use Rattle.geom.specs.Vec.{dot3}
 use Rattle.geom.specs.Quats.{norm3, least, unitBy, unit3}
 use Rattle.geom.specs.declared.Axis.{Axis}
 use Rattle.geom.specs.declared.Axis.the-variants.{Is, Not}

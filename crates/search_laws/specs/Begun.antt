@@ -5,23 +5,23 @@ use Prim.Native.Nat.{ℕ}
 use native.Mathlib.Omega.{arith}
 use lib.Dec.{T}
 use lib.Ieee.{Float}
-use Rattle.common.specs.Iter.{iter-none, iter-stays}
+use Rattle.common.specs.IterLaws.{iter-none, iter-stays}
 use Rattle.common.specs.declared.Fate.{Fate}
 use Rattle.common.specs.declared.Fate.the-variants as Fate
 use Rattle.problem.specs.declared.CheckedProblem.{CheckedProblem}
 use Rattle.residuals.specs.Residuals.{residualsOf}
 use Rattle.scvx.specs.Search as Search
 use Rattle.scvx.specs.declared.Status.the-variants.{Refused}
-use Rattle.scvx.specs.declared.State.{State}
+use Rattle.scvx.specs.declared.SearchState.{SearchState}
 use Rattle.run_laws.specs.Values.{goes}
 
 module _ (p : CheckedProblem) (number place : ℕ) where
-  stays : (s : State) → s .status ≡ Refused number place → (k : ℕ) → Search.turn p k s ≡ s
+  stays : (s : SearchState) → s .status ≡ Refused number place → (k : ℕ) → Search.turn p k s ≡ s
   unfolding Search.turn
   stays s e k = rw e refl
 
-  closes : (s : State) → s .status ≡ Refused number place → T (goes (Search.closed p s .fate)) → ⊥
-  unfolding Search.closed
+  closes : (s : SearchState) → s .status ≡ Refused number place → T (goes (Search.conclude p s .fate)) → ⊥
+  unfolding Search.conclude
   closes s e t = rw e at t
 
   start-refused : (seed : List Float) → residualsOf p seed .fate ≡ Fate.Refused number place → Search.start p seed .status ≡ Refused number place

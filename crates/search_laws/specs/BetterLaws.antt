@@ -8,12 +8,12 @@ use lib.Ieee.Fits.{add-fits}
 use Rattle.common.specs.Iter.{iter}
 use Rattle.common.specs.Lists.{at}
 use Rattle.float.specs.SqrtLaws.{sqrt-fits}
-use Rattle.laws.specs.Order.{lt-trans}
+use Rattle.float_laws.specs.Order.{lt-trans}
 use Rattle.problem.specs.declared.CheckedProblem.{CheckedProblem}
 use Rattle.residuals.specs.Residuals.{residualsOf}
 use Rattle.residuals.specs.Sums.{squares, normSlice}
 use Rattle.scvx.specs.Search as Search
-use Rattle.scvx.specs.declared.State.{State}
+use Rattle.scvx.specs.declared.SearchState.{SearchState}
 use Rattle.search_laws.specs.Keeps.{Kept, searched-keeps}
 use Rattle.search_laws.specs.Better.{Better, same, below}
 
@@ -37,7 +37,7 @@ shorter : (p : CheckedProblem) (seed z t : List Float) → Better (Search.residu
 shorter p seed z t (same e) h = below (rw e at h)
 shorter p seed z t (below k) h = below (lt-trans binary64 (Search.residualLength p t) (Search.residualLength p z) (Search.residualLength p seed) (length-fits p t) (length-fits p z) (length-fits p seed) h k)
 
-record Way (p : CheckedProblem) (seed : List Float) (s : State) : Type 0 where
+record Way (p : CheckedProblem) (seed : List Float) (s : SearchState) : Type 0 where
   residual : s .candidate .residual ≡ Search.residualLength p (s .candidate .z)
   better : Better (Search.residualLength p) seed (s .candidate .z)
 

@@ -12,9 +12,9 @@ use lib.Ieee.Fits.{add-fits}
 use Rattle.common.specs.Iter.{iter}
 use Rattle.common.specs.Lists.{at}
 use Rattle.float.specs.Ops.{max, clamp}
-use Rattle.laws.specs.Below.{below-turns}
-use Rattle.laws.specs.Largest.{max-fits}
-use Rattle.laws.specs.Limits.{Limit}
+use Rattle.float_laws.specs.Below.{below-turns}
+use Rattle.float_laws.specs.Largest.{max-fits}
+use Rattle.float_laws.specs.Limits.{Limit}
 use Rattle.actuators.specs.Maps.{controlDim}
 use Rattle.actuators.specs.declared.ActuatorMap.{ActuatorMap}
 use Rattle.problem.specs.declared.CheckedProblem.{CheckedProblem}
@@ -94,7 +94,7 @@ module _ (p : CheckedProblem) (R : Ready p) (seed : List Float) (long : packedLe
   unfolding Search.trialOf Search.numbers
   trial-sound z d S = record {
     projected = projected-is (p .map) (R .map) (p .«torque_limit») (R .limits) z2 long2 (set-all (λ y. T (fits binary64 y)) z1 0 x (max-fits binary64 (at z1 0) leastDuration (A .fit 0) (unfold fits ofBits in tt)) (A .fit));
-    tail = tail-on size seed z1 (Search.held p z1) (tail-on size seed z z1 (S .tail) (A .tail)) (tail-on size z1 z2 (Search.held p z1) (tail-set size z1 0 x (omega arith)) (project-tail (p .map) (R .map) (p .«torque_limit») (R .limits) z2 long2));
+    tail = tail-on size seed z1 (Search.project p z1) (tail-on size seed z z1 (S .tail) (A .tail)) (tail-on size z1 z2 (Search.project p z1) (tail-set size z1 0 x (omega arith)) (project-tail (p .map) (R .map) (p .«torque_limit») (R .limits) z2 long2));
   }
     where
       -- the step added

@@ -8,16 +8,16 @@ use lib.Ieee.{Float, lt}
 use Rattle.common.specs.Iter.{iter}
 use Rattle.common.specs.declared.Fate.{Fate}
 use Rattle.common.specs.declared.Fate.the-variants.{Going, Refused}
-use Rattle.laws.specs.Below.{below-none, below-next}
+use Rattle.float_laws.specs.Below.{below-none, below-next}
 use Rattle.geom.specs.Quats.{norm3}
 use Rattle.geom.specs.declared.Rotation.{Rotation}
 use Rattle.geom.specs.declared.Rotation.the-variants as Rotation
 use Rattle.problem.specs.declared.CheckedProblem.{CheckedProblem}
 use Rattle.forward.specs.declared.Node.{Node}
 use Rattle.forward.specs.declared.Run.{Run}
-use Rattle.residuals.specs.Sums.{nodeAt}
+use Rattle.forward.specs.Runs.{nodeAt}
 use Rattle.residuals.specs.Residuals.{errorOf}
-use Rattle.ends.specs.Ends as Ends
+use Rattle.end_checks.specs.Ends as Ends
 use Rattle.run_laws.specs.Values.{goes}
 use Rattle.run_laws.specs.TestLaws.{past}
 

@@ -1,10 +1,11 @@
 -- The search, the seed's decision and the end checks: what demand 3 rests on.
 -- ---- meaning
-pub mod Declared  -- what the user declares: controls of a row, limits; and that a checked problem has it
+pub mod Declared  -- what the user declares: controls of a row, limits
 pub mod Made  -- which projection made the decision that the search ends in
 pub mod Better  -- the seed's decision, or one of a smaller residual length
 pub mod Fits  -- f64 holds the numbers of a list
 -- ---- laws
+pub mod DeclaredLaws  -- a checked problem has what the user declares
 pub mod Answers  -- all of it, of a decision that was found and passed the end checks
 pub mod MadeLaws  -- every search ends in the seed's decision or in that of the trial last taken
 pub mod BetterLaws  -- every search ends in the seed's decision or in one of a smaller residual length

@@ -10,14 +10,14 @@ use Rattle.elimination.specs.Elimination.{Solved}
 use Rattle.scvx.specs.Search as Search
 use Rattle.scvx.specs.Search.{Formed}
 use Rattle.scvx.specs.declared.Candidate.{Candidate}
-use Rattle.scvx.specs.declared.State.{State}
+use Rattle.scvx.specs.declared.SearchState.{SearchState}
 
 -- the search after n iterations
-abbrev pub stateAt : CheckedProblem → List Float → ℕ → State
+abbrev pub stateAt : CheckedProblem → List Float → ℕ → SearchState
 stateAt p seed n = iter (Search.turn p) (Search.start p seed) n
 
 -- the step that the search takes from the state s is d: it solves the normal equations of the Jacobian at its decision, with its damping factor
-pub record StepsBy (p : CheckedProblem) (s : State) (d : List Float) : Type 0 where
+pub record StepsBy (p : CheckedProblem) (s : SearchState) (d : List Float) : Type 0 where
   pub columns : List (List Float)
   pub jacobian-is : Search.jacobian p (s .candidate .z) (residualsOf p (s .candidate .z) .r) ≡ Formed columns
   pub solves : Search.stepOf p columns (residualsOf p (s .candidate .z) .r) (s .lambda) ≡ Solved d

@@ -19,59 +19,59 @@ use Rattle.scvx.specs.Search.{Columns, Formed, Broken}
 use Rattle.scvx.specs.declared.Candidate.{Candidate}
 use Rattle.scvx.specs.declared.Status.{Status}
 use Rattle.scvx.specs.declared.Status.the-variants.{Going, Ended, Refused}
-use Rattle.scvx.specs.declared.State.{State}
+use Rattle.scvx.specs.declared.SearchState.{SearchState}
 use Rattle.search_laws.specs.Made.{stateAt, StepsBy, Made, by-seed, by-trial}
 
 -- ---- one iteration leaves the candidate, or takes the trial of its step
-data Turned (p : CheckedProblem) (s : State) (c : Candidate) : Type 0 where
+data Turned (p : CheckedProblem) (s : SearchState) (c : Candidate) : Type 0 where
   stayed : c ≡ s .candidate → Turned p s c
   took : (d : List Float) → StepsBy p s d → c ≡ Search.candidateOf p (s .candidate .z) d → Turned p s c
 
-module _ (p : CheckedProblem) (k : ℕ) (s : State) where
+module _ (p : CheckedProblem) (k : ℕ) (s : SearchState) where
   abbrev e : ResidualVector
   e = residualsOf p (s .candidate .z)
 
   -- the iteration begun, its columns' runs counted, its trial's run counted
-  abbrev s1 : State
-  s1 = Search.begun k s
+  abbrev s1 : SearchState
+  s1 = Search.beginIteration k s
 
-  abbrev s2 : State
-  s2 = Search.ran s1 (Search.numbers p)
+  abbrev s2 : SearchState
+  s2 = Search.countRuns s1 (Search.numbers p)
 
-  abbrev s3 : State
-  s3 = Search.ran s2 1
+  abbrev s3 : SearchState
+  s3 = Search.countRuns s2 1
 
-  judge : (d : List Float) → StepsBy p s d → (b : Bool) (y u : Float) → Turned p s (cond b (Search.moved s3 (Search.candidateOf p (s .candidate .z) d) y) (Search.damped s3 u) .candidate)
+  judge : (d : List Float) → StepsBy p s d → (b : Bool) (y u : Float) → Turned p s (cond b (Search.moveTo s3 (Search.candidateOf p (s .candidate .z) d) y) (Search.withDamping s3 u) .candidate)
   judge d S true y u = took d S refl
   judge d S false y u = stayed refl
 
-  try-by : (d : List Float) → StepsBy p s d → (f : Fate) → Turned p s (Search.triedBy p s3 (Search.trialOf p (s .candidate .z) d) (Search.trialHeld p (s .candidate .z) d) (residualsOf p (Search.trialOf p (s .candidate .z) d)) f .candidate)
-  unfolding Search.judged
+  try-by : (d : List Float) → StepsBy p s d → (f : Fate) → Turned p s (Search.tryStepBy p s3 (Search.trialOf p (s .candidate .z) d) (Search.trialHeld p (s .candidate .z) d) (residualsOf p (Search.trialOf p (s .candidate .z) d)) f .candidate)
+  unfolding Search.judge
   try-by d S Fate.Going = judge d S (lt (Search.residualLength p (Search.trialOf p (s .candidate .z) d)) (s .candidate .residual)) _ _
   try-by d S (Fate.Refused number place) = stayed refl
 
-  step-by : (j : List (List Float)) → Search.jacobian p (s .candidate .z) (e .r) ≡ Formed j → (x : Solution) → Search.stepOf p j (e .r) (s .lambda) ≡ x → Turned p s (Search.steppedBy p s2 x .candidate)
-  unfolding Search.tried
+  step-by : (j : List (List Float)) → Search.jacobian p (s .candidate .z) (e .r) ≡ Formed j → (x : Solution) → Search.stepOf p j (e .r) (s .lambda) ≡ x → Turned p s (Search.takeStepBy p s2 x .candidate)
+  unfolding Search.tryStep
   step-by j J (Solved d) h = try-by d (record { columns = j; jacobian-is = J; solves = h }) (residualsOf p (Search.trialOf p (s .candidate .z) d) .fate)
   step-by j J Singular h = stayed refl
 
-  line-by : (c : Columns) → Search.jacobian p (s .candidate .z) (e .r) ≡ c → Turned p s (Search.linearBy p s1 (e .r) c .candidate)
-  unfolding Search.stepped
+  line-by : (c : Columns) → Search.jacobian p (s .candidate .z) (e .r) ≡ c → Turned p s (Search.linearStepBy p s1 (e .r) c .candidate)
+  unfolding Search.takeStep
   line-by (Formed j) J = step-by j J (Search.stepOf p j (e .r) (s .lambda)) refl
   line-by (Broken number place runs) J = stayed refl
 
-  improve : (b : Bool) → Turned p s (cond b (Search.ended s1 Ended) (Search.linear p s1 (e .r)) .candidate)
-  unfolding Search.linear
+  improve : (b : Bool) → Turned p s (cond b (Search.withStatus s1 Ended) (Search.linearStep p s1 (e .r)) .candidate)
+  unfolding Search.linearStep
   improve true = stayed refl
   improve false = line-by (Search.jacobian p (s .candidate .z) (e .r)) refl
 
-  go-by : (f : Fate) → Turned p s (Search.goingBy p s1 e f .candidate)
+  go-by : (f : Fate) → Turned p s (Search.iterateBy p s1 e f .candidate)
   unfolding Search.improved
   go-by Fate.Going = improve (le (Search.lengthOf p e) Search.goal)
   go-by (Fate.Refused number place) = stayed refl
 
   turn-by : (f : Status) → Turned p s (Search.turnBy p k s f .candidate)
-  unfolding Search.going
+  unfolding Search.iterate
   turn-by Going = go-by (e .fate)
   turn-by Ended = stayed refl
   turn-by (Refused number place) = stayed refl

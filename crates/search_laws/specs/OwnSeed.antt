@@ -5,6 +5,7 @@ use Prim.Native.Nat.{ℕ, zero, suc}
 use lib.Dec.{T}
 use lib.Ieee.{Float, binary64, mul, lt, le, fits}
 use lib.Ieee.Fits.{add-fits}
+use Rattle.common.specs.Floats as Floats
 use Rattle.common.specs.Iter.{iter}
 use Rattle.common.specs.declared.Limit.{Limit}
 use Rattle.float.specs.Ops.{abs, clamp}
@@ -69,5 +70,5 @@ module _ (q0 : Quat) (j : List (List Float)) (limit : List Float) (slew : Limit)
   duration-fits qf tie =
       let rel = Profiles.relative q0 qf in
       let n = norm3 (part rel) in
-      let d = clamp Vec.minusOne Vec.one (rel .w) in
+      let d = clamp Vec.minusOne Floats.one (rel .w) in
       either (lt n least) _ _ zero-fits (either (le (abs d) tie) _ _ zero-fits (halved (Profiles.axisOf rel n) (acosOf d)))

@@ -14,7 +14,7 @@ use Rattle.common.specs.Iter.{iter}
 use Rattle.common.specs.Lists.{at}
 use Rattle.common.specs.declared.Fate.{Fate}
 use Rattle.common.specs.declared.Fate.the-variants.{Going, Refused}
-use Rattle.laws.specs.Below.{below-none, below-next}
+use Rattle.float_laws.specs.Below.{below-none, below-next}
 use Rattle.geom.specs.Quats.{unit3}
 use Rattle.geom.specs.declared.Axis.{Axis}
 use Rattle.geom.specs.declared.Axis.the-variants.{Is, Not}
@@ -36,21 +36,21 @@ record Kept (a : Actuators) (W : ℕ → ℕ → Prepared → Type 0) : Type 0 w
   -- a refusal; and an answer that is refused is so at every count
   no : (j l n place : ℕ) → W j l (Prepare.refused n place)
   stays : (j l i k n place : ℕ) (p : Prepared) → p .fate ≡ Refused n place → W j l p → W i k p
-  start : W 0 0 (Prepare.going (Maps.unfilled (a .«wheel_count») (a .«thruster_count») (a .cmgs)))
-  wheel : (k l : ℕ) (m : ActuatorMap) (x y z : Float) → k < 8 → unit3 (Maps.wheelAt (a .wheels) k .axis) ≡ Is x y z → W k l (Prepare.going m) → W (suc k) l (Prepare.going (Prepare.withWheel m k (Maps.wheelAt (a .wheels) k) x y z))
-  thruster : (j k : ℕ) (m : ActuatorMap) (x y z : Float) → k < 12 → W j k (Prepare.going m) → W j (suc k) (Prepare.going (Prepare.withThruster m k (Maps.thrusterAt (a .thrusters) k) x y z))
+  start : W 0 0 (Prepare.soFar (Maps.unfilled (a .«wheel_count») (a .«thruster_count») (a .cmgs)))
+  wheel : (k l : ℕ) (m : ActuatorMap) (x y z : Float) → k < 8 → unit3 (Maps.wheelAt (a .wheels) k .axis) ≡ Is x y z → W k l (Prepare.soFar m) → W (suc k) l (Prepare.soFar (Prepare.withWheel m k (Maps.wheelAt (a .wheels) k) x y z))
+  thruster : (j k : ℕ) (m : ActuatorMap) (x y z : Float) → k < 12 → W j k (Prepare.soFar m) → W j (suc k) (Prepare.soFar (Prepare.withThruster m k (Maps.thrusterAt (a .thrusters) k) x y z))
 
 module _ (a : Actuators) (W : ℕ → ℕ → Prepared → Type 0) (K : Kept a W) where
-  placed-keeps : (j l place : ℕ) (u v : Axis) (f : Float → Float → Float → ActuatorMap) → u ≡ v → ((x y z : Float) → u ≡ Is x y z → W j l (Prepare.going (f x y z))) → W j l (Prepare.placed place v f)
+  placed-keeps : (j l place : ℕ) (u v : Axis) (f : Float → Float → Float → ActuatorMap) → u ≡ v → ((x y z : Float) → u ≡ Is x y z → W j l (Prepare.soFar (f x y z))) → W j l (Prepare.placed place v f)
   placed-keeps j l place u Not f e h = K .no j l 3 place
   placed-keeps j l place u (Is x y z) f e h = h x y z e
 
-  checked-keeps : (j l : ℕ) (out : Bool) (place : ℕ) (u : Axis) (f : Float → Float → Float → ActuatorMap) → ((x y z : Float) → u ≡ Is x y z → W j l (Prepare.going (f x y z))) → W j l (Prepare.checked out place u f)
+  checked-keeps : (j l : ℕ) (out : Bool) (place : ℕ) (u : Axis) (f : Float → Float → Float → ActuatorMap) → ((x y z : Float) → u ≡ Is x y z → W j l (Prepare.soFar (f x y z))) → W j l (Prepare.checked out place u f)
   checked-keeps j l true place u f h = K .no j l 2 place
   checked-keeps j l false place u f h = placed-keeps j l place u u f refl h
 
   -- from p with j and l to the next answer with i and k
-  onward-keeps : (j l i k : ℕ) (f : Fate) (p next : Prepared) → p .fate ≡ f → W j l p → (W j l (Prepare.going (p .map)) → W i k next) → W i k (Prepare.onward f p next)
+  onward-keeps : (j l i k : ℕ) (f : Fate) (p next : Prepared) → p .fate ≡ f → W j l p → (W j l (Prepare.soFar (p .map)) → W i k next) → W i k (Prepare.onward f p next)
   onward-keeps j l i k Going p next e w h = h (subst (λ (g : Fate). W j l (record { fate = g; map = p .map })) e w)
   onward-keeps j l i k (Refused n place) p next e w h = K .stays j l i k n place p e w
 
@@ -72,21 +72,21 @@ module _ (a : Actuators) (W : ℕ → ℕ → Prepared → Type 0) (K : Kept a W
       onward-keeps j k j (suc k) (q .fate) q (Prepare.thrusterChecked (q .map) k r) refl (thrusters-keep j k p (omega arith) w)
       (λ v. checked-keeps j (suc k) (Prepare.outside (r .«max_torque_nm»)) (8 + k) (unit3 (r .«torque_axis»)) (Prepare.withThruster (q .map) k r) (λ x y z u. K .thruster j k (q .map) x y z (omega arith) v))
 
-  cmgs-keep : (j l : ℕ) (c : Cmgs) (m : ActuatorMap) → W j l (Prepare.going m) → W j l (Prepare.cmgsChecked c m)
+  cmgs-keep : (j l : ℕ) (c : Cmgs) (m : ActuatorMap) → W j l (Prepare.soFar m) → W j l (Prepare.cmgsChecked c m)
   cmgs-keep j l Without m w = w
   cmgs-keep j l (With y) m w = go (Prepare.pyramidOutside y)
     where
-      go : (b : Bool) → W j l (cond b (Prepare.refused 2 20) (Prepare.going m))
+      go : (b : Bool) → W j l (cond b (Prepare.refused 2 20) (Prepare.soFar m))
       go true = K .no j l 2 20
       go false = w
 
   filled-keeps : a .«wheel_count» ≤ 8 → a .«thruster_count» ≤ 12 → W (a .«wheel_count») (a .«thruster_count») (Prepare.filled a)
   unfolding Prepare.filled Prepare.cmgsNext Prepare.wheelsChecked Prepare.thrustersChecked
   filled-keeps h i =
-      let p = iter (Prepare.wheelTurn (a .wheels)) (Prepare.going (Maps.unfilled (a .«wheel_count») (a .«thruster_count») (a .cmgs))) (a .«wheel_count») in
+      let p = iter (Prepare.wheelTurn (a .wheels)) (Prepare.soFar (Maps.unfilled (a .«wheel_count») (a .«thruster_count») (a .cmgs))) (a .«wheel_count») in
       let q = iter (Prepare.thrusterTurn (a .thrusters)) p (a .«thruster_count») in
       onward-keeps (a .«wheel_count») (a .«thruster_count») (a .«wheel_count») (a .«thruster_count») (q .fate) q (Prepare.cmgsChecked (a .cmgs) (q .map)) refl
-      (thrusters-keep (a .«wheel_count») (a .«thruster_count») p i (wheels-keep (a .«wheel_count») (Prepare.going (Maps.unfilled (a .«wheel_count») (a .«thruster_count») (a .cmgs))) h (K .start)))
+      (thrusters-keep (a .«wheel_count») (a .«thruster_count») p i (wheels-keep (a .«wheel_count») (Prepare.soFar (Maps.unfilled (a .«wheel_count») (a .«thruster_count») (a .cmgs))) h (K .start)))
       (cmgs-keep (a .«wheel_count») (a .«thruster_count») (a .cmgs) (q .map))
 
   prepare-keeps : W (a .«wheel_count») (a .«thruster_count») (Prepare.prepare a)

@@ -11,14 +11,15 @@ use lib.Seq.{length-take-le}
 use lib.Ieee.{Float, nan, binary64, neg, lt, fits, ofBits}
 use lib.Ieee.Bits.{is-false}
 use lib.Ieee.Fits.{add-fits, nan-fits}
-use Rattle.common.specs.Iter.{row-end}
+use Rattle.common.specs.Floats as Floats
+use Rattle.common.specs.IterLaws.{row-end}
 use Rattle.common.specs.Lists.{at}
 use Rattle.common.specs.declared.Fate.{Fate}
 use Rattle.common.specs.declared.Fate.the-variants.{Going, Refused}
 use Rattle.float.specs.Ops.{clamp}
-use Rattle.laws.specs.Below.{below-turns}
-use Rattle.laws.specs.Limits.{Limit, limit-held, limit-place}
-use Rattle.laws.specs.Order.{neg-held, place-neg, up-nlt}
+use Rattle.float_laws.specs.Below.{below-turns}
+use Rattle.float_laws.specs.Limits.{Limit, limit-held, limit-place}
+use Rattle.float_laws.specs.Order.{neg-held, place-neg, up-nlt}
 use Rattle.geom.specs.Vec as Vec
 use Rattle.geom.specs.Tensors.{invert3}
 use Rattle.actuators.specs.Maps.{isEmpty, controlDim}
@@ -52,16 +53,16 @@ append-fits [] l p q i = q i
 append-fits (x ∷ k) l p q zero = p 0
 append-fits (x ∷ k) l p q (suc i) = append-fits k l (λ j. p (suc j)) q i
 
-pub zero-fits : T (fits binary64 Vec.plusZero)
+pub zero-fits : T (fits binary64 Floats.plusZero)
 unfolding fits ofBits
 zero-fits = tt
 
-zeros : (n : ℕ) → All (replicate n Vec.plusZero)
+zeros : (n : ℕ) → All (replicate n Floats.plusZero)
 zeros zero = tt
 zeros (suc n) = (zero-fits, zeros n)
 
-pub zeros-fit : (n : ℕ) → Fit (replicate n Vec.plusZero)
-zeros-fit n = all-fit (replicate n Vec.plusZero) (zeros n)
+pub zeros-fit : (n : ℕ) → Fit (replicate n Floats.plusZero)
+zeros-fit n = all-fit (replicate n Floats.plusZero) (zeros n)
 
 -- ---- a row that `allocate` gives: 20 numbers, that f64 holds where it holds the torque
 record Row (tau : List Float) (a : Allocated) : Type 0 where
@@ -110,7 +111,7 @@ module _ (tau : List Float) where
 
   pyramid-alone : (p : CmgPyramid) → Row tau (Allocate.pyramidAlone p tau)
   unfolding Allocate.pyramidAlone
-  pyramid-alone p = let a = pyramidA (p .«skew_rad») (replicate 4 Vec.plusZero) in pyramid-row (a .fate) (a .a) p
+  pyramid-alone p = let a = pyramidA (p .«skew_rad») (replicate 4 Floats.plusZero) in pyramid-row (a .fate) (a .a) p
 
   served-row : (c : Cmgs) (m : ActuatorMap) → Row tau (Allocate.servedBy c m tau)
   served-row Without m = axes-row m
@@ -148,7 +149,7 @@ module _ (m : ActuatorMap) (narrow : controlDim m ≤ 12) (duration : Float) (to
   record Filled (n : ℕ) (l : List Float) : Type 0 where
     long : length l ≡ 193
     first : at l 0 ≡ duration
-    past : (i : ℕ) → 1 + n * c ≤ i → i < 193 → at l i ≡ Vec.plusZero
+    past : (i : ℕ) → 1 + n * c ≤ i → i < 193 → at l i ≡ Floats.plusZero
     fit : T (fits binary64 duration) → Fit torques → Fit l
 
   turn : (k : ℕ) → k < 16 → (l : List Float) → Filled k l → Filled (suc k) (Seeds.allocateTurn m torques k l)
@@ -177,24 +178,24 @@ module _ (m : ActuatorMap) (narrow : controlDim m ≤ 12) (duration : Float) (to
       lu : length u ≡ c
       lu = length-take-le c (x .u) (omega (arith, A .long, narrow))
 
-  begin : Filled 0 (set (replicate 193 Vec.plusZero) 0 duration)
+  begin : Filled 0 (set (replicate 193 Floats.plusZero) 0 duration)
   begin = record {
     long = refl;
     first = refl;
     past = λ i q r. began i q r;
-    fit = λ F G. set-all (λ x. T (fits binary64 x)) (replicate 193 Vec.plusZero) 0 duration F (zeros-fit 193);
+    fit = λ F G. set-all (λ x. T (fits binary64 x)) (replicate 193 Floats.plusZero) 0 duration F (zeros-fit 193);
   }
     where
-      began : (i : ℕ) → 1 + 0 * c ≤ i → i < 193 → at (set (replicate 193 Vec.plusZero) 0 duration) i ≡ Vec.plusZero
+      began : (i : ℕ) → 1 + 0 * c ≤ i → i < 193 → at (set (replicate 193 Floats.plusZero) 0 duration) i ≡ Floats.plusZero
       began zero q r = absurd (no q)
         where
           no : 1 + 0 * c ≤ 0 → ⊥
           no q = omega arith
-      began (suc i) q r = getD-replicate 192 i Vec.plusZero nan (omega arith)
+      began (suc i) q r = getD-replicate 192 i Floats.plusZero nan (omega arith)
 
   filled : Filled 16 (Seeds.allocated m duration torques)
   unfolding Seeds.allocated
-  filled = below-turns Filled (Seeds.allocateTurn m torques) (set (replicate 193 Vec.plusZero) 0 duration) 16 turn begin
+  filled = below-turns Filled (Seeds.allocateTurn m torques) (set (replicate 193 Floats.plusZero) 0 duration) 16 turn begin
 
   -- ---- and projected
   module _ (M : MapOk m) (box : List Float) (L : (i : ℕ) → i < 3 → Limit (at box i)) where
@@ -215,7 +216,7 @@ module _ (m : ActuatorMap) (narrow : controlDim m ≤ 12) (duration : Float) (to
     pub seed-duration : at (Seeds.seedDecision m box duration torques) 0 ≡ duration
     seed-duration = done .before ∙ filled .first
 
-    pub seed-past : (i : ℕ) → packedLen c ≤ i → i < 193 → at (Seeds.seedDecision m box duration torques) i ≡ Vec.plusZero
+    pub seed-past : (i : ℕ) → packedLen c ≤ i → i < 193 → at (Seeds.seedDecision m box duration torques) i ≡ Floats.plusZero
     seed-past i h k = done .after i h ∙ filled .past i h k
 
     -- f64 holds it, where it holds the seed's numbers

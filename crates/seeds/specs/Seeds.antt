@@ -3,6 +3,7 @@ use Prim.Native.Nat.{ℕ, _+_, _*_}
 use mathlib.Core.List.{List, [], _∷_}
 use lib.ListN.{set, take, replicate}
 use lib.Ieee.{Float}
+use Rattle.common.specs.Floats as Floats
 use Rattle.common.specs.Iter.{iter}
 use Rattle.common.specs.Lists.{at, pasted}
 use Rattle.common.specs.declared.Fate.{Fate}
@@ -31,7 +32,7 @@ allocateTurn m torques k z = pasted z (1 + k * controlDim m) (1 + k * controlDim
 
 -- the duration as it stands and the 16 rows, past which stands +0; torque 16 is not read
 unfoldable pub allocated : ActuatorMap → Float → List Float → List Float
-allocated m duration torques = iter (allocateTurn m torques) (set (replicate 193 Vec.plusZero) 0 duration) 16
+allocated m duration torques = iter (allocateTurn m torques) (set (replicate 193 Floats.plusZero) 0 duration) 16
 
 -- each control of the rows held to its limit
 unfoldable pub seedDecision : ActuatorMap → List Float → Float → List Float → List Float

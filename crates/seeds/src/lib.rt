@@ -9,13 +9,16 @@ ghost use Rattle.seeds.specs.Seeds as Seeds;
 use actuators::ActuatorMap;
 use actuators::allocate_body_torque;
 use actuators::control_dim;
+use common::DECISION_NUMBERS;
+use common::Decision;
 use common::Fate;
+use common::STEPS;
 use forward::decisions::project_rows;
 use held_counts::held_counts;
 
 // The seed's decision, and how many of its 16 controls at each place of a row were held to their limits.
 pub struct SeedDecision {
-    pub z: [f64; 193],
+    pub z: Decision,
     pub held: [usize; 12],
 }
 
@@ -52,13 +55,13 @@ fn row_of(map: ActuatorMap, torques: &[f64], k: usize) -> [f64; 20]
 }
 
 // The 16 rows allocated, n controls to a row.
-fn allocate_rows(map: ActuatorMap, n: usize, torques: &[f64], z: [f64; 193]) -> [f64; 193]
+fn allocate_rows(map: ActuatorMap, n: usize, torques: &[f64], z: Decision) -> Decision
     requires { ⌜ (n ≡ controlDim map) × ((n ≤ 12) × (48 ≤ length (now torques))) ⌝ }
     ensures { λ r. ⌜ r ≡ iter (Seeds.allocateTurn map (now (torques .entry))) z 16 ⌝ }
 {
     let mut out = z;
     let mut k: usize = 0;
-    while k < 16 {
+    while k < STEPS {
         let at = 1 + k * n;
         let end = at + n;
         let u = row_of(map, torques, k);
@@ -80,7 +83,7 @@ pub fn seed_decision(
     ensures { λ r. ⌜ r .held ≡ Seeds.seedHeld map «torque_limit» duration (now (torques .entry)) ⌝ }
 {
     let n = control_dim(map);
-    let mut z = [0.0; 193];
+    let mut z = [0.0; DECISION_NUMBERS];
     z[0] = duration;
     let rows = allocate_rows(map, n, torques, z);
     let projected = project_rows(map, n, torque_limit, rows);

@@ -6,7 +6,8 @@ use native.Mathlib.Omega.{arith}
 use lib.ListN.{length, take, drop, length-take, length-drop}
 use lib.Seq.{getD-take, getD-drop, ext-getD}
 use lib.Ieee.{Float, nan, binary64, div}
-use Rattle.common.specs.Iter.{iter, row-end}
+use Rattle.common.specs.Iter.{iter}
+use Rattle.common.specs.IterLaws.{row-end}
 use Rattle.common.specs.Lists.{at, slice}
 use Rattle.common.specs.declared.Fate.{Fate}
 use Rattle.common.specs.declared.Fate.the-variants.{Going, Refused}
@@ -14,12 +15,13 @@ use Rattle.actuators.specs.Maps.{controlDim}
 use Rattle.problem.specs.declared.CheckedProblem.{CheckedProblem}
 use Rattle.forward.specs.Decisions.{rowOf, sixteen, stepTime}
 use Rattle.forward.specs.Steps.{Body, step}
-use Rattle.forward.specs.Runs.{Course, advance, courseBy, courseTurn, startCourse, bodyOf, startOf}
+use Rattle.forward.specs.Runs.{Rollout, advance, rolloutBy, rolloutTurn, startRollout, bodyOf, startOf}
 use Rattle.forward.specs.Rows.{nodeFrom, nodesFrom, SameBelow}
 use Rattle.forward.specs.RowLaws.{nodes-at}
-use Rattle.forward.specs.PartLaws.{Alike, courseOf, stands-same}
+use Rattle.forward.specs.PartLaws.{Alike, rolloutOf, stands-same}
 use Rattle.forward.specs.declared.Node.{Node}
-use Rattle.residuals.specs.Sums.{nodeAt, energyOf, smoothOf}
+use Rattle.forward.specs.Runs.{nodeAt}
+use Rattle.residuals.specs.Sums.{energyOf, smoothOf}
 use Rattle.residuals.specs.Residuals.{errorOf, targetOf}
 use Rattle.residuals.specs.Begins.{Summed, Begins}
 use Rattle.residuals.specs.declared.Begun.{Begun}
@@ -48,11 +50,11 @@ module _ (n k : ℕ) (y z : List Float) (long : length y ≡ length z) (same : A
       ∙ (same (1 + j * n + i) (omega (arith, row-end j k n l))
       ∙ sym (getD-take (1 + j * n + n - (1 + j * n)) (drop (1 + j * n) z) i nan w ∙ getD-drop (1 + j * n) z i nan))))
 
-  turn-same : (b : Body) (j : ℕ) → j < k → (c : Course) → courseTurn b n z j c ≡ courseTurn b n y j c
-  unfolding courseTurn
+  turn-same : (b : Body) (j : ℕ) → j < k → (c : Rollout) → rolloutTurn b n z j c ≡ rolloutTurn b n y j c
+  unfolding rolloutTurn
   turn-same b j l c = by (c .fate)
     where
-      by : (f : Fate) → courseBy f b n z j c ≡ courseBy f b n y j c
+      by : (f : Fate) → rolloutBy f b n z j c ≡ rolloutBy f b n y j c
       by Going = ap (λ (u : List Float). advance (b .frame .dt) j c (step b u j (c .s))) (sym (row-same j l))
       by (Refused p q) = refl
 
@@ -95,9 +97,9 @@ module _ (p : CheckedProblem) (n : ℕ) (z y : List Float) (b : Base) (v errors 
   pub after-shared : After p y (b .steps) (b .at) v
   after-shared =
       rw (← e)
-      (subst (λ (x : Course). Alike (b .steps) (courseOf (b .at) v) x)
-      (ap (λ (t : Float). iter (courseTurn (bodyOf p t) n z) (startCourse (startOf p)) (b .steps)) (time-same n (b .steps) y z (s .long) (s .agree))
-      ∙ iter-agree (courseTurn (bodyOf p (stepTime y)) n z) (courseTurn (bodyOf p (stepTime y)) n y) (startCourse (startOf p)) (b .steps) (turn-same n (b .steps) y z (s .long) (s .agree) (bodyOf p (stepTime y))))
+      (subst (λ (x : Rollout). Alike (b .steps) (rolloutOf (b .at) v) x)
+      (ap (λ (t : Float). iter (rolloutTurn (bodyOf p t) n z) (startRollout (startOf p)) (b .steps)) (time-same n (b .steps) y z (s .long) (s .agree))
+      ∙ iter-agree (rolloutTurn (bodyOf p (stepTime y)) n z) (rolloutTurn (bodyOf p (stepTime y)) n y) (startRollout (startOf p)) (b .steps) (turn-same n (b .steps) y z (s .long) (s .agree) (bodyOf p (stepTime y))))
       (rw (← e) at (h .after)))
 
   pub begins-shared : Begins (targetOf p) (stepTime y) v (b .steps) (b .sums) errors

@@ -10,14 +10,17 @@ ghost use Rattle.common.specs.declared.Fate.the-variants.{Going};
 ghost use Rattle.actuators.specs.Maps.{controlDim, isSized};
 ghost use Rattle.residuals.specs.Residuals.{residualsOf};
 ghost use Rattle.shared_runs.specs.Shared.{Agree, Same, Keeps, Holds};
+use common::Decision;
 use common::Fate;
+use common::SOLVER_NODES;
+use common::STEPS;
 use control_rows::WheelLaw;
 use float_bits::same_bits;
 use forward::Partway;
 use forward::Skew;
-use forward::runs::launch;
 use forward::runs::run_on;
 use forward::runs::start;
+use forward::runs::start_gimbals;
 use forward::runs::steps_under;
 use forward::runs::unbegun;
 use problem::CheckedProblem;
@@ -59,7 +62,7 @@ pub fn base_start(p: CheckedProblem) -> Base
     let momenta = p.momenta;
     let from = start(&wheels, map.wheel_count, p.q0, momenta);
     let cmgs = map.cmgs;
-    let l = launch(cmgs);
+    let l = start_gimbals(cmgs);
     let a = l.a;
     let skew = l.skew;
     let fate = l.fate;
@@ -79,9 +82,9 @@ pub fn base_start(p: CheckedProblem) -> Base
 // The base run of the decision z, one step further where there is one: its node goes into the lent rows, its pointing error beside them.
 pub fn base_next(
     p: CheckedProblem,
-    z: &[f64; 193],
+    z: &Decision,
     b: Base,
-    nodes: &mut [[f64; 22]; 17],
+    nodes: &mut [[f64; 22]; SOLVER_NODES],
     errors: &mut [[f64; 3]; 16],
 ) -> Base
     requires { ⌜ (isSized (p .map) ≡ true) × ((controlDim (p .map) ≤ 12) × Holds p (now z) b (now nodes) (now errors)) ⌝ }
@@ -94,7 +97,7 @@ pub fn base_next(
     if !b.on {
         return b;
     }
-    if 16 <= k {
+    if STEPS <= k {
         return b;
     }
     let w = steps_under(WheelLaw::Once, p, z, skew, k, k + 1, c, nodes);
@@ -127,7 +130,7 @@ fn same_front(y: &[f64], z: &[f64], e: usize) -> bool
 }
 
 // Whether a base run of z that is kept, or not, begins the run of y: the first steps, n controls a row.
-fn shares(on: bool, steps: usize, n: usize, z: &[f64; 193], y: &[f64; 193]) -> bool
+fn shares(on: bool, steps: usize, n: usize, z: &Decision, y: &Decision) -> bool
     requires { ⌜ (on ≡ true → steps ≤ 16) × (n ≤ 12) ⌝ }
     ensures { λ r. ⌜ (r ≡ true → (on ≡ true) × Same (1 + steps * n) (now (y .entry)) (now (z .entry))) ⌝ }
 {
@@ -141,10 +144,10 @@ fn shares(on: bool, steps: usize, n: usize, z: &[f64; 193], y: &[f64; 193]) -> b
 pub fn residuals_sharing(
     p: CheckedProblem,
     n: usize,
-    z: &[f64; 193],
+    z: &Decision,
     b: Base,
-    y: &[f64; 193],
-    nodes: &mut [[f64; 22]; 17],
+    y: &Decision,
+    nodes: &mut [[f64; 22]; SOLVER_NODES],
     errors: &[[f64; 3]; 16],
 ) -> ResidualVector
     requires { ⌜ (isSized (p .map) ≡ true) × ((controlDim (p .map) ≤ 12) × ((n ≡ controlDim (p .map)) × Holds p (now z) b (now nodes) (now errors))) ⌝ }

@@ -70,8 +70,8 @@ form head words tail = record { head = head; words = words; tail = tail }
 unfoldable pub floats : ℕ → Row → Row
 floats n r = pick (eqb (r .count) n) r wrongRow
 
-unfoldable pub ended : List ℕ → List ℕ → Row → Row
-ended s tail r =
+unfoldable pub withTail : List ℕ → List ℕ → Row → Row
+withTail s tail r =
     pick (r .ok && isAt s (r .at) tail) (record { ok = true; at = r .at + length tail; count = r .count; v = r .v; limit = r .limit }) wrongRow
 
 -- ---- a line of a text s, its words in the form f
@@ -103,7 +103,7 @@ module _ (f : Form) (s : List ℕ) where
   wordsAt at words = wordsBy words (rowAt at)
 
   unfoldable pub lineAt : ℕ → LineForm → Row
-  lineAt at l = pick (isAt s at (l .head)) (ended s (l .tail) (wordsAt (at + length (l .head)) (l .words))) wrongRow
+  lineAt at l = pick (isAt s at (l .head)) (withTail s (l .tail) (wordsAt (at + length (l .head)) (l .words))) wrongRow
 
 -- ---- contracts: the answer is the definition's, and the next position is within the text
 

@@ -172,8 +172,8 @@ fn words_at(s: &[u8], at: usize, words: Words) -> Row
 }
 
 // A row with a line's tail behind it.
-fn ended(s: &[u8], r: Row, tail: &[u8]) -> Row
-    ensures { λ q. ⌜ q ≡ Lines.ended (now (s .entry)) (now (tail .entry)) r ⌝ }
+fn with_tail(s: &[u8], r: Row, tail: &[u8]) -> Row
+    ensures { λ q. ⌜ q ≡ Lines.withTail (now (s .entry)) (now (tail .entry)) r ⌝ }
 {
     if !r.ok {
         return wrong_row();
@@ -201,5 +201,5 @@ pub fn line_at(s: &[u8], at: usize, head: &[u8], words: Words, tail: &[u8]) -> R
         return wrong_row();
     }
     let r = words_at(s, at + head.len(), words);
-    ended(s, r, tail)
+    with_tail(s, r, tail)
 }

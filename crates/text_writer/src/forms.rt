@@ -9,6 +9,7 @@ use crate::put::put_all;
 use crate::put::put_digits;
 use crate::put::put_word;
 use crate::put::put_words;
+use common::SOLVER_NODES;
 use forward::Node;
 use geom::Quat;
 
@@ -104,7 +105,7 @@ fn put_node(b: &mut [u8], at: usize, node: Node, wheels: usize) -> usize
 }
 
 // The 17 nodes.
-pub fn put_nodes(b: &mut [u8], at: usize, nodes: [Node; 17], wheels: usize) -> usize
+pub fn put_nodes(b: &mut [u8], at: usize, nodes: [Node; SOLVER_NODES], wheels: usize) -> usize
     requires { ⌜ (at < 2 ^ 27) × (wheels ≤ 8) ⌝ }
     ensures { λ r. ⌜ Puts (now (b .entry)) at (Texts.nodes nodes wheels) 6494 (now (b .exit)) r ⌝ }
 {

@@ -3,6 +3,8 @@ ghost use mathlib.Core.Path.{_≡_};
 ghost use Prim.Native.Nat.{_≤_, _<_};
 ghost use Rattle.text_writer.specs.Puts.{Puts};
 ghost use Rattle.text_writer.specs.Texts as Texts;
+use common::Decision;
+use common::SOLVER_NODES;
 use forward::Node;
 use geom::Quat;
 
@@ -45,8 +47,8 @@ pub fn write_path(
     iterations: usize,
     controls: usize,
     wheels: usize,
-    z: [f64; 193],
-    nodes: [Node; 17],
+    z: Decision,
+    nodes: [Node; SOLVER_NODES],
 ) -> usize
     ensures { λ r. ⌜ Puts (now (out .entry)) 0 (Texts.path runs iterations controls wheels z nodes) 9970 (now (out .exit)) r ⌝ }
 {

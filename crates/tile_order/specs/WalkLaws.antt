@@ -6,7 +6,8 @@ use mathlib.Core.List.{List}
 use native.Mathlib.Omega.{arith}
 use lib.ListN.{getD, set}
 use lib.Seq.{set-set, set-getD}
-use Rattle.common.specs.Iter.{iter, iter-next, iter-stays}
+use Rattle.common.specs.Iter.{iter}
+use Rattle.common.specs.IterLaws.{iter-next, iter-stays}
 use Rattle.tile_order.specs.LoopLaws.{iter-skip}
 use Rattle.tile_order.specs.Search.{Progress, progress, turn}
 use Rattle.tile_order.specs.Inner.{Links, Stands}

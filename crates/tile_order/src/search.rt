@@ -23,8 +23,12 @@ fn turn(
     bound: &mut u64,
     placed: &mut u64,
 ) -> bool
-    requires { ⌜ Inner.Ready n (now times) (left + 1) done (now path) cost (now after) × Inner.Stands n (now path) (done + 1) low × (getD (now after) low 0 < n) ⌝ }
-    ensures { λ r. ⌜ Search.progress (now (best .exit)) (now (bound .exit)) (now (placed .exit)) r ≡ Search.turn (Search.visit n budget (now (times .entry)) left (done + 1)) n budget (now (times .entry)) (now (path .entry)) done cost (getD (now (after .entry)) low 0) (Search.progress (now (best .entry)) (now (bound .entry)) (now (placed .entry)) false) ⌝ }
+    requires { ⌜ Inner.Ready n (now times) (left + 1) done (now path) cost (now after)
+        × Inner.Stands n (now path) (done + 1) low
+        × (getD (now after) low 0 < n) ⌝ }
+    ensures { λ r. ⌜ Search.progress (now (best .exit)) (now (bound .exit)) (now (placed .exit)) r
+        ≡ Search.turn (Search.visit n budget (now (times .entry)) left (done + 1)) n budget (now (times .entry)) (now (path .entry)) done cost
+        (getD (now (after .entry)) low 0) (Search.progress (now (best .entry)) (now (bound .entry)) (now (placed .entry)) false) ⌝ }
     ensures { λ _. ⌜ now (path .exit) ≡ now (path .entry) ⌝ }
     ensures { λ _. ⌜ now (after .exit) ≡ now (after .entry) ⌝ }
 {
@@ -75,7 +79,9 @@ pub fn visit(
     placed: &mut u64,
 ) -> bool
     requires { ⌜ Inner.Ready n (now times) left done (now path) cost (now after) ⌝ }
-    ensures { λ r. ⌜ Search.progress (now (best .exit)) (now (bound .exit)) (now (placed .exit)) r ≡ Search.visit n budget (now (times .entry)) left done (now (path .entry)) cost (Search.progress (now (best .entry)) (now (bound .entry)) (now (placed .entry)) false) ⌝ }
+    ensures { λ r. ⌜ Search.progress (now (best .exit)) (now (bound .exit)) (now (placed .exit)) r
+        ≡ Search.visit n budget (now (times .entry)) left done (now (path .entry)) cost
+        (Search.progress (now (best .entry)) (now (bound .entry)) (now (placed .entry)) false) ⌝ }
     ensures { λ _. ⌜ now (path .exit) ≡ now (path .entry) ⌝ }
     ensures { λ _. ⌜ now (after .exit) ≡ now (after .entry) ⌝ }
 {

@@ -1,7 +1,7 @@
 -- What one slew hands to the next: the momenta that a path ends with, and a problem that starts with given ones. Definitions only.
 use Rattle.problem.specs.declared.Momenta.{Momenta}
 use Rattle.problem.specs.declared.Problem.{Problem}
-use Rattle.residuals.specs.Sums.{nodeAt}
+use Rattle.forward.specs.Runs.{nodeAt}
 use Rattle.planner.specs.declared.Path.{Path}
 
 -- the momenta of node 16, one a wheel

@@ -1,6 +1,7 @@
 // The wheels' momenta from one slew to the next: those that a path ends with, and a problem that starts with given ones.
 ghost use mathlib.Core.Path.{_≡_};
 ghost use Rattle.wheel_momenta.specs.Successive as Successive;
+use common::STEPS;
 use planner::Path;
 use problem::Momenta;
 use problem::Problem;
@@ -10,7 +11,7 @@ pub fn last_momenta(path: Path) -> Momenta
     ensures { λ r. ⌜ r ≡ Successive.lastMomenta path ⌝ }
 {
     let nodes = path.nodes;
-    let node = nodes[16];
+    let node = nodes[STEPS];
     let at = node.hw;
     Momenta {
         count: path.wheels,

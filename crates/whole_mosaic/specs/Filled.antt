@@ -29,9 +29,9 @@ pub record Lends (legs tiles a b c d : ℕ) : Type 0 where
 -- where no leg began a run, else all +0); and demand 3 of every leg
 pub record Filled (f : Flight) (way : Way) (p : Problem) (tile : ℕ → Quat) (m : Momenta) (r : Cursor) (counts counts′ : List (List ℕ)) (times times′ decisions decisions′ : List (List Float)) (nodes nodes′ : List (List (List Float))) (ws ws′ : List Float) : Type 0 where
   pub cursor : r ≡ f .cursor
-  pub counts-as : counts′ ≡ Layout.over Layout.counts (f .legs) counts
-  pub times-as : times′ ≡ Layout.over Layout.times (f .legs) times
-  pub decisions-as : decisions′ ≡ Layout.over Layout.decision (f .legs) decisions
-  pub nodes-as : nodes′ ≡ Layout.over Layout.nodes (f .legs) nodes
+  pub counts-as : counts′ ≡ Layout.legRows Layout.counts (f .legs) counts
+  pub times-as : times′ ≡ Layout.legRows Layout.times (f .legs) times
+  pub decisions-as : decisions′ ≡ Layout.legRows Layout.decision (f .legs) decisions
+  pub nodes-as : nodes′ ≡ Layout.legRows Layout.nodes (f .legs) nodes
   pub left : ws′ ≡ leaves (r .runs + r .«refused_runs») ws
   pub promised : (i : ℕ) (leg : Planned) → getElem? (f .legs) i ≡ some leg → LegPromised way (length ws) p (tile i) (tile (i + 1)) (momentaAt m (f .legs) i) leg

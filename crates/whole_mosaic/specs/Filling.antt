@@ -27,16 +27,16 @@ use Rattle.mosaic_laws.specs.Legs.{legal, going-index, flown-next, stays, each-
 use Rattle.mosaic_laws.specs.Turns.{planned-open, next-open}
 use Rattle.whole_mosaic.specs.Filled.{Filled}
 use Rattle.whole_mosaic.specs.Layout as Layout
-use Rattle.whole_mosaic.specs.Layout.{over}
+use Rattle.whole_mosaic.specs.Layout.{legRows}
 
 -- ---- a row more
-pub put-row : {A : Type 0} (f : Planned → A) (legs : List Planned) (leg : Planned) (out : List A) → length legs < length out → set (over f legs out) (length legs) (f leg) ≡ over f (legs ++ leg ∷ []) out
+pub put-row : {A : Type 0} (f : Planned → A) (legs : List Planned) (leg : Planned) (out : List A) → length legs < length out → set (legRows f legs out) (length legs) (f leg) ≡ legRows f (legs ++ leg ∷ []) out
 put-row f [] leg [] h = absurd (omega arith)
 put-row f [] leg (x ∷ out) h = refl
 put-row f (l ∷ legs) leg [] h = absurd (omega arith)
 put-row {A} f (l ∷ legs) leg (x ∷ out) h = ap (λ (v : List A). f l ∷ v) (put-row f legs leg out (omega arith))
 
-row-as : {A : Type 0} (f : Planned → A) (legs : List Planned) (k : ℕ) → length legs ≡ k → (leg : Planned) (out out′ : List A) → out′ ≡ over f legs out → k < length out → set out′ k (f leg) ≡ over f (legs ++ leg ∷ []) out
+row-as : {A : Type 0} (f : Planned → A) (legs : List Planned) (k : ℕ) → length legs ≡ k → (leg : Planned) (out out′ : List A) → out′ ≡ legRows f legs out → k < length out → set out′ k (f leg) ≡ legRows f (legs ++ leg ∷ []) out
 row-as f legs k n leg out out′ e h = rw (e, ← n) (put-row f legs leg out (omega arith))
 
 -- demand 3 of a leg, by its place
@@ -58,10 +58,10 @@ module _ (way : Way) (p : Problem) (tile : ℕ → Quat) (m : Momenta) (ws : Lis
     pub is : record { cursor = c; legs = legs } ≡ flown plan p tile m k
     pub goes : c .fate ≡ Going
     pub runs : c .runs ≤ k * mostRuns
-    pub counts-as : counts′ ≡ over Layout.counts legs counts
-    pub times-as : times′ ≡ over Layout.times legs times
-    pub decisions-as : decisions′ ≡ over Layout.decision legs decisions
-    pub nodes-as : nodes′ ≡ over Layout.nodes legs nodes
+    pub counts-as : counts′ ≡ legRows Layout.counts legs counts
+    pub times-as : times′ ≡ legRows Layout.times legs times
+    pub decisions-as : decisions′ ≡ legRows Layout.decision legs decisions
+    pub nodes-as : nodes′ ≡ legRows Layout.nodes legs nodes
     pub left : ws′ ≡ leaves (c .runs) ws
     pub promised : (i : ℕ) (leg : Planned) → getElem? legs i ≡ some leg → LegPromised way (length ws) p (tile i) (tile (i + 1)) (momentaAt m legs i) leg
 

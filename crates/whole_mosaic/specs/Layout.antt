@@ -30,8 +30,8 @@ abbrev pub nodes : Planned → List (List Float)
 nodes leg = rows (leg .path .nodes)
 
 -- a row for each leg, in turn, and behind them what stood there
-abbrev pub over : {A : Type 0} → (Planned → A) → List Planned → List A → List A
-over f legs out = map f legs ++ drop (length legs) out
+abbrev pub legRows : {A : Type 0} → (Planned → A) → List Planned → List A → List A
+legRows f legs out = map f legs ++ drop (length legs) out
 
 -- ---- the whole mosaic of rows of tiles, into lent lists of a, b, c and d rows
 

@@ -5,7 +5,9 @@ ghost use Rattle.mosaic.specs.Mosaics as Mosaics;
 ghost use Rattle.mosaic.specs.Ways as Ways;
 ghost use Rattle.whole_mosaic.specs.Filled as Filled;
 ghost use Rattle.whole_mosaic.specs.Layout as Layout;
+use common::Decision;
 use common::Fate;
+use common::SOLVER_NODES;
 use geom::Quat;
 use mosaic::Cursor;
 use mosaic::check_count;
@@ -55,12 +57,14 @@ fn put_legs(
     legs: usize,
     counts: &mut [[usize; 4]],
     times: &mut [[f64; 2]],
-    decisions: &mut [[f64; 193]],
-    nodes: &mut [[[f64; 22]; 17]],
+    decisions: &mut [Decision],
+    nodes: &mut [[[f64; 22]; SOLVER_NODES]],
     ws: &mut [f64],
 ) -> Cursor
     requires { ⌜ Filled.Lends legs (length (now tiles)) (length (now counts)) (length (now times)) (length (now decisions)) (length (now nodes)) ⌝ }
-    ensures { λ r. ⌜ Filled.Filled (Mosaics.flown (Ways.plannerBy way (length (now (ws .entry)))) p (Mosaics.tileOf (now (tiles .entry))) m legs) way p (Mosaics.tileOf (now (tiles .entry))) m r (now (counts .entry)) (now (counts .exit)) (now (times .entry)) (now (times .exit)) (now (decisions .entry)) (now (decisions .exit)) (now (nodes .entry)) (now (nodes .exit)) (now (ws .entry)) (now (ws .exit)) ⌝ }
+    ensures { λ r. ⌜ Filled.Filled (Mosaics.flown (Ways.plannerBy way (length (now (ws .entry)))) p (Mosaics.tileOf (now (tiles .entry))) m legs) way p
+        (Mosaics.tileOf (now (tiles .entry))) m r (now (counts .entry)) (now (counts .exit)) (now (times .entry)) (now (times .exit))
+        (now (decisions .entry)) (now (decisions .exit)) (now (nodes .entry)) (now (nodes .exit)) (now (ws .entry)) (now (ws .exit)) ⌝ }
 {
     let mut c = start(m);
     let mut k: usize = 0;
@@ -132,11 +136,14 @@ pub fn plan_mosaic(
     tiles: &[[f64; 4]],
     counts: &mut [[usize; 4]],
     times: &mut [[f64; 2]],
-    decisions: &mut [[f64; 193]],
-    nodes: &mut [[[f64; 22]; 17]],
+    decisions: &mut [Decision],
+    nodes: &mut [[[f64; 22]; SOLVER_NODES]],
     ws: &mut [f64],
 ) -> Cursor
-    ensures { λ r. ⌜ Filled.Filled (Layout.lent (Ways.plannerBy way (length (now (ws .entry)))) p (now (tiles .entry)) m (length (now (counts .entry))) (length (now (times .entry))) (length (now (decisions .entry))) (length (now (nodes .entry)))) way p (Mosaics.tileOf (now (tiles .entry))) m r (now (counts .entry)) (now (counts .exit)) (now (times .entry)) (now (times .exit)) (now (decisions .entry)) (now (decisions .exit)) (now (nodes .entry)) (now (nodes .exit)) (now (ws .entry)) (now (ws .exit)) ⌝ }
+    ensures { λ r. ⌜ Filled.Filled
+        (Layout.lent (Ways.plannerBy way (length (now (ws .entry)))) p (now (tiles .entry)) m (length (now (counts .entry))) (length (now (times .entry))) (length (now (decisions .entry))) (length (now (nodes .entry))))
+        way p (Mosaics.tileOf (now (tiles .entry))) m r (now (counts .entry)) (now (counts .exit)) (now (times .entry)) (now (times .exit))
+        (now (decisions .entry)) (now (decisions .exit)) (now (nodes .entry)) (now (nodes .exit)) (now (ws .entry)) (now (ws .exit)) ⌝ }
 {
     let fate = check_tiles(
         tiles.len(),

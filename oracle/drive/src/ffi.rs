@@ -519,10 +519,22 @@ pub fn slew_order(tiles: usize, times: &[u32], budget: u64, order: &mut [usize; 
     unsafe { orders::slew_order(tiles, times.as_ptr(), times.len(), budget, order, told) }
 }
 
-/// Whole numbers for the drive board: a sample and a part as they are, a list as a pointer and a count of rows.
+/// Lists of samples, in numbers and in the drive board's: a pointer and a count of rows.
 mod rows_of_numbers {
     use super::A9;
     unsafe extern "C" {
+        pub fn slew_sample_list(
+            j: &A9,
+            tolerance: f64,
+            duration: f64,
+            nodes: &[[f64; 22]; 17],
+            requested: usize,
+            alpha: f64,
+            out: *mut [f64; 14],
+            out_len: usize,
+            rows: &mut usize,
+            place: &mut usize,
+        ) -> usize;
         pub fn slew_board_list(
             j: &A9,
             tolerance: f64,
@@ -554,7 +566,23 @@ unsafe extern "C" {
     ) -> usize;
 }
 
-/// A path's whole list; its refusal's number.
+/// All samples of a path; the refusal's number.
+pub fn slew_sample_list(
+    j: &A9,
+    tolerance: f64,
+    duration: f64,
+    nodes: &[[f64; 22]; 17],
+    requested: usize,
+    alpha: f64,
+    out: &mut [[f64; 14]],
+    rows: &mut usize,
+    place: &mut usize,
+) -> usize {
+    let lent = (out.as_mut_ptr(), out.len());
+    unsafe { rows_of_numbers::slew_sample_list(j, tolerance, duration, nodes, requested, alpha, lent.0, lent.1, rows, place) }
+}
+
+/// A path's whole list for the drive board; its refusal's number.
 pub fn slew_board_list(
     j: &A9,
     tolerance: f64,

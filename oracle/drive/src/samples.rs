@@ -150,6 +150,61 @@ fn list_by_port(i: &[u64], o: &mut Words) {
     o.0.extend(given);
 }
 
+/// Rows behind a list, which no call may touch.
+const BEHIND: usize = 3;
+const STOOD: [f64; 14] = [77.0; 14];
+
+/// The rows lent: as many as there are samples, and some behind; or fewer.
+fn lent(track: &Track, fewer: u64) -> usize {
+    let count = track.count().unwrap_or(0);
+    if fewer == 0 { count + BEHIND } else { count.saturating_sub(fewer as usize) }
+}
+
+/// A whole list in one call: number, place, rows, and everything that was lent.
+fn list_in_one_call(i: &[u64], o: &mut Words) {
+    let mut r = Reader(i);
+    let t = Track::take(&mut r);
+    let mut out = vec![STOOD; lent(&t, r.n())];
+    let (mut rows, mut place) = (77, 77);
+    let number = slew_sample_list(&t.inertia, t.tolerance, t.duration, &t.nodes, t.requested, t.alpha, &mut out, &mut rows, &mut place);
+    [number, place, rows].iter().for_each(|n| o.n(*n as u64));
+    out.iter().for_each(|row| o.all(row));
+}
+
+/// The same by the Rust's `interpolate`, sample by sample, which tells where the list ends; where it is whole `densify` must have given it too.
+fn list_to_its_end(i: &[u64], o: &mut Words) -> bool {
+    let mut r = Reader(i);
+    let track = Track::take(&mut r);
+    let lent = lent(&track, r.n());
+    let mut rows: Vec<Vec<u64>> = Vec::new();
+    let mut ended = (0, 0);
+    match track.count() {
+        None => ended = (20, 0),
+        Some(count) if lent < count => ended = (99, 0),
+        Some(count) => {
+            for index in 0..count {
+                let mut one = Words::default();
+                track.rust(index, &mut one);
+                if one.0[0] != 0 {
+                    ended = (one.0[0], one.0[1]);
+                    break;
+                }
+                rows.push(one.0[2..].to_vec());
+            }
+            let mut whole = Words::default();
+            list_by_rust(&i[..i.len() - 1], &mut whole);
+            assert!(whole.0[0] == ended.0, "`densify` ends as its samples do");
+        }
+    }
+    o.placed(ended.0, ended.1);
+    o.n(rows.len() as u64);
+    rows.iter().for_each(|row| o.0.extend(row));
+    (rows.len()..lent).for_each(|_| o.all(&STOOD));
+    o.met("rows", rows.len() as u64);
+    o.met("whole lists", u64::from(ended.0 == 0));
+    true
+}
+
 /// The same by the Rust's `densify`, which names no sample.
 fn list_by_rust(i: &[u64], o: &mut Words) -> bool {
     let track = Track::take(&mut Reader(i));
@@ -175,7 +230,7 @@ fn list_by_rust(i: &[u64], o: &mut Words) -> bool {
 /// Inputs of a quick run, of a full run, and kept.
 const SIZES: [u64; 3] = [100_000, 2_000_000, 60];
 
-pub const SAMPLES: [Entry; 3] = [
+pub const SAMPLES: [Entry; 4] = [
     Entry::new(
         350,
         "samples",
@@ -238,4 +293,15 @@ pub const SAMPLES: [Entry; 3] = [
         },
     ),
     Entry::new(352, "sample lists", [500, 20_000, 0], |r, w| track(r).put(w), list_by_port, list_by_rust),
+    Entry::new(
+        353,
+        "sample lists in one call",
+        [500, 20_000, 0],
+        |r, w| {
+            track(r).put(w);
+            w.n(if r.one_in(8) { 1 + r.below(20) } else { 0 });
+        },
+        list_in_one_call,
+        list_to_its_end,
+    ),
 ];

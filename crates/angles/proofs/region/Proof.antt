@@ -5,12 +5,6 @@ use Rattle.angles.proofs.Regions.{is-outside, is-tiny, is-inside}
 use Rattle.angles.proofs.region.Statement.{statement}
 use Rattle.angles.proofs.region.Tie as tie
 
-in-range-requires : tie.Need-in-range-requires
-in-range-requires c κs = search needs
-
-is-tiny-requires : tie.Need-is-tiny-requires
-is-tiny-requires c κs = search needs
-
 returns : tie.Need-returns
 returns c =
     let t = c .before in
@@ -25,4 +19,4 @@ returns-3 : tie.Need-returns-3
 returns-3 c = is-outside _ _ true (c .before .in-range .ensures) (c .if1 .left)
 
 pub region-spec : {M : Type 1} → statement M
-region-spec = tie.close (tie.spec in-range-requires is-tiny-requires returns returns-2 returns-3)
+region-spec = tie.close (tie.spec (λ c κs. search needs) (λ c κs. search needs) returns returns-2 returns-3)

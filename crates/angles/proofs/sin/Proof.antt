@@ -8,12 +8,6 @@ use Rattle.angles.proofs.Answered.{sin-by, sine-at}
 use Rattle.angles.proofs.sin.Statement.{statement}
 use Rattle.angles.proofs.sin.Tie as tie
 
-in-range-requires : tie.Need-in-range-requires
-in-range-requires c κs = search needs
-
-is-tiny-requires : tie.Need-is-tiny-requires
-is-tiny-requires c κs = search needs
-
 returns : tie.Need-returns
 returns c =
     let t = c .before in
@@ -25,9 +19,6 @@ reduced-requires c κs =
     let t = c .before in
     let r = t .before .before in
     sym (is-inside _ _ _ (r .in-range .ensures) (t .is-tiny .ensures) (t .before .if1 .taken) (c .if2 .left))
-
-ring-at-requires : tie.Need-ring-at-requires
-ring-at-requires c κs = search needs
 
 returns-2 : tie.Need-returns-2
 returns-2 c =
@@ -44,10 +35,10 @@ pub sin-spec : {M : Type 1} → statement M
 sin-spec =
     tie.close
     (tie.spec
-    in-range-requires
-    is-tiny-requires
+    (λ c κs. search needs)
+    (λ c κs. search needs)
     returns
     reduced-requires
-    ring-at-requires
+    (λ c κs. search needs)
     returns-2
     returns-3)

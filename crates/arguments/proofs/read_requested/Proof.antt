@@ -4,7 +4,8 @@ use native.Mathlib.Omega.{arith}
 use mathlib.Core.Path.{_≡_}
 use borrow.Author.Tests.{eq-eqb, ne-eqb}
 use lib.ListN.{length}
-use Rattle.common.specs.Iter.{iter, iter-none, iter-next}
+use Rattle.common.specs.Iter.{iter}
+use Rattle.common.specs.IterLaws.{iter-none, iter-next}
 use Rattle.arguments.specs.Requests.{turn, requested}
 use Rattle.arguments.specs.declared.Requested.the-variants.{Of}
 use borrow.Author.Needs.{needs}
@@ -26,14 +27,16 @@ loop-holds c = (omega arith, iter-none (turn (c .before .before .args .word .now
 
 loop-again : tie.Need-loop-again Inv-loop μ-loop
 loop-again c =
+    let entry = c .before .before .before .before .before .before in
     let l = c .before .before .before .loop in
-    (omega arith, iter-next (turn (c .before .before .before .before .before .before .args .word .now)) (Of 0) (l .k) (l .inv .1) (c .next .ensures))
+    (omega arith, iter-next (turn (entry .args .word .now)) (Of 0) (l .k) (l .inv .1) (c .next .ensures))
 
 returns-2 : tie.Need-returns-2 Inv-loop μ-loop
 unfolding requested
 returns-2 c =
+    let entry = c .before .before .before .before in
     let l = c .before .loop in
-    let e : l .k ≡ length (c .before .before .before .before .args .word .now) = omega arith in
+    let e : l .k ≡ length (entry .args .word .now) = omega arith in
     rw (ne-eqb _ _ (c .before .before .if1 .left), ← e) (l .inv .1)
 
 pub read-requested-spec : {M : Type 1} → statement M

@@ -7,9 +7,6 @@ use Rattle.byte_planes.specs.CallLaws.{odd, many, narrow, whole, decode-
 use Rattle.byte_planes.proofs.decode.Statement.{statement}
 use Rattle.byte_planes.proofs.decode.Tie as tie
 
-mul-if1 : tie.Need-mul-if1
-mul-if1 c = search needs
-
 returns : tie.Need-returns
 returns c =
     let a = c .before .before .before .args in
@@ -28,12 +25,6 @@ returns-3 c =
     let e = decode-none (now (a .bytes)) (now (a .out)) (narrow (now (a .bytes)) (now (a .out)) (omega arith)) in
     (sym (e .0), sym (e .1))
 
-put-column-requires : tie.Need-put-column-requires
-put-column-requires c κs = search needs
-
-same-length : tie.Need-same-length
-same-length c = search needs
-
 returns-4 : tie.Need-returns-4
 returns-4 c =
     let a = c .before .before .before .before .before .before .before .before .before .args in
@@ -41,4 +32,4 @@ returns-4 c =
     (sym (e .0), c .before .before .put-column .ensures ∙ sym (e .1))
 
 pub decode-spec : {M : Type 1} → statement M
-decode-spec = tie.close (tie.spec mul-if1 returns returns-2 returns-3 put-column-requires same-length returns-4)
+decode-spec = tie.close (tie.spec (λ c. search needs) returns returns-2 returns-3 (λ c κs. search needs) (λ c. search needs) returns-4)

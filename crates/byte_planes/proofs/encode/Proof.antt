@@ -7,7 +7,7 @@ use native.Mathlib.Omega.{arith}
 use denote.Ref.{now}
 use lib.ListN.{length, drop}
 use Rattle.byte_planes.specs.Planes.{deltas, firstPlanes, planes}
-use Rattle.common.specs.Iter.{row-end}
+use Rattle.common.specs.IterLaws.{row-end}
 use Rattle.byte_planes.specs.CallLaws.{long, short, fits, encode-none, encode-all}
 use Rattle.byte_planes.proofs.Turns.{plane-next, plane-length}
 use Rattle.byte_planes.proofs.encode.Statement.{statement}
@@ -50,10 +50,11 @@ put-plane-requires c κs =
 
 loop-again : tie.Need-loop-again Inv-loop μ-loop
 loop-again c =
+    let loop-test = c .before .before .before .before .loop-test in
     let l = c .before .before .before .before .before .loop in
     let a = c .before .before .before .before .before .before .before .before .before .before .args in
     let w = now (a .column) in
-    let h = row-end (l .j) 8 (length w) (c .before .before .before .before .loop-test .taken) in
+    let h = row-end (l .j) 8 (length w) (loop-test .taken) in
     let e = c .before .before .put-plane .ensures in (
       omega arith,
       plane-next w (now (a .out)) (l .out) _ (l .j) (l .inv .1) e,

@@ -28,7 +28,9 @@ read-word-requires : tie.Need-read-word-requires Inv-loop μ-loop
 read-word-requires c κs = (omega arith, omega arith)
 
 mul-out : tie.Need-mul-out Inv-loop μ-loop
-mul-out c = omega (arith, c .before .before .before .before .before .good .1 .1 .0 .1)
+mul-out c =
+    let good = c .before .before .before .before .before .good in
+    omega (arith, good .1 .1 .0 .1)
 
 loop-again : tie.Need-loop-again Inv-loop μ-loop
 loop-again c =

@@ -5,7 +5,7 @@ use native.Mathlib.Omega.{arith}
 use denote.Ref.{now}
 use lib.ListN.{getD}
 use Rattle.byte_planes.specs.Planes.{wordAt}
-use Rattle.common.specs.Iter.{row-end}
+use Rattle.common.specs.IterLaws.{row-end}
 use Rattle.byte_planes.specs.ByteLaws.{word-grows}
 use Rattle.byte_planes.proofs.Turns.{room, word-next}
 use Rattle.byte_planes.proofs.read_word.Statement.{statement}

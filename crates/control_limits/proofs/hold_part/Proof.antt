@@ -3,7 +3,7 @@ use Rattle.common.specs.Lists.{at}
 use Prim.Native.Nat.{_≤_, _-_}
 use mathlib.Core.Path.{_≡_}
 use lib.ListN.{length, length-set}
-use Rattle.common.specs.Iter.{iter-none, iter-next}
+use Rattle.common.specs.IterLaws.{iter-none, iter-next}
 use Rattle.control_limits.specs.Limits as Limits
 use Rattle.control_rows.specs.Stored as Stored
 use native.Mathlib.Omega.{arith}
@@ -12,7 +12,7 @@ use Rattle.control_limits.proofs.hold_part.Statement.{statement}
 use Rattle.control_limits.proofs.hold_part.Tie as tie
 
 abbrev Inv-loop : tie.InvT-loop
-Inv-loop limits n u₀ i₀ u i = (i ≤ n) × ((length u ≡ length u₀) × (u ≡ Stored.stored (Limits.held (at limits)) u₀ i))
+Inv-loop limits n u₀ i₀ u i = (i ≤ n) × ((length u ≡ length u₀) × (u ≡ Stored.stored (Limits.holdAt (at limits)) u₀ i))
 
 abbrev μ-loop : tie.MeasureT-loop
 μ-loop limits n u₀ i₀ u i = n - i
@@ -21,11 +21,14 @@ loop-holds : tie.Need-loop-holds Inv-loop μ-loop
 loop-holds c = (search needs, (search needs, iter-none _ _))
 
 loop-again : tie.Need-loop-again Inv-loop μ-loop
-loop-again c = (search needs, (simp length-set (search needs), iter-next _ _ _ (c .before .before .before .before .loop .inv .1 .1) (rw (c .hold .ensures))))
+loop-again c =
+    let loop = c .before .before .before .before .loop in
+    (search needs, (simp length-set (search needs), iter-next _ _ _ (loop .inv .1 .1) (rw (c .hold .ensures))))
 
 returns : tie.Need-returns Inv-loop μ-loop
 returns c =
-    let e : c .before .loop .i ≡ c .before .before .before .before .args .n = omega arith in
+    let entry = c .before .before .before .before in
+    let e : c .before .loop .i ≡ entry .args .n = omega arith in
     rw (← e) (c .before .loop .inv .1 .1)
 
 pub hold-part-spec : {M : Type 1} → statement M

@@ -1,7 +1,7 @@
 -- `control_limits::power_excess` meets its contract: after i turns the excess is that of the first i powers. Assumes nothing.
 use Prim.Native.Nat.{_≤_, _-_}
 use mathlib.Core.Path.{_≡_}
-use Rattle.common.specs.Iter.{iter-none, iter-next}
+use Rattle.common.specs.IterLaws.{iter-none, iter-next}
 use Rattle.control_limits.specs.Limits as Limits
 use native.Mathlib.Omega.{arith}
 use borrow.Author.Needs.{needs}
@@ -18,7 +18,9 @@ loop-holds : tie.Need-loop-holds Inv-loop μ-loop
 loop-holds c = (search needs, iter-none _ _)
 
 loop-again : tie.Need-loop-again Inv-loop μ-loop
-loop-again c = (search needs, iter-next _ _ _ (c .before .before .before .before .before .before .before .loop .inv .1) (c .over .ensures))
+loop-again c =
+    let loop = c .before .before .before .before .before .before .before .loop in
+    (search needs, iter-next _ _ _ (loop .inv .1) (c .larger-excess .ensures))
 
 returns : tie.Need-returns Inv-loop μ-loop
 unfolding Limits.powerExcess

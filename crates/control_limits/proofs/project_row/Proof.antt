@@ -24,7 +24,9 @@ returns c =
     rw (c .before .before .hold-part .ensures, e, fewer-left 3 _ (bare-room (start .pre) e))
 
 project-parts-requires : tie.Need-project-parts-requires
-project-parts-requires c κs = parts-room (c .before .before .before .before .pre) (sym (c .before .before .is-bare .ensures) ∙ c .before .if1 .left)
+project-parts-requires c κs =
+    let entry = c .before .before .before .before in
+    parts-room (entry .pre) (sym (c .before .before .is-bare .ensures) ∙ c .before .if1 .left)
 
 returns-2 : tie.Need-returns-2
 unfolding Limits.projected Limits.limitOf Parts.width

@@ -2,7 +2,7 @@
 use Prim.Native.Nat.{_≤_, _-_}
 use mathlib.Core.Path.{_≡_, refl}
 use lib.ListN.{length}
-use Rattle.common.specs.Iter.{iter-none, iter-next}
+use Rattle.common.specs.IterLaws.{iter-none, iter-next}
 use Rattle.control_rows.specs.Parts as Parts
 use native.Mathlib.Omega.{arith}
 use borrow.Author.Needs.{needs}
@@ -19,7 +19,9 @@ loop-holds : tie.Need-loop-holds Inv-loop μ-loop
 loop-holds c = (search needs, (search needs, iter-none _ _))
 
 loop-again : tie.Need-loop-again Inv-loop μ-loop
-loop-again c = (search needs, (search needs, iter-next _ _ _ (c .before .before .before .before .before .loop .inv .1 .1) refl))
+loop-again c =
+    let loop = c .before .before .before .before .before .loop in
+    (search needs, (search needs, iter-next _ _ _ (loop .inv .1 .1) refl))
 
 returns : tie.Need-returns Inv-loop μ-loop
 returns c =

@@ -4,7 +4,9 @@ use Rattle.control_rows.proofs.gimbal_part.Statement.{statement}
 use Rattle.control_rows.proofs.gimbal_part.Tie as tie
 
 pyramid-part-requires : tie.Need-pyramid-part-requires
-pyramid-part-requires c κs = rw (c .before .cmgs .given .1) at (c .before .before .before .before .pre)
+pyramid-part-requires c κs =
+    let entry = c .before .before .before .before in
+    rw (c .before .cmgs .given .1) at (entry .pre)
 
 returns-2 : tie.Need-returns-2
 returns-2 c = rw (c .before .before .cmgs .given .1) (c .pyramid-part .ensures)

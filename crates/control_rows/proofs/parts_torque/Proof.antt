@@ -6,7 +6,9 @@ use Rattle.control_rows.proofs.parts_torque.Tie as tie
 
 returns : tie.Need-returns
 unfolding Parts.partsTorque lib.Ieee.ofBits
-returns c = rw (c .gimbal-part .ensures, c .before .before .axis-sum .ensures, c .before .before .before .before .before .wheel-part .ensures)
+returns c =
+    let wheel-part = c .before .before .before .before .before .wheel-part in
+    rw (c .gimbal-part .ensures, c .before .before .axis-sum .ensures, wheel-part .ensures)
 
 pub parts-torque-spec : {M : Type 1} → statement M
 parts-torque-spec =

@@ -8,7 +8,9 @@ use Rattle.control_rows.proofs.row_torque.Statement.{statement}
 use Rattle.control_rows.proofs.row_torque.Tie as tie
 
 shared-slice-read-t10 : tie.Need-shared-slice-read-t10
-shared-slice-read-t10 c = omega (arith, bare-room (c .before .before .before .before .pre) (sym (c .before .before .is-bare .ensures) ∙ c .before .if1 .taken))
+shared-slice-read-t10 c =
+    let entry = c .before .before .before .before in
+    omega (arith, bare-room (entry .pre) (sym (c .before .before .is-bare .ensures) ∙ c .before .if1 .taken))
 
 shared-slice-read-t12 : tie.Need-shared-slice-read-t12
 shared-slice-read-t12 c =
@@ -25,7 +27,9 @@ shared-slice-read-t14 c =
 
 returns : tie.Need-returns
 unfolding Parts.rowTorque
-returns c = rw (sym (c .before .before .before .before .is-bare .ensures) ∙ c .before .before .before .if1 .taken)
+returns c =
+    let is-bare = c .before .before .before .before .is-bare in
+    rw (sym (is-bare .ensures) ∙ c .before .before .before .if1 .taken)
 
 parts-torque-requires : tie.Need-parts-torque-requires
 parts-torque-requires c κs = parts-room (c .before .before .before .pre) (sym (c .before .is-bare .ensures) ∙ c .if1 .left)

@@ -6,7 +6,9 @@ use Rattle.controls.proofs.power_excess.Tie as tie
 
 returns : tie.Need-returns
 unfolding Controls.powerExcess
-returns c = rw (c .power-excess .ensures, c .before .before .before .before .paired .ensures .0)
+returns c =
+    let paired = c .before .before .before .before .paired in
+    rw (c .power-excess .ensures, paired .ensures .0)
 
 pub power-excess-spec : {M : Type 1} → statement M
 power-excess-spec = tie.close (tie.spec (λ c κs. search needs) (λ c κs. search needs) returns)

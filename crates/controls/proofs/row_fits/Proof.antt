@@ -17,7 +17,9 @@ returns-2 c = rw (le-leb _ _ (c .before .before .if1 .left), lt-leb _ _ (c .if2 
 
 returns-3 : tie.Need-returns-3
 unfolding Controls.rowFits Parts.width
-returns-3 c = rw (le-leb _ _ (c .before .before .before .before .if1 .left), le-leb _ _ (c .before .before .if2 .left), sym (c .before .is-bare .ensures) ∙ c .if3 .taken)
+returns-3 c =
+    let if1 = c .before .before .before .before .if1 in
+    rw (le-leb _ _ (if1 .left), le-leb _ _ (c .before .before .if2 .left), sym (c .before .is-bare .ensures) ∙ c .if3 .taken)
 
 returns-4 : tie.Need-returns-4
 unfolding Controls.rowFits Parts.width

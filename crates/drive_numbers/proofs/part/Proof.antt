@@ -41,7 +41,8 @@ returns c = c .placed .ensures ∙ fine (c .before) .is ∙ ap (part _) (sym (c 
 
 returns-2 : tie.Need-returns-2
 returns-2 c =
-    is-outside (c .before .before .before .before .args .x) (c .before .before .before .size .result) (in-format (c .before .before .before)) (c .before .before .before .size .ensures) Unit.Fine (c .if1 .left)
+    let entry = c .before .before .before .before in
+    is-outside (entry .args .x) (c .before .before .before .size .result) (in-format (c .before .before .before)) (c .before .before .before .size .ensures) Unit.Fine (c .if1 .left)
     ∙ ap (part _) (sym (c .before .enum-told .given .1))
 
 returns-3 : tie.Need-returns-3
@@ -49,7 +50,8 @@ returns-3 c = c .placed2 .ensures ∙ coarse (c .before) .is ∙ ap (part _) (sy
 
 returns-4 : tie.Need-returns-4
 returns-4 c =
-    is-outside (c .before .before .before .before .args .x) (c .before .before .before .size .result) (in-format (c .before .before .before)) (c .before .before .before .size .ensures) Unit.Coarse (c .if2 .left)
+    let entry = c .before .before .before .before in
+    is-outside (entry .args .x) (c .before .before .before .size .result) (in-format (c .before .before .before)) (c .before .before .before .size .ensures) Unit.Coarse (c .if2 .left)
     ∙ ap (part _) (sym (c .before .enum-told2 .given .1))
 
 pub part-spec : {M : Type 1} → statement M

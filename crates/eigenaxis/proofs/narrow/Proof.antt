@@ -3,7 +3,8 @@ use Prim.Native.Nat.{_+_, _*_, _≤_, _-_}
 use mathlib.Core.Path.{_≡_, refl, _∙_}
 use native.Mathlib.Omega.{arith}
 use lib.ListN.{length}
-use Rattle.common.specs.Iter.{iter, iter-none, iter-next}
+use Rattle.common.specs.Iter.{iter}
+use Rattle.common.specs.IterLaws.{iter-none, iter-next}
 use Rattle.eigenaxis.specs.Ladders as Ladders
 use Rattle.eigenaxis.specs.Keeps.{Keeps}
 use Rattle.eigenaxis.specs.LadderLaws.{keeps-same, keeps-then, narrow-any}
@@ -24,9 +25,10 @@ loop-holds c = (search needs, (search needs, (iter-none _ _, (omega arith, keeps
 
 loop-again : tie.Need-loop-again Inv-loop μ-loop
 loop-again c =
-    let i = c .before .before .before .before .before .loop .inv in
+    let loop = c .before .before .before .before .before .loop in
+    let i = loop .inv in
     let t = c .before .before .narrow-turn in
-    let h : t .result .runs ≤ c .before .before .before .before .before .loop .s .runs + 7802 = rw (t .ensures .0) (narrow-turn-most _ _ _ 0 _) in
+    let h : t .result .runs ≤ loop .s .runs + 7802 = rw (t .ensures .0) (narrow-turn-most _ _ _ 0 _) in
     (omega arith, (t .kept .1 .1 .1 .0 ∙ i .1 .0, (iter-next _ _ _ (i .1 .1 .0) ((rw (i .1 .0) at (t .ensures .0)) ∙ narrow-any _ _ _ _ _), (omega (arith, h, i .1 .1 .1 .0), keeps-then (i .1 .1 .1 .1) (t .ensures .1)))))
 
 returns : tie.Need-returns Inv-loop μ-loop

@@ -9,7 +9,10 @@ returns : tie.Need-returns
 returns c = (narrow-stays _ _ _ _ 0 (c .enum-told .given .1), keeps-same _ _ refl)
 
 returns-2 : tie.Need-returns-2
-returns-2 c = (c .before .before .rung .ensures .0 ∙ narrow-goes _ _ _ _ 0 (c .before .before .before .before .middle .ensures) (c .before .before .before .before .before .enum-told2 .given .1), c .before .before .rung .ensures .1)
+returns-2 c =
+    let enum-told2 = c .before .before .before .before .before .enum-told2 in
+    let middle = c .before .before .before .before .middle in
+    (c .before .before .rung .ensures .0 ∙ narrow-goes _ _ _ _ 0 (middle .ensures) (enum-told2 .given .1), c .before .before .rung .ensures .1)
 
 pub narrow-turn-spec : {M : Type 1} → statement M
 narrow-turn-spec = tie.close (tie.spec (λ c. search needs) (λ c. search needs) (λ c κs. search needs) (λ c κs. search needs) returns (λ c. search needs) returns-2)

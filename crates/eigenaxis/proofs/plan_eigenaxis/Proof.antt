@@ -7,14 +7,17 @@ use Rattle.eigenaxis.proofs.plan_eigenaxis.Statement.{statement}
 use Rattle.eigenaxis.proofs.plan_eigenaxis.Tie as tie
 
 narrow-requires : tie.Need-narrow-requires
-narrow-requires c κs = climbed-room _ _ _ _ (c .before .before .before .climb .ensures .0) (c .before .before .before .before .before .before .before .start .ensures .1 .0)
+narrow-requires c κs =
+    let start = c .before .before .before .before .before .before .before .start in
+    climbed-room _ _ _ _ (c .before .before .before .climb .ensures .0) (start .ensures .1 .0)
 
 returns : tie.Need-returns
 returns c =
+    let unweighted = c .before .before .before .before .before .before .before .before .before .before .before .before .before .unweighted in
     let n = c .before .before .before .narrow in
     let m = c .before .before .before .before .before .before .before .climb in
     let f = c .before .before .before .before .before .before .before .before .before .before .before .start in
-    let q = c .before .before .before .before .before .before .before .before .before .before .before .before .before .unweighted .ensures in
+    let q = unweighted .ensures in
     let all = keeps-begin (keeps-begin (f .ensures .1 .1) (m .ensures .1)) (n .ensures .1) in
     (ladder-as _ _ q (f .ensures .0) (f .kept .1 .1 .0) (m .ensures .0) (m .kept .1 .1 .1 .0 ∙ f .kept .1 .1 .0) (n .ensures .0), (all .left, rw q at (all .stands)))
 

@@ -8,23 +8,30 @@ use Rattle.eigenaxis.proofs.rung.Tie as tie
 
 returns : tie.Need-returns
 returns c =
+    let entry = c .before .before .before .before .before in
     let z = c .before .before .before .seed-at in
-    let t = c .before .before .before .before .before .args .t in
+    let t = entry .args .t in
     (c .passed .ensures ∙ rung-over _ _ _ _ t (z .ensures) (not-true (z .result .fits) (c .before .if1 .taken)), keeps-over _ _ _ t (c .passed .ensures))
 
 returns-2 : tie.Need-returns-2
 returns-2 c =
+    let entry = c .before .before .before .before .before .before .before .before .before .before .before in
+    let if1 = c .before .before .before .before .before .before .before .if1 in
+    let tried = c .before .before .before .before .before .tried in
     let z = c .before .before .before .before .before .before .before .before .before .seed-at in
-    let e = c .before .before .before .before .before .tried .ensures in
-    let t = c .before .before .before .before .before .before .before .before .before .before .before .args .t in
-    (c .passed2 .ensures ∙ rung-refused _ _ _ _ t (z .ensures) (not-false (z .result .fits) (c .before .before .before .before .before .before .before .if1 .left)) (e .0 .0) (c .before .enum-told .given .1), keeps-refused _ _ _ t _ (c .passed2 .ensures) (e .1 .0))
+    let e = tried .ensures in
+    let t = entry .args .t in
+    (c .passed2 .ensures ∙ rung-refused _ _ _ _ t (z .ensures) (not-false (z .result .fits) (if1 .left)) (e .0 .0) (c .before .enum-told .given .1), keeps-refused _ _ _ t _ (c .passed2 .ensures) (e .1 .0))
 
 returns-3 : tie.Need-returns-3
 returns-3 c =
+    let entry = c .before .before .before .before .before .before .before .before .before .before .before in
+    let if1 = c .before .before .before .before .before .before .before .if1 in
+    let tried = c .before .before .before .before .before .tried in
     let z = c .before .before .before .before .before .before .before .before .before .seed-at in
-    let e = c .before .before .before .before .before .tried .ensures in
-    let t = c .before .before .before .before .before .before .before .before .before .before .before .args .t in
-    (c .reached .ensures ∙ rung-reached _ _ _ _ t (z .ensures) (not-false (z .result .fits) (c .before .before .before .before .before .before .before .if1 .left)) (e .0 .0) (c .before .enum-told2 .given .1), keeps-reached _ _ _ t _ (c .reached .ensures) (e .1 .0) (z .ensures) (e .1 .1))
+    let e = tried .ensures in
+    let t = entry .args .t in
+    (c .reached .ensures ∙ rung-reached _ _ _ _ t (z .ensures) (not-false (z .result .fits) (if1 .left)) (e .0 .0) (c .before .enum-told2 .given .1), keeps-reached _ _ _ t _ (c .reached .ensures) (e .1 .0) (z .ensures) (e .1 .1))
 
 pub rung-spec : {M : Type 1} → statement M
 rung-spec = tie.close (tie.spec (λ c κs. search needs) (λ c κs. search needs) returns (λ c κs. search needs) (λ c. search needs) (λ c κs. search needs) (λ c. search needs) (λ c κs. search needs) (λ c. search needs) returns-2 (λ c. search needs) returns-3)

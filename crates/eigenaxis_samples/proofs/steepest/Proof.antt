@@ -2,8 +2,9 @@
 use Prim.Native.Nat.{_≤_, _-_}
 use native.Mathlib.Omega.{arith}
 use mathlib.Core.Path.{_≡_}
-use Rattle.common.specs.Iter.{iter, iter-none, iter-next}
-use Rattle.geom.specs.Vec.{plusZero}
+use Rattle.common.specs.Floats.{plusZero}
+use Rattle.common.specs.Iter.{iter}
+use Rattle.common.specs.IterLaws.{iter-none, iter-next}
 use Rattle.eigenaxis_samples.specs.Courses.{steepTurn, steepest}
 use borrow.Author.Needs.{needs}
 use Rattle.eigenaxis_samples.proofs.steepest.Statement.{statement}
@@ -19,7 +20,9 @@ loop-holds : tie.Need-loop-holds Inv-loop μ-loop
 loop-holds c = (search needs, iter-none _ _)
 
 loop-again : tie.Need-loop-again Inv-loop μ-loop
-loop-again c = (search needs, iter-next _ _ _ (c .before .before .before .before .before .before .loop .inv .1) (c .steeper .ensures))
+loop-again c =
+    let loop = c .before .before .before .before .before .before .loop in
+    (search needs, iter-next _ _ _ (loop .inv .1) (c .steeper .ensures))
 
 returns : tie.Need-returns Inv-loop μ-loop
 unfolding steepest

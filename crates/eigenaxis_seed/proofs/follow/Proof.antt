@@ -6,7 +6,11 @@ use Rattle.eigenaxis_seed.proofs.follow.Tie as tie
 
 returns : tie.Need-returns
 unfolding Seeds.momentaAfter
-returns c = rw (c .gimbals-next .ensures, c .before .before .body-momentum .ensures, c .before .before .before .before .rate-after .ensures, c .before .before .before .before .before .charged .ensures, c .before .before .before .before .before .before .wheel-momentum-rates .ensures)
+returns c =
+    let wheel-momentum-rates = c .before .before .before .before .before .before .wheel-momentum-rates in
+    let charged = c .before .before .before .before .before .charged in
+    let rate-after = c .before .before .before .before .rate-after in
+    rw (c .gimbals-next .ensures, c .before .before .body-momentum .ensures, rate-after .ensures, charged .ensures, wheel-momentum-rates .ensures)
 
 pub follow-spec : {M : Type 1} → statement M
 follow-spec =

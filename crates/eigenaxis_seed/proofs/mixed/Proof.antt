@@ -6,7 +6,9 @@ use Rattle.eigenaxis_seed.proofs.mixed.Tie as tie
 
 returns : tie.Need-returns
 unfolding Seeds.mixed
-returns c = rw (c .against3 .ensures, c .before .before .against2 .ensures, c .before .before .before .before .against .ensures)
+returns c =
+    let against = c .before .before .before .before .against in
+    rw (c .against3 .ensures, c .before .before .against2 .ensures, against .ensures)
 
 pub mixed-spec : {M : Type 1} → statement M
 mixed-spec =

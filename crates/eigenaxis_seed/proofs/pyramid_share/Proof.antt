@@ -7,7 +7,10 @@ use Rattle.eigenaxis_seed.proofs.pyramid_share.Tie as tie
 
 returns : tie.Need-returns
 unfolding Seeds.pyramidShare Ieee.ofBits Ieee.neg
-returns c = rw (c .apply-tensor .ensures, c .before .scale3 .ensures, c .before .before .tensor .ensures, c .before .before .before .before .invert3 .ensures, c .before .before .before .before .before .mixed .ensures)
+returns c =
+    let mixed = c .before .before .before .before .before .mixed in
+    let invert3 = c .before .before .before .before .invert3 in
+    rw (c .apply-tensor .ensures, c .before .scale3 .ensures, c .before .before .tensor .ensures, invert3 .ensures, mixed .ensures)
 
 pub pyramid-share-spec : {M : Type 1} → statement M
 pyramid-share-spec = tie.close (tie.spec (λ c κs. search needs) (λ c κs. search needs) (λ c κs. search needs) (λ c κs. search needs) (λ c κs. search needs) returns)

@@ -6,7 +6,10 @@ use Rattle.eigenaxis_seed.proofs.pyramid_torque.Tie as tie
 
 returns : tie.Need-returns
 unfolding Ieee.ofBits
-returns c = rw (c .pyramid-by .ensures, c .before .rows2 .ensures, c .before .before .rows .ensures, c .before .before .before .before .before .pyramid-a2 .ensures, c .before .before .before .before .before .before .pyramid-a .ensures)
+returns c =
+    let pyramid-a = c .before .before .before .before .before .before .pyramid-a in
+    let pyramid-a2 = c .before .before .before .before .before .pyramid-a2 in
+    rw (c .pyramid-by .ensures, c .before .rows2 .ensures, c .before .before .rows .ensures, pyramid-a2 .ensures, pyramid-a .ensures)
 
 pub pyramid-torque-spec : {M : Type 1} → statement M
 pyramid-torque-spec = tie.close (tie.spec (λ c κs. search needs) (λ c κs. search needs) (λ c κs. search needs) (λ c κs. search needs) (λ c κs. search needs) returns)

@@ -2,7 +2,8 @@
 use Prim.Native.Nat.{_≤_, _-_}
 use mathlib.Core.Path.{_≡_}
 use native.Mathlib.Omega.{arith}
-use Rattle.common.specs.Iter.{iter, iter-none, iter-next}
+use Rattle.common.specs.Iter.{iter}
+use Rattle.common.specs.IterLaws.{iter-none, iter-next}
 use Rattle.eigenaxis_seed.specs.Seeds as Seeds
 use borrow.Author.Needs.{needs}
 use Rattle.eigenaxis_seed.proofs.seed.Statement.{statement}

@@ -4,7 +4,8 @@ use mathlib.Core.Bool.{Bool, true, false}
 use lib.Seq.{length-take-le, length-front}
 use Rattle.elimination.specs.Elimination as Elimination
 use Rattle.normal_equations.specs.Rows.{rows}
-use Rattle.common.specs.Iter.{iter, iter-none, iter-next, iter-stays}
+use Rattle.common.specs.Iter.{iter}
+use Rattle.common.specs.IterLaws.{iter-none, iter-next, iter-stays}
 use lib.Ieee.{Float}
 use lib.ListN.{length}
 use mathlib.Core.List.{List}
@@ -71,8 +72,10 @@ loop-again c = let a = c .before .before .before .before .before .before .before
 
 returns-2 : tie.Need-returns-2 Inv-loop μ-loop
 unfolding Elimination.solveDense
-returns-2 c = let l = c .before .before .loop in
-    let e : l .k ≡ length (c .before .before .before .before .before .args .b .now) = omega arith in
+returns-2 c =
+    let entry = c .before .before .before .before .before in
+    let l = c .before .before .loop in
+    let e : l .k ≡ length (entry .args .b .now) = omega arith in
     ap Elimination.solutionOf (rw e at (l .inv .7))
 
 column-requires : tie.Need-column-requires Inv-loop μ-loop

@@ -1,4 +1,4 @@
--- `shape_of` meets its contract. Assumes nothing.
+-- `export_eigenaxis::shape_of` meets its contract: the two numbers that name a shape, and every other, are the definition's three cases.
 use Rattle.export_eigenaxis.proofs.shape_of.Statement.{statement}
 use Rattle.export_eigenaxis.proofs.shape_of.Tie as tie
 

@@ -4,20 +4,8 @@ use Rattle.float.proofs.Whole.{wholes}
 use Rattle.float.proofs.ceil.Statement.{statement}
 use Rattle.float.proofs.ceil.Tie as tie
 
-next-whole-requires : tie.Need-next-whole-requires
-next-whole-requires c κs = search needs
-
-cut-requires : tie.Need-cut-requires
-cut-requires c κs = search needs
-
-returns : tie.Need-returns
-returns c = search needs
-
 returns-2 : tie.Need-returns-2
 returns-2 c = search (wholes, needs)
-
-returns-3 : tie.Need-returns-3
-returns-3 c = search needs
 
 returns-4 : tie.Need-returns-4
 returns-4 c = search (wholes, needs)
@@ -28,4 +16,4 @@ returns-5 c = search (wholes, needs)
 pub ceil-spec : {M : Type 1} → statement M
 ceil-spec =
     tie.close
-    (tie.spec next-whole-requires cut-requires returns returns-2 returns-3 returns-4 returns-5)
+    (tie.spec (λ c κs. search needs) (λ c κs. search needs) (λ c. search needs) returns-2 (λ c. search needs) returns-4 returns-5)

@@ -9,14 +9,8 @@ use Rattle.float.proofs.next_whole.Tie as tie
 truncating-f64-to-u64-requires : tie.Need-truncating-f64-to-u64-requires
 truncating-f64-to-u64-requires c κs = let h = cut-fits (c .args .x) (c .pre) in (h .0, h .1)
 
-nearest-u64-to-f64-requires : tie.Need-nearest-u64-to-f64-requires
-nearest-u64-to-f64-requires c κs = search needs
-
 add-nearest-u64-to-f64 : tie.Need-add-nearest-u64-to-f64
 add-nearest-u64-to-f64 c = let n = c .before .before .truncating-f64-to-u64 in let h = cut-lt (n .result) (c .before .before .before .args .x) (c .before .before .before .pre) (n .ensures) in omega arith
-
-nearest-u64-to-f64-requires-2 : tie.Need-nearest-u64-to-f64-requires-2
-nearest-u64-to-f64-requires-2 c κs = search needs
 
 returns : tie.Need-returns
 returns c =
@@ -35,8 +29,8 @@ next-whole-spec =
     tie.close
     (tie.spec
     truncating-f64-to-u64-requires
-    nearest-u64-to-f64-requires
+    (λ c κs. search needs)
     add-nearest-u64-to-f64
-    nearest-u64-to-f64-requires-2
+    (λ c κs. search needs)
     returns
     returns-2)

@@ -12,9 +12,6 @@ use Rattle.float.proofs.sqrt_near_one.Tie as tie
 float-to-bits-b : tie.Need-float-to-bits-b
 float-to-bits-b c = above-no-nan _ (c .before .args .x) (c .if1 .taken)
 
-near-root-bits-requires : tie.Need-near-root-bits-requires
-near-root-bits-requires c κs = search needs
-
 float-from-bits-result : tie.Need-float-from-bits-result
 float-from-bits-result c = no-nan-bits (c .near-root-bits .result) (c .near-root-bits .ensures .1)
 
@@ -23,19 +20,13 @@ returns c =
     let start = c .before .before .before .before in
     c .near-root-bits .ensures .0 ∙ ap (sqrt binary64) (ofBits-toBits binary64 (start .args .x) (subst T (sym (start .good .0 .1)) tt))
 
-sqrt-requires : tie.Need-sqrt-requires
-sqrt-requires c κs = search needs
-
-returns-2 : tie.Need-returns-2
-returns-2 c = search needs
-
 pub sqrt-near-one-spec : {M : Type 1} → statement M
 sqrt-near-one-spec =
     tie.close
     (tie.spec
     float-to-bits-b
-    near-root-bits-requires
+    (λ c κs. search needs)
     float-from-bits-result
     returns
-    sqrt-requires
-    returns-2)
+    (λ c κs. search needs)
+    (λ c. search needs))

@@ -4,7 +4,9 @@ use Rattle.geom.proofs.definite.Statement.{statement}
 use Rattle.geom.proofs.definite.Tie as tie
 
 returns : tie.Need-returns
-returns c = rw (c .is-positive3 .ensures, c .before .det3 .ensures, c .before .before .is-positive2 .ensures, c .before .before .before .before .before .before .before .is-positive .ensures)
+returns c =
+    let is-positive = c .before .before .before .before .before .before .before .is-positive in
+    rw (c .is-positive3 .ensures, c .before .det3 .ensures, c .before .before .is-positive2 .ensures, is-positive .ensures)
 
 pub definite-spec : {M : Type 1} → statement M
 definite-spec =

@@ -5,12 +5,13 @@ use Rattle.geom.proofs.euler_lhs.Tie as tie
 
 returns : tie.Need-returns
 returns c =
+    let apply-tensor = c .before .before .before .before .apply-tensor in
     rw (
       c .add32 .ensures,
       c .before .cross .ensures,
       c .before .before .add3 .ensures,
       c .before .before .before .apply-tensor2 .ensures,
-      c .before .before .before .before .apply-tensor .ensures,
+      apply-tensor .ensures,
     )
 
 pub euler-lhs-spec : {M : Type 1} → statement M

@@ -12,7 +12,9 @@ returns c = rw (c .if1 .taken)
 
 returns-2 : tie.Need-returns-2
 unfolding expAt ofBits
-returns-2 c = rw (c .before .before .before .before .if1 .left, ← at-once, ← c .before .before .before .sin-cos .ensures, c .before .turn .given .1)
+returns-2 c =
+    let if1 = c .before .before .before .before .if1 in
+    rw (if1 .left, ← at-once, ← c .before .before .before .sin-cos .ensures, c .before .turn .given .1)
 
 returns-3 : tie.Need-returns-3
 unfolding expAt ofBits

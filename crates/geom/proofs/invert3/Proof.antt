@@ -7,11 +7,15 @@ use Rattle.geom.proofs.invert3.Tie as tie
 
 returns : tie.Need-returns
 unfolding inverseBy ofBits
-returns c = rw (c .no-inverse .ensures, ← c .before .before .before .before .det3 .ensures, ← c .before .before .before .is-finite .ensures, ← c .before .before .abs .ensures, c .before .if1 .taken)
+returns c =
+    let det3 = c .before .before .before .before .det3 in
+    rw (c .no-inverse .ensures, ← det3 .ensures, ← c .before .before .before .is-finite .ensures, ← c .before .before .abs .ensures, c .before .if1 .taken)
 
 returns-2 : tie.Need-returns-2
 unfolding inverseBy ofBits
-returns-2 c = rw (c .scaled-adjugate .ensures, ← c .before .before .before .before .det3 .ensures, ← c .before .before .before .is-finite .ensures, ← c .before .before .abs .ensures, c .before .if1 .left)
+returns-2 c =
+    let det3 = c .before .before .before .before .det3 in
+    rw (c .scaled-adjugate .ensures, ← det3 .ensures, ← c .before .before .before .is-finite .ensures, ← c .before .before .abs .ensures, c .before .if1 .left)
 
 pub invert3-spec : {M : Type 1} → statement M
 invert3-spec =

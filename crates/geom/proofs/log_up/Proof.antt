@@ -7,7 +7,9 @@ use Rattle.geom.proofs.log_up.Tie as tie
 
 returns : tie.Need-returns
 unfolding logAt ofBits
-returns c = rw (← c .before .before .before .before .norm3 .ensures, c .before .before .before .if1 .taken)
+returns c =
+    let norm3 = c .before .before .before .before .norm3 in
+    rw (← norm3 .ensures, c .before .before .before .if1 .taken)
 
 returns-2 : tie.Need-returns-2
 unfolding logAt ofBits neg

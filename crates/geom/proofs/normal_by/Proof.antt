@@ -15,7 +15,9 @@ returns-2 c = rw (← c .before .before .before .is-finite .ensures, c .before .
 
 returns-3 : tie.Need-returns-3
 unfolding normalBy ofBits
-returns-3 c = rw (← c .before .before .before .before .is-finite .ensures, c .before .before .before .if1 .left, ← c .before .before .abs .ensures, c .before .if2 .left, c .scale .ensures)
+returns-3 c =
+    let is-finite = c .before .before .before .before .is-finite in
+    rw (← is-finite .ensures, c .before .before .before .if1 .left, ← c .before .before .abs .ensures, c .before .if2 .left, c .scale .ensures)
 
 pub normal-by-spec : {M : Type 1} → statement M
 normal-by-spec = tie.close (tie.spec (λ c κs. search needs) returns (λ c κs. search needs) (λ c κs. search needs) returns-2 returns-3)

@@ -1,7 +1,8 @@
 -- `held_counts::held_at` meets its contract: after k turns the count is that of the first k rows, so it is at most k. Assumes nothing.
 use Prim.Native.Nat.{_+_, _*_, _-_, _<_, _≤_}
 use mathlib.Core.Path.{_≡_, refl}
-use Rattle.common.specs.Iter.{iter, iter-none, iter-next, row-end}
+use Rattle.common.specs.Iter.{iter}
+use Rattle.common.specs.IterLaws.{iter-none, iter-next, row-end}
 use Rattle.held_counts.specs.Counts as Counts
 use Rattle.held_counts.specs.CountLaws.{count-most}
 use native.Mathlib.Omega.{arith}

@@ -2,7 +2,8 @@
 use Prim.Native.Nat.{_-_, _≤_}
 use mathlib.Core.Path.{_≡_, refl}
 use lib.ListN.{length, length-set}
-use Rattle.common.specs.Iter.{iter, iter-none, iter-next}
+use Rattle.common.specs.Iter.{iter}
+use Rattle.common.specs.IterLaws.{iter-none, iter-next}
 use Rattle.held_counts.specs.Counts as Counts
 use native.Mathlib.Omega.{arith}
 use borrow.Author.Needs.{needs}
@@ -22,7 +23,9 @@ limit-in-requires : tie.Need-limit-in-requires Inv-loop μ-loop
 limit-in-requires c κs = rw (← c .before .before .control-dim .ensures) (search needs)
 
 held-at-requires : tie.Need-held-at-requires Inv-loop μ-loop
-held-at-requires c κs = (omega (arith, c .before .before .before .control-dim .ensures, c .before .before .before .before .pre), search needs)
+held-at-requires c κs =
+    let entry = c .before .before .before .before in
+    (omega (arith, c .before .before .before .control-dim .ensures, entry .pre), search needs)
 
 write : tie.Need-array-write-out Inv-loop μ-loop
 write c =
@@ -31,7 +34,9 @@ write c =
     omega (arith, after-control-dim .control-dim .ensures, start .pre)
 
 loop-again : tie.Need-loop-again Inv-loop μ-loop
-loop-again c = (search needs, (search needs, iter-next _ _ _ (c .before .before .before .loop .inv .1 .1) (rw (c .held-at .ensures, c .before .limit-in .ensures, ← c .before .before .before .before .control-dim .ensures))))
+loop-again c =
+    let control-dim = c .before .before .before .before .control-dim in
+    (search needs, (search needs, iter-next _ _ _ (c .before .before .before .loop .inv .1 .1) (rw (c .held-at .ensures, c .before .limit-in .ensures, ← control-dim .ensures))))
 
 returns : tie.Need-returns Inv-loop μ-loop
 unfolding Counts.heldCounts

@@ -29,7 +29,9 @@ part-limit-requires c κs = held-tables _ _ (c .before .before .before .pre)
 
 returns-2 : tie.Need-returns-2
 unfolding Limits.limitOf
-returns-2 c = rw (asked (c .before .before .before .before .args .map) (c .before .before .before .rig-of .ensures) (c .before .before .is-bare .ensures) (c .before .if1 .left), c .part-limit .ensures)
+returns-2 c =
+    let entry = c .before .before .before .before in
+    rw (asked (entry .args .map) (c .before .before .before .rig-of .ensures) (c .before .before .is-bare .ensures) (c .before .if1 .left), c .part-limit .ensures)
 
 pub limit-in-spec : {M : Type 1} → statement M
 limit-in-spec =

@@ -16,8 +16,9 @@ move-rows-requires-2 c κs = (omega arith, omega (arith, short (c .before), c .b
 
 returns : tie.Need-returns
 returns c =
+    let if1 = c .before .before .before .before .before .before .before .before .if1 in
     let start = c .before .before .before .before .before .before .before .before .before .before in
-    let taken = c .before .before .before .before .before .before .before .before .if1 .taken in
+    let taken = if1 .taken in
     let nodes = c .before .before .before .before .before .before in
     rw (taken, c .before .before .move-rows .ensures) (gathered-long (start .args .r .now) (nodes .gather-nodes .last .0) (omega (arith, start .pre .1)) (nodes .gather-nodes .ensures))
 

@@ -17,7 +17,9 @@ loop-holds : tie.Need-loop-holds Inv-loop μ-loop
 loop-holds c = (search needs, upto-first 79 _)
 
 move-rows-requires : tie.Need-move-rows-requires Inv-loop μ-loop
-move-rows-requires c κs = (omega arith, omega (arith, c .before .before .loop .inv .1 .size, c .before .before .before .before .pre))
+move-rows-requires c κs =
+    let entry = c .before .before .before .before in
+    (omega arith, omega (arith, c .before .before .loop .inv .1 .size, entry .pre))
 
 loop-again : tie.Need-loop-again Inv-loop μ-loop
 loop-again c =

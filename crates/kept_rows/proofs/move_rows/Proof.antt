@@ -2,7 +2,8 @@
 use Prim.Native.Nat.{_-_, _≤_}
 use mathlib.Core.Path.{_≡_, refl}
 use lib.ListN.{length}
-use Rattle.common.specs.Iter.{iter, iter-none, iter-next}
+use Rattle.common.specs.Iter.{iter}
+use Rattle.common.specs.IterLaws.{iter-none, iter-next}
 use Rattle.kept_rows.specs.GatherLaws.{moveTurn}
 use native.Mathlib.Omega.{arith}
 use borrow.Author.Needs.{needs}

@@ -5,7 +5,9 @@ use Rattle.mosaic.proofs.took.Statement.{statement}
 use Rattle.mosaic.proofs.took.Tie as tie
 
 returns : tie.Need-returns
-returns c = rw (c .before .before .before .before .last-momenta .ensures)
+returns c =
+    let last-momenta = c .before .before .before .before .last-momenta in
+    rw (last-momenta .ensures)
 
 pub took-spec : {M : Type 1} → statement M
 took-spec = tie.close (tie.spec (λ c. search needs) (λ c κs. search needs) (λ c. search needs) returns)

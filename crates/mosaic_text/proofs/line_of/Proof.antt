@@ -3,7 +3,8 @@ use Prim.Native.Nat.{_+_, _-_, _≤_}
 use native.Mathlib.Omega.{arith}
 use mathlib.Core.Path.{_≡_}
 use lib.ListN.{length, getD}
-use Rattle.common.specs.Iter.{iter, iter-none, iter-next}
+use Rattle.common.specs.Iter.{iter}
+use Rattle.common.specs.IterLaws.{iter-none, iter-next}
 use Rattle.mosaic_text.specs.MosaicTexts.{lineTurn, lineOf}
 use Rattle.mosaic_text.specs.MosaicTextLaws.{line-low}
 use borrow.Author.Needs.{needs}

@@ -14,7 +14,9 @@ returns-2 c = simp (not-unequal _ _ (c .before .before .before .if1 .left), uneq
 
 returns-3 : tie.Need-returns-3
 unfolding sameAttitude
-returns-3 c = simp (not-unequal _ _ (c .before .before .before .before .before .before .if1 .left), not-unequal _ _ (c .before .before .before .if2 .left), unequal _ _ (c .if3 .taken))
+returns-3 c =
+    let if1 = c .before .before .before .before .before .before .if1 in
+    simp (not-unequal _ _ (if1 .left), not-unequal _ _ (c .before .before .before .if2 .left), unequal _ _ (c .if3 .taken))
 
 returns-4 : tie.Need-returns-4
 returns-4 c =

@@ -4,8 +4,9 @@ use Rattle.normal_equations.specs.Normal as Normal
 use Rattle.normal_equations.specs.NormalLaws.{row-right, normal-rows}
 use lib.Seq.{length-take-le, length-front}
 use Rattle.normal_equations.specs.Rows as R
-use Rattle.normal_equations.specs.Tab.{tab, tab-same}
-use Rattle.normal_equations.specs.Filled.{Filled, filled-none, filled-more}
+use Rattle.normal_equations.specs.Tab.{tab}
+use Rattle.normal_equations.specs.TabLaws.{tab-same}
+use Rattle.normal_equations.specs.FilledInner.{Filled, filled-none, filled-more}
 use lib.Ieee.{Float}
 use lib.ListN.{length, take, drop}
 use mathlib.Core.List.{List}

@@ -6,10 +6,10 @@ use mathlib.Core.List.{List}
 use lib.ListN.{length}
 use lib.Ieee.{Float}
 use Rattle.common.specs.Lists.{pasted}
-use Rattle.normal_equations.specs.Tab.{length-tab}
+use Rattle.normal_equations.specs.TabLaws.{length-tab}
 use Rattle.normal_equations.specs.Normal.{slopes}
 use Rattle.normal_equations.specs.NormalLaws.{part-length}
-use Rattle.normal_equations.specs.Rows.{row-same, row-other, length-row-put, at-pasted-before, at-pasted-after}
+use Rattle.normal_equations.specs.RowsLaws.{row-same, row-other, length-row-put, at-pasted-before, at-pasted-after}
 use Rattle.normal_equations.specs.Placed.{ColumnPut}
 use native.Mathlib.Omega.{arith}
 use borrow.Author.Needs.{needs}

@@ -2,7 +2,7 @@
 use mathlib.Core.List.{List}
 use lib.Ieee.{Float, binary64, sub, div}
 use Rattle.normal_equations.specs.Normal as Normal
-use Rattle.normal_equations.specs.Filled.{Filled, filled-none, filled-set, filled-all}
+use Rattle.normal_equations.specs.FilledInner.{Filled, filled-none, filled-set, filled-all}
 use Rattle.common.specs.Lists.{at}
 use lib.ListN.{length, length-set}
 use mathlib.Core.Path.{_≡_, refl}
@@ -18,8 +18,10 @@ abbrev μ-loop : tie.MeasureT-loop
 μ-loop column₀ rp r0 i₀ column i = length column₀ - i
 
 loop-again : tie.Need-loop-again Inv-loop μ-loop
-loop-again c = let l = c .before .before .before .loop in
-    (omega arith, simp length-set (omega arith), filled-set _ 0 (l .i) (c .before .before .before .before .args .column .now) (l .column) _ (omega arith) (omega arith) (l .inv .2) refl)
+loop-again c =
+    let entry = c .before .before .before .before in
+    let l = c .before .before .before .loop in
+    (omega arith, simp length-set (omega arith), filled-set _ 0 (l .i) (entry .args .column .now) (l .column) _ (omega arith) (omega arith) (l .inv .2) refl)
 
 returns : tie.Need-returns Inv-loop μ-loop
 unfolding Normal.slopes

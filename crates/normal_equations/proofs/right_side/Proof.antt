@@ -1,9 +1,10 @@
 -- `normal_equations::right_side` meets its contract: the loop keeps that the numbers before c are the negated sums of their columns with r.
 use Rattle.normal_equations.specs.NormalLaws.{right-rows}
 use Rattle.normal_equations.specs.Normal as Normal
-use Rattle.common.specs.Iter.{row-end}
-use Rattle.normal_equations.specs.Rows.{row, length-row, part-row}
-use Rattle.normal_equations.specs.Filled.{Filled, filled-none, filled-set, filled-all}
+use Rattle.common.specs.IterLaws.{row-end}
+use Rattle.normal_equations.specs.Rows.{row}
+use Rattle.normal_equations.specs.RowsLaws.{length-row, part-row}
+use Rattle.normal_equations.specs.FilledInner.{Filled, filled-none, filled-set, filled-all}
 use Rattle.common.specs.Lists.{at}
 use lib.Ieee.{neg}
 use lib.ListN.{length, length-set}

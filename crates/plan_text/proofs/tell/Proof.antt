@@ -6,10 +6,14 @@ use Rattle.plan_text.proofs.tell.Statement.{statement}
 use Rattle.plan_text.proofs.tell.Tie as tie
 
 returns : tie.Need-returns
-returns c = prints-refusal (c .before .before .before .before .before .fate .given .1) (c .before .before .tell-refused .ensures)
+returns c =
+    let fate = c .before .before .before .before .before .fate in
+    prints-refusal (fate .given .1) (c .before .before .tell-refused .ensures)
 
 returns-2 : tie.Need-returns-2
-returns-2 c = prints-path (c .before .before .before .before .before .enum-told .given .1) refl (c .before .before .print-path .ensures)
+returns-2 c =
+    let enum-told = c .before .before .before .before .before .enum-told in
+    prints-path (enum-told .given .1) refl (c .before .before .print-path .ensures)
 
 pub tell-spec : {M : Type 1} → statement M
 tell-spec = tie.close (tie.spec (search needs) (search needs) (search needs) (search needs) (search needs) returns (search needs) returns-2)

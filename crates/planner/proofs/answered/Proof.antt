@@ -5,27 +5,15 @@ use borrow.Author.Needs.{needs}
 use Rattle.planner.proofs.answered.Statement.{statement}
 use Rattle.planner.proofs.answered.Tie as tie
 
-enum-known-fate : tie.Need-enum-known-fate
-enum-known-fate c = search needs
-
-refused-requires : tie.Need-refused-requires
-refused-requires c κs = search needs
-
-enum-told : tie.Need-enum-told
-enum-told c = search needs
-
-ended-requires : tie.Need-ended-requires
-ended-requires c κs = search needs
-
 returns : tie.Need-returns
 unfolding Plans.answered
 returns c = c .refused .ensures ∙ rw (c .before .before .fate .given .1) refl
 
 returns-2 : tie.Need-returns-2
 unfolding Plans.answered
-returns-2 c = c .ended .ensures ∙ rw (c .before .enum-told .given .1) refl
+returns-2 c = c .check-end .ensures ∙ rw (c .before .enum-told .given .1) refl
 
 pub answered-spec : {M : Type 1} → statement M
 answered-spec =
     tie.close
-    (tie.spec enum-known-fate refused-requires enum-told ended-requires returns returns-2)
+    (tie.spec (λ c. search needs) (λ c κs. search needs) (λ c. search needs) (λ c κs. search needs) returns returns-2)

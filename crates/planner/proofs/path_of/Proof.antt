@@ -4,15 +4,11 @@ use borrow.Author.Needs.{needs}
 use Rattle.planner.proofs.path_of.Statement.{statement}
 use Rattle.planner.proofs.path_of.Tie as tie
 
-held-of-requires : tie.Need-held-of-requires
-held-of-requires c κs = search needs
-
-control-dim-requires : tie.Need-control-dim-requires
-control-dim-requires c κs = search needs
-
 returns : tie.Need-returns
 unfolding Ieee.ofBits
-returns c = rw (c .control-dim .ensures, c .before .before .before .before .before .held-of .ensures)
+returns c =
+    let held-of = c .before .before .before .before .before .held-of in
+    rw (c .control-dim .ensures, held-of .ensures)
 
 pub path-of-spec : {M : Type 1} → statement M
-path-of-spec = tie.close (tie.spec held-of-requires (λ c. search needs) control-dim-requires returns)
+path-of-spec = tie.close (tie.spec (λ c κs. search needs) (λ c. search needs) (λ c κs. search needs) returns)

@@ -12,15 +12,6 @@ use borrow.Author.Needs.{needs}
 use Rattle.planner.proofs.plan.Statement.{statement}
 use Rattle.planner.proofs.plan.Tie as tie
 
-check-requires : tie.Need-check-requires
-check-requires c κs = search needs
-
-enum-known-fate : tie.Need-enum-known-fate
-enum-known-fate c = search needs
-
-refused-requires : tie.Need-refused-requires
-refused-requires c κs = search needs
-
 enum-told : tie.Need-enum-told
 enum-told c = search needs
 
@@ -29,24 +20,28 @@ with-profile-requires c κs = sized-as _ (c .before .before .before .before .che
 
 returns : tie.Need-returns
 unfolding Plans.plan
-returns c = entry-refused (λ r. Answers (c .before .before .before .before .before .before .args .p) (ownSeed (check (c .before .before .before .before .before .before .args .p) .problem)) r) _ [] (c .refused .ensures) (rw (← c .before .before .before .before .check .ensures, c .before .before .fate .given .1) refl) (λ fit. plan-answers _ (problem-held (c .before .before .before .before .before .before .args .p) _ (c .before .before .before .before .before .before .good .0)) _)
-
-same-length : tie.Need-same-length
-same-length c = search needs
+returns c =
+    let entry = c .before .before .before .before .before .before in
+    let good = c .before .before .before .before .before .before .good in
+    entry-refused (λ r. Answers (entry .args .p) (ownSeed (check (entry .args .p) .problem)) r) _ [] (c .refused .ensures) (rw (← c .before .before .before .before .check .ensures, c .before .before .fate .given .1) refl) (λ fit. plan-answers _ (problem-held (entry .args .p) _ (good .0)) _)
 
 returns-2 : tie.Need-returns-2
 unfolding Plans.plan
-returns-2 c = entry-as (λ r. Answers (c .before .before .before .before .before .before .before .before .before .args .p) (ownSeed (check (c .before .before .before .before .before .before .before .before .before .args .p) .problem)) r) (outcome-as (c .before .before .with-profile .ensures) (rw (← c .before .before .before .before .before .before .before .check .ensures, c .before .before .before .before .before .enum-told .given .1) refl)) (λ fit. plan-answers _ (problem-held (c .before .before .before .before .before .before .before .before .before .args .p) _ (c .before .before .before .before .before .before .before .before .before .good .0)) _)
+returns-2 c =
+    let entry = c .before .before .before .before .before .before .before .before .before in
+    let good = c .before .before .before .before .before .before .before .before .before .good in
+    let enum-told = c .before .before .before .before .before .enum-told in
+    entry-as (λ r. Answers (entry .args .p) (ownSeed (check (entry .args .p) .problem)) r) (outcome-as (c .before .before .with-profile .ensures) (rw (← c .before .before .before .before .before .before .before .check .ensures, enum-told .given .1) refl)) (λ fit. plan-answers _ (problem-held (entry .args .p) _ (good .0)) _)
 
 pub plan-spec : {M : Type 1} → statement M
 plan-spec =
     tie.close
     (tie.spec
-    check-requires
-    enum-known-fate
-    refused-requires
+    (λ c κs. search needs)
+    (λ c. search needs)
+    (λ c κs. search needs)
     enum-told
     with-profile-requires
     returns
-    same-length
+    (λ c. search needs)
     returns-2)

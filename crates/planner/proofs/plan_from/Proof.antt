@@ -11,44 +11,39 @@ use borrow.Author.Needs.{needs}
 use Rattle.planner.proofs.plan_from.Statement.{statement}
 use Rattle.planner.proofs.plan_from.Tie as tie
 
-check-requires : tie.Need-check-requires
-check-requires c κs = search needs
-
-enum-known-fate : tie.Need-enum-known-fate
-enum-known-fate c = search needs
-
-refused-requires : tie.Need-refused-requires
-refused-requires c κs = search needs
-
 enum-told : tie.Need-enum-told
 enum-told c = search needs
 
-counted-requires : tie.Need-counted-requires
-counted-requires c κs = search needs
-
 with-seed-requires : tie.Need-with-seed-requires
-with-seed-requires c κs = (sized-as _ (c .before .before .before .before .before .check .ensures) (c .before .before .before .enum-told .given .1), λ h. counted-long (c .before .before .before .before .before .before .before .before .before .args .rates .now) (c .before .before .before .before .before .before .before .before .before .args .torques .now) (sym (c .before .counted .ensures) ∙ h))
+with-seed-requires c κs =
+    let entry = c .before .before .before .before .before .before .before .before .before in
+    (sized-as _ (c .before .before .before .before .before .check .ensures) (c .before .before .before .enum-told .given .1), λ h. counted-long (entry .args .rates .now) (entry .args .torques .now) (sym (c .before .counted .ensures) ∙ h))
 
 returns : tie.Need-returns
 unfolding Plans.planFrom
-returns c = entry-refused (λ r. Answers (c .before .before .before .before .before .before .before .before .args .p) (Plans.seedOf (check (c .before .before .before .before .before .before .before .before .args .p) .problem) (c .before .before .before .before .before .before .before .before .args .duration) (c .before .before .before .before .before .before .before .before .args .torques .now)) r) _ (Plans.seedOf (check (c .before .before .before .before .before .before .before .before .args .p) .problem) (c .before .before .before .before .before .before .before .before .args .duration) (c .before .before .before .before .before .before .before .before .args .torques .now)) (c .refused .ensures) (rw (← c .before .before .before .before .check .ensures, c .before .before .fate .given .1) refl) (λ fit. plan-from-answers _ (problem-held (c .before .before .before .before .before .before .before .before .args .p) _ (c .before .before .before .before .before .before .before .before .good .0)) _ _ _ _ fit)
-
-same-length : tie.Need-same-length
-same-length c = search needs
+returns c =
+    let entry = c .before .before .before .before .before .before .before .before in
+    let good = c .before .before .before .before .before .before .before .before .good in
+    entry-refused (λ r. Answers (entry .args .p) (Plans.seedOf (check (entry .args .p) .problem) (entry .args .duration) (entry .args .torques .now)) r) _ (Plans.seedOf (check (entry .args .p) .problem) (entry .args .duration) (entry .args .torques .now)) (c .refused .ensures) (rw (← c .before .before .before .before .check .ensures, c .before .before .fate .given .1) refl) (λ fit. plan-from-answers _ (problem-held (entry .args .p) _ (good .0)) _ _ _ _ fit)
 
 returns-2 : tie.Need-returns-2
-returns-2 c = entry-as (λ r. Answers (c .before .before .before .before .before .before .before .before .before .before .before .before .args .p) (Plans.seedOf (check (c .before .before .before .before .before .before .before .before .before .before .before .before .args .p) .problem) (c .before .before .before .before .before .before .before .before .before .before .before .before .args .duration) (c .before .before .before .before .before .before .before .before .before .before .before .before .args .torques .now)) r) (from-as (c .before .before .before .before .before .before .before .before .before .before .before .before .args .p) (c .before .before .before .before .before .before .before .before .before .before .before .before .args .duration) (c .before .before .before .before .before .before .before .before .before .before .before .before .args .rates .now) (c .before .before .before .before .before .before .before .before .before .before .before .before .args .torques .now) _ (c .before .before .before .before .before .before .before .before .check .ensures) (c .before .before .before .before .before .before .enum-told .given .1) (c .before .before .before .before .counted .ensures) (c .before .before .with-seed .ensures)) (λ fit. plan-from-answers _ (problem-held (c .before .before .before .before .before .before .before .before .before .before .before .before .args .p) _ (c .before .before .before .before .before .before .before .before .before .before .before .before .good .0)) _ _ _ _ fit)
+returns-2 c =
+    let entry = c .before .before .before .before .before .before .before .before .before .before .before .before in
+    let good = c .before .before .before .before .before .before .before .before .before .before .before .before .good in
+    let enum-told = c .before .before .before .before .before .before .enum-told in
+    let counted = c .before .before .before .before .counted in
+    entry-as (λ r. Answers (entry .args .p) (Plans.seedOf (check (entry .args .p) .problem) (entry .args .duration) (entry .args .torques .now)) r) (from-as (entry .args .p) (entry .args .duration) (entry .args .rates .now) (entry .args .torques .now) _ (c .before .before .before .before .before .before .before .before .check .ensures) (enum-told .given .1) (counted .ensures) (c .before .before .with-seed .ensures)) (λ fit. plan-from-answers _ (problem-held (entry .args .p) _ (good .0)) _ _ _ _ fit)
 
 pub plan-from-spec : {M : Type 1} → statement M
 plan-from-spec =
     tie.close
     (tie.spec
-    check-requires
-    enum-known-fate
-    refused-requires
+    (λ c κs. search needs)
+    (λ c. search needs)
+    (λ c κs. search needs)
     enum-told
-    counted-requires
+    (λ c κs. search needs)
     with-seed-requires
     returns
-    same-length
+    (λ c. search needs)
     returns-2)

@@ -5,15 +5,9 @@ use borrow.Author.Needs.{needs}
 use Rattle.planner.proofs.profiled.Statement.{statement}
 use Rattle.planner.proofs.profiled.Tie as tie
 
-tensor-requires : tie.Need-tensor-requires
-tensor-requires c κs = search needs
-
-bang-coast-bang-requires : tie.Need-bang-coast-bang-requires
-bang-coast-bang-requires c κs = search needs
-
 returns : tie.Need-returns
 unfolding Plans.profiled
 returns c = c .bang-coast-bang .ensures ∙ rw (c .before .tensor .ensures) refl
 
 pub profiled-spec : {M : Type 1} → statement M
-profiled-spec = tie.close (tie.spec tensor-requires bang-coast-bang-requires returns)
+profiled-spec = tie.close (tie.spec (λ c κs. search needs) (λ c κs. search needs) returns)

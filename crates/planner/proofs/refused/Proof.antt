@@ -4,12 +4,9 @@ use borrow.Author.Needs.{needs}
 use Rattle.planner.proofs.refused.Statement.{statement}
 use Rattle.planner.proofs.refused.Tie as tie
 
-blank-node-requires : tie.Need-blank-node-requires
-blank-node-requires c κs = search needs
-
 returns : tie.Need-returns
 unfolding Ieee.ofBits
 returns c = rw (c .blank-node .ensures)
 
 pub refused-spec : {M : Type 1} → statement M
-refused-spec = tie.close (tie.spec blank-node-requires returns)
+refused-spec = tie.close (tie.spec (λ c κs. search needs) returns)

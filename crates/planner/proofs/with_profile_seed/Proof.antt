@@ -5,18 +5,12 @@ use borrow.Author.Needs.{needs}
 use Rattle.planner.proofs.with_profile_seed.Statement.{statement}
 use Rattle.planner.proofs.with_profile_seed.Tie as tie
 
-slice-aggregate-with-seed : tie.Need-slice-aggregate-with-seed
-slice-aggregate-with-seed c = search needs
-
 with-seed-requires : tie.Need-with-seed-requires
-with-seed-requires c κs = (c .before .before .before .before .pre, λ e. omega (arith, field-count 51 (c .before .before .before .before .args .seed .torques) _ (c .before .before .before .before .good .1 .0 .1 .1 .1 .1 .0)))
-
-same-length : tie.Need-same-length
-same-length c = search needs
-
-returns : tie.Need-returns
-returns c = search needs
+with-seed-requires c κs =
+    let entry = c .before .before .before .before in
+    let good = c .before .before .before .before .good in
+    (entry .pre, λ e. omega (arith, field-count 51 (entry .args .seed .torques) _ (good .1 .0 .1 .1 .1 .1 .0)))
 
 pub with-profile-seed-spec : {M : Type 1} → statement M
 with-profile-seed-spec =
-    tie.close (tie.spec slice-aggregate-with-seed with-seed-requires same-length returns)
+    tie.close (tie.spec (λ c. search needs) with-seed-requires (λ c. search needs) (λ c. search needs))

@@ -5,7 +5,8 @@ use Rattle.preview.proofs.preview.Tie as tie
 
 returns : tie.Need-returns
 returns c =
-    let turning = c .before .before .before .before .with-momenta .ensures in
+    let with-momenta = c .before .before .before .before .with-momenta in
+    let turning = with-momenta .ensures in
     let planned = c .before .before .plan .ensures in
     (rw (planned .0, turning), (planned .1 .0, rw turning at (planned .1 .1)))
 

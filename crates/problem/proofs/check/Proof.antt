@@ -6,11 +6,15 @@ use Rattle.problem.proofs.check.Tie as tie
 
 returns : tie.Need-returns
 unfolding Problems.check
-returns c = rw (← c .before .before .before .before .prepare .ensures, c .before .before .fate .given .1) (c .refused .ensures)
+returns c =
+    let prepare = c .before .before .before .before .prepare in
+    rw (← prepare .ensures, c .before .before .fate .given .1) (c .refused .ensures)
 
 returns-2 : tie.Need-returns-2
 unfolding Problems.check
-returns-2 c = rw (← c .before .before .before .before .prepare .ensures, c .before .before .enum-told .given .1) (c .with-map .ensures)
+returns-2 c =
+    let prepare = c .before .before .before .before .prepare in
+    rw (← prepare .ensures, c .before .before .enum-told .given .1) (c .with-map .ensures)
 
 pub check-spec : {M : Type 1} → statement M
 check-spec =

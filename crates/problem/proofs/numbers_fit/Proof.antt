@@ -6,7 +6,9 @@ use Rattle.problem.proofs.numbers_fit.Tie as tie
 
 returns : tie.Need-returns
 unfolding Problems.numbersFit
-returns c = rw (c .tolerance-fits2 .ensures, c .before .tolerance-fits .ensures, c .before .before .weights-fit .ensures, c .before .before .before .limit-fits .ensures, c .before .before .before .before .limits-fit .ensures)
+returns c =
+    let limits-fit = c .before .before .before .before .limits-fit in
+    rw (c .tolerance-fits2 .ensures, c .before .tolerance-fits .ensures, c .before .before .weights-fit .ensures, c .before .before .before .limit-fits .ensures, limits-fit .ensures)
 
 pub numbers-fit-spec : {M : Type 1} → statement M
 numbers-fit-spec =

@@ -4,7 +4,8 @@ use mathlib.Core.Path.{_≡_, refl}
 use native.Mathlib.Omega.{arith}
 use lib.ListN.{set, replicate}
 use borrow.Author.Needs.{needs}
-use Rattle.common.specs.Iter.{iter, iter-none, iter-next}
+use Rattle.common.specs.Iter.{iter}
+use Rattle.common.specs.IterLaws.{iter-none, iter-next}
 use Rattle.actuators.specs.Maps.{blankWheel}
 use Rattle.problem_numbers.specs.Declared.{wheelAt, wheels}
 use Rattle.problem_numbers.proofs.wheels_of.Statement.{statement}

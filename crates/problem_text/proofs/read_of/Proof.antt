@@ -6,7 +6,9 @@ use Rattle.problem_text.proofs.read_of.Tie as tie
 
 returns : tie.Need-returns
 unfolding readOf
-returns c = rw (c .problem-of .ensures, ← c .before .before .before .before .next-list .ensures, ← c .before .before .before .judge-count .ensures)
+returns c =
+    let next-list = c .before .before .before .before .next-list in
+    rw (c .problem-of .ensures, ← next-list .ensures, ← c .before .before .before .judge-count .ensures)
 
 pub read-of-spec : {M : Type 1} → statement M
 read-of-spec = tie.close (tie.spec (search needs) (search needs) (search needs) returns)

@@ -10,11 +10,15 @@ returns c = simp (c .before .if1 .taken) (c .nothing .ensures)
 
 returns-2 : tie.Need-returns-2
 unfolding withList
-returns-2 c = simp (c .before .before .before .before .if1 .left, c .before .before .fate .given .1) (c .nothing2 .ensures)
+returns-2 c =
+    let if1 = c .before .before .before .before .if1 in
+    simp (if1 .left, c .before .before .fate .given .1) (c .nothing2 .ensures)
 
 returns-3 : tie.Need-returns-3
 unfolding withList
-returns-3 c = simp (c .before .before .before .before .if1 .left, c .before .before .enum-told .given .1)
+returns-3 c =
+    let if1 = c .before .before .before .before .if1 in
+    simp (if1 .left, c .before .before .enum-told .given .1)
 
 pub with-list-spec : {M : Type 1} → statement M
 with-list-spec = tie.close (tie.spec (search needs) returns (search needs) (search needs) (search needs) returns-2 returns-3)

@@ -10,7 +10,9 @@ float-from-bits-box-turn c = search needs
 
 returns : tie.Need-returns
 unfolding ofBits
-returns c = rw (c .acceleration-of .ensures, c .before .box-turn3 .ensures, c .before .before .box-turn2 .ensures, c .before .before .before .box-turn .ensures, c .before .before .before .before .apply-tensor .ensures)
+returns c =
+    let apply-tensor = c .before .before .before .before .apply-tensor in
+    rw (c .acceleration-of .ensures, c .before .box-turn3 .ensures, c .before .before .box-turn2 .ensures, c .before .before .before .box-turn .ensures, apply-tensor .ensures)
 
 pub alpha-from-box-spec : {M : Type 1} → statement M
 alpha-from-box-spec =

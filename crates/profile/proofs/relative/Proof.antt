@@ -7,7 +7,9 @@ use Rattle.profile.proofs.relative.Tie as tie
 
 returns : tie.Need-returns
 unfolding relative ofBits
-returns c = rw (c .mul .ensures, c .before .negate .ensures, c .before .before .conjugate .ensures, ← c .before .before .before .before .dot .ensures, c .before .before .before .if1 .taken)
+returns c =
+    let dot = c .before .before .before .before .dot in
+    rw (c .mul .ensures, c .before .negate .ensures, c .before .before .conjugate .ensures, ← dot .ensures, c .before .before .before .if1 .taken)
 
 returns-2 : tie.Need-returns-2
 unfolding relative ofBits

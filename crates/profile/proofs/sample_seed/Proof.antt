@@ -4,7 +4,7 @@ use mathlib.Core.Path.{_≡_}
 use native.Mathlib.Omega.{arith}
 use borrow.Author.Needs.{needs}
 use lib.ListN.{length, take}
-use Rattle.common.specs.Iter.{iter-none}
+use Rattle.common.specs.IterLaws.{iter-none}
 use Rattle.profile.specs.Profiles.{omegaVec, torqueVec}
 use Rattle.profile.specs.Seeds.{nodeTime, ratesTo, torquesTo}
 use Rattle.profile.proofs.Nodes.{next-node, all-nodes}

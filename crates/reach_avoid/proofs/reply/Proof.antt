@@ -31,21 +31,28 @@ returns-4 : tie.Need-returns-4
 returns-4 c = let a = c .before .before .before .before .before .before .args in replies _ (a .left) (a .choice) (reply-out _ (a .left) (a .choice) (λ x w l m. omega arith))
 
 answer-to-requires : tie.Need-answer-to-requires
-answer-to-requires c κs = let s = c .before .before .before .before .before .before .before .before in
+answer-to-requires c κs =
+    let entry-of = c .before .before .before .before .before .before .before .entry-of in
+    let if1 = c .before .before .before .before .before .before .if1 in
+    let if2 = c .before .before .before .before .if2 in
+    let s = c .before .before .before .before .before .before .before .before in
     let n = c .before .before .before .before .before .counted in
     let i : Counted 2 (s .args .choice) _ = counted-word 2 (omega arith) (s .fits .choice) (n .ensures) in
-    (c .before .before .before .before .before .before .before .entry-of .ensures .entry (c .before .before .before .before .before .before .if1 .left) .0, omega (arith, i .inner (c .before .before .before .before .if2 .left) .2), omega arith, omega arith, c .before .fill .ensures)
+    (entry-of .ensures .entry (if1 .left) .0, omega (arith, i .inner (if2 .left) .2), omega arith, omega arith, c .before .fill .ensures)
 
 returns-5 : tie.Need-returns-5
-returns-5 c = let s = c .before .before .before .before .before .before .before .before .before in
+returns-5 c =
+    let if1 = c .before .before .before .before .before .before .before .if1 in
+    let if2 = c .before .before .before .before .before .if2 in
+    let s = c .before .before .before .before .before .before .before .before .before in
     let a = s .args in
     let k = c .before .before .before .before .before .before .before .before .entry-of in
     let n = c .before .before .before .before .before .before .counted in
     let st : State = record { angle = a .angle; rate = a .rate } in
     let e : Start st (k .result) = rw (toZ-ofZ (s .fits .angle), toZ-ofZ (s .fits .rate)) at (k .ensures) in
-    let p = e .entry (c .before .before .before .before .before .before .before .if1 .left) in
+    let p = e .entry (if1 .left) in
     let i : Counted 2 (a .choice) _ = counted-word 2 (omega arith) (s .fits .choice) (n .ensures) in
-    let q = i .inner (c .before .before .before .before .before .if2 .left) in
+    let q = i .inner (if2 .left) in
     replies st (a .left) (a .choice) (c .answer-to .ensures ∙ ap₂ (λ x u. replying (a .left) x u) (sym (p .2)) (is-one (sub-is (n .result) 2) (q .1))
     ∙ reply-in st (a .left) (a .choice) (p .1) (q .0) (omega arith) (omega arith))
 

@@ -18,7 +18,9 @@ loop-holds : tie.Need-loop-holds Inv-loop μ-loop
 loop-holds c = let h = c .pre .1 in (omega arith, record { size = h .size; done = λ x l. absurd (omega arith); ahead = λ x l b. h .entry x b })
 
 loop-again : tie.Need-loop-again Inv-loop μ-loop
-loop-again c = let m = c .before .before .before .before .args .m in
+loop-again c =
+    let entry = c .before .before .before .before in
+    let m = entry .args .m in
     let l = c .before .before .before .loop in (
       omega arith,
       stored-more (turnsAt (suc m)) (turnsAt m) (l .k) (l .t) (c .next-entry .result) (omega arith) (l .inv .1)

@@ -1,6 +1,6 @@
--- `residuals::residuals` meets its contract. Assumes nothing.
-use Rattle.forward.specs.Operations.{admitted}
-use Rattle.residuals.specs.Operations as Operations
+-- `residuals::residuals` meets its contract: a refused check begins no run; an admitted problem has what a run asks for (`admitted`).
+use Rattle.forward.specs.ReconstructLaws.{admitted}
+use Rattle.residuals.specs.MeasuredResiduals as MeasuredResiduals
 use borrow.Author.Needs.{needs}
 use Rattle.residuals.proofs.residuals.Statement.{statement}
 use Rattle.residuals.proofs.residuals.Tie as tie
@@ -9,12 +9,16 @@ residuals-of-requires : tie.Need-residuals-of-requires
 residuals-of-requires c κs = let a = admitted _ (c .before .before .before .admit .ensures) (c .before .enum-told .given .1) in (a .sized, a .narrow)
 
 returns : tie.Need-returns
-unfolding Operations.residuals
-returns c = rw (← c .before .before .before .before .admit .ensures, c .before .before .fate .given .1, c .refused-residuals .ensures)
+unfolding MeasuredResiduals.residuals
+returns c =
+    let admit = c .before .before .before .before .admit in
+    rw (← admit .ensures, c .before .before .fate .given .1, c .refused-residuals .ensures)
 
 returns-2 : tie.Need-returns-2
-unfolding Operations.residuals
-returns-2 c = rw (← c .before .before .before .before .admit .ensures, c .before .before .enum-told .given .1, c .residuals-of .ensures)
+unfolding MeasuredResiduals.residuals
+returns-2 c =
+    let admit = c .before .before .before .before .admit in
+    rw (← admit .ensures, c .before .before .enum-told .given .1, c .residuals-of .ensures)
 
 pub residuals-spec : {M : Type 1} → statement M
 residuals-spec =

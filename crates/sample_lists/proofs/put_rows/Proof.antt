@@ -25,25 +25,26 @@ abbrev μ-loop : tie.MeasureT-loop
 
 loop-holds : tie.Need-loop-holds Inv-loop μ-loop
 loop-holds c =
-    let e = c .unplaced .ensures in
-    (omega arith, refl, rw e (omega arith), rw e (passed-none (c .before .before .args .nodes .now) (c .unplaced .result .t)), omega arith, (λ a b. absurd (omega (arith, a))), (λ a b. absurd (omega (arith, a))), goes-first _ _)
+    let first = c .before in
+    let e = first .unplaced .ensures in
+    (omega arith, refl, rw e (omega arith), rw e (passed-none (first .before .before .args .nodes .now) (first .unplaced .result .t)), rw (c .unturned .ensures) (omega arith), (λ a b. absurd (omega (arith, a))), (λ a b. absurd (omega (arith, a))), goes-first _ _)
 
 returns : tie.Need-returns Inv-loop μ-loop
 returns c =
     let made = c .before .before .before in
     let then = made .before .before in
     let l = then .before .before .before .before .before .before .loop in
-    goes-cut _ (l .inv .7) (finish-is _ _ _ _ _ _ _ (then .before .before .before .before .before .before .before .before .step-rows .ensures) (l .inv .6) (then .if1 .taken) (omega arith) (made .finish .ensures)) (omega arith) (c .before .fate .given .1)
+    goes-cut _ (l .inv .7) (finish-is _ _ _ _ _ _ _ (then .before .before .before .before .before .before .before .before .before .step-rows .ensures) (l .inv .6) (then .if1 .taken) (omega arith) (made .finish .ensures)) (omega arith) (c .before .fate .given .1)
 
 -- where a row is written: the loop's turn
 abbrev turn-of : tie.After-numbers Inv-loop μ-loop → tie.At-loop Inv-loop μ-loop
 turn-of c = let then = c .before .before .before .before .before .before in then .before .before .before .before .before .before
 
 mul-row : tie.Need-mul-row Inv-loop μ-loop
-mul-row c = omega (arith, turn-of c .before .before .before .pre)
+mul-row c = omega (arith, turn-of c .before .before .before .before .pre)
 
 slice-set-from-row : tie.Need-slice-set-from-row Inv-loop μ-loop
-slice-set-from-row c = omega (arith, turn-of c .before .before .before .pre, turn-of c .loop .inv .1)
+slice-set-from-row c = omega (arith, turn-of c .before .before .before .before .pre, turn-of c .loop .inv .1)
 
 loop-again : tie.Need-loop-again Inv-loop μ-loop
 loop-again c =
@@ -51,7 +52,7 @@ loop-again c =
     let hold = place .before in
     let turn = hold .before .before in
     let l = turn .before .before .loop in
-    let s = turn .before .before .before .before in (
+    let s = turn .before .before .before .before .before in (
       omega arith,
       ⊎-elim (λ w. rw (w .7) (length-set (l .out) (l .j - 2) (w .6 .result) ∙ l .inv .1)) (λ w. rw (w .1) (l .inv .1)) (c .if1 .came),
       place .place .ensures .1,
@@ -70,8 +71,9 @@ loop-again c =
 
 returns-2 : tie.Need-returns-2 Inv-loop μ-loop
 returns-2 c =
+    let entry = c .before .before .before .before .before in
     let l = c .before .loop in
-    let e : l .j - 2 ≡ c .before .before .before .before .args .count = omega arith in
+    let e : l .j - 2 ≡ entry .args .count = omega arith in
     rw e at (goes-whole _ (l .inv .7))
 
 pub put-rows-spec : {M : Type 1} → statement M
@@ -80,6 +82,7 @@ put-rows-spec =
     (tie.spec
     Inv-loop
     μ-loop
+    (λ c κs. search needs)
     (λ c κs. search needs)
     (λ c κs. search needs)
     loop-holds

@@ -7,7 +7,9 @@ use Rattle.sample_lists.proofs.sample_list.Statement.{statement}
 use Rattle.sample_lists.proofs.sample_list.Tie as tie
 
 returns : tie.Need-returns
-returns c = lists-short _ _ _ _ _ _ _ (rw (← c .before .before .before .before .sample-count .ensures, c .before .before .counted .given .1)) (c .if1 .taken)
+returns c =
+    let sample-count = c .before .before .before .before .sample-count in
+    lists-short _ _ _ _ _ _ _ (rw (← sample-count .ensures, c .before .before .counted .given .1)) (c .if1 .taken)
 
 put-rows-requires : tie.Need-put-rows-requires
 put-rows-requires c κs =

@@ -7,7 +7,9 @@ use Rattle.samples.proofs.sample.Statement.{statement}
 use Rattle.samples.proofs.sample.Tie as tie
 
 time-of-requires : tie.Need-time-of-requires
-time-of-requires c κs = (c .if1 .taken, given-count _ _ _ (sym (c .before .before .before .before .sample-count .ensures) ∙ c .before .before .counted .given .1))
+time-of-requires c κs =
+    let sample-count = c .before .before .before .before .sample-count in
+    (c .if1 .taken, given-count _ _ _ (sym (sample-count .ensures) ∙ c .before .before .counted .given .1))
 
 returns : tie.Need-returns
 returns c = c .refused .ensures ∙ too-many _ _ _ _ _ _ _ (sym (c .before .before .before .sample-count .ensures) ∙ c .before .enum-told .given .1)

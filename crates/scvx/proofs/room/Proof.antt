@@ -1,6 +1,6 @@
--- `scvx::room` meets its contract. Assumes nothing.
+-- `scvx::room` meets its contract: sums and products of at most 193 and 79, which no word overflows.
 use Rattle.scvx.specs.Search as Search
-use Rattle.scvx.specs.Stands.{numbers-most, width-most, product-most}
+use Rattle.scvx.specs.ProgressInner.{numbers-most, width-most, product-most}
 use native.Mathlib.Omega.{arith}
 use borrow.Author.Needs.{needs}
 use Rattle.scvx.proofs.room.Statement.{statement}

@@ -2,8 +2,9 @@
 use Prim.Native.Nat.{ℕ, _≤_, _<_, _-_, _+_, _*_}
 use mathlib.Core.Path.{_≡_, _∙_}
 use lib.ListN.{length}
-use Rattle.common.specs.Iter.{iter, iter-none, iter-next, row-end}
-use Rattle.forward.specs.Pasted.{length-pasted}
+use Rattle.common.specs.Iter.{iter}
+use Rattle.common.specs.IterLaws.{iter-none, iter-next, row-end}
+use Rattle.forward.specs.PastedLaws.{length-pasted}
 use Rattle.seeds.specs.Seeds as Seeds
 use Rattle.seeds.specs.RowLaws.{length-slice}
 use native.Mathlib.Omega.{arith}

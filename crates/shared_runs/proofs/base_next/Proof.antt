@@ -14,7 +14,7 @@ steps-under-requires c κs =
     let e = c .before .before in
     let pre = e .before .before .before .before .before .pre in
     let k = pre .1 .1 .1 (not-false _ (e .if1 .left)) in
-    (pre .0, (pre .1 .0, (k .skew, (k .sound, (omega arith, omega arith)))))
+    (record { sized = pre .0; narrow = pre .1 .0; skewed = k .skew; sound = k .sound }, (omega arith, omega arith))
 
 sums-next-requires : tie.Need-sums-next-requires
 unfolding Ieee.ofBits

@@ -1,4 +1,4 @@
--- `shared_runs::goes` meets its contract. Assumes nothing.
+-- `shared_runs::goes` meets its contract: the two cases of a fate.
 use Prim.Native.Nat.{ℕ}
 use mathlib.Core.Path.{_≡_}
 use native.Mathlib.Omega.{arith}

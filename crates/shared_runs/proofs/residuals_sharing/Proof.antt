@@ -20,14 +20,16 @@ residuals-of-requires : tie.Need-residuals-of-requires
 residuals-of-requires c κs = let pre = c .before .before .before .pre in (pre .0, pre .1 .0)
 
 returns : tie.Need-returns
-returns c = (c .residuals-of .ensures, c .before .before .before .before .pre .1 .1 .1)
+returns c =
+    let entry = c .before .before .before .before in
+    (c .residuals-of .ensures, entry .pre .1 .1 .1)
 
 run-on-requires : tie.Need-run-on-requires
 run-on-requires c κs =
     let e = c .before .before .before in
     let pre = e .before .before .pre in
     let k = pre .1 .1 .1 .1 (e .before .shares .ensures (not-false _ (e .if1 .left)) .0) in
-    (pre .0, (pre .1 .0, (k .skew, (k .sound, k .begins .sums .few))))
+    (record { sized = pre .0; narrow = pre .1 .0; skewed = k .skew; sound = k .sound }, k .begins .sums .few)
 
 of-rows-requires : tie.Need-of-rows-requires
 of-rows-requires c κs =
@@ -67,6 +69,7 @@ returns-2 c =
 returns-3 : tie.Need-returns-3
 unfolding Runs.runUnder
 returns-3 c =
+    let enum-told = c .before .before .before .before .before .enum-told in
     let t = c .before .before .before .before .before .before .before in
     let e = t .before .before .before .before in
     let start = e .before .before in
@@ -77,7 +80,7 @@ returns-3 c =
     let r = t .run-on .ensures in
     let u = t .run-on .last .1 .1 .1 .1 .1 .1 .0 in
     let whole = r .whole (Runs.startOf (a .p)) (after-shared (a .p) (a .n) (a .z .now) (a .y .now) (a .b) (a .nodes .now) (a .errors .now) (pre .1 .1 .0) (held .1 (s .0)) (s .1)) in (
-      rw (c .of-rows .ensures, c .before .before .before .target-of .ensures) (told-going (a .p) (a .y .now) (t .run-on .result) u whole (c .before .before .before .before .before .enum-told .given .1)),
+      rw (c .of-rows .ensures, c .before .before .before .target-of .ensures) (told-going (a .p) (a .y .now) (t .run-on .result) u whole (enum-told .given .1)),
       (record { nodes = r .size ∙ held .0 .nodes; errors = held .0 .errors }, λ on. kept-same (a .p) (a .z .now) (a .b) (a .nodes .now) u (a .errors .now) (r .size) (r .below) (held .1 on)),
     )
 

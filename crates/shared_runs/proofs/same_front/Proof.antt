@@ -1,4 +1,4 @@
--- `shared_runs::same_front` meets its contract. Assumes nothing.
+-- `shared_runs::same_front` meets its contract: the loop keeps that the first i numbers agree, bit for bit.
 use Prim.Native.Nat.{ℕ, _≤_, _-_}
 use mathlib.Core.Path.{_≡_, refl, sym, _∙_}
 use native.Mathlib.Omega.{arith}
@@ -30,7 +30,9 @@ loop-again c =
     (omega arith, below-more (λ k. at (a .y .now) k ≡ at (a .z .now) k) (l .i) (l .inv .1) (same-is _ _ (met (c .before .same-bits .ensures) (c .if1 .left))))
 
 returns-2 : tie.Need-returns-2 Inv-loop μ-loop
-returns-2 c = λ h. let l = c .before .loop in let e : l .i ≡ c .before .before .before .before .args .e = omega arith in rw e at (l .inv .1)
+returns-2 c =
+    let entry = c .before .before .before .before in
+    λ h. let l = c .before .loop in let e : l .i ≡ entry .args .e = omega arith in rw e at (l .inv .1)
 
 pub same-front-spec : {M : Type 1} → statement M
 same-front-spec =

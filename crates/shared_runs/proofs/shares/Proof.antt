@@ -1,4 +1,4 @@
--- `shared_runs::shares` meets its contract. Assumes nothing.
+-- `shared_runs::shares` meets its contract: a run that is kept and numbers that agree are the two things that sharing asks for.
 use Prim.Native.Nat.{ℕ, _*_, _≤_}
 use mathlib.Core.Path.{_≡_, sym, _∙_}
 use native.Mathlib.Nat.{mul-le-mul}

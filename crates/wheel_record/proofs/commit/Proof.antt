@@ -12,14 +12,19 @@ returns c = rw (not-true (c .before .before .args .answered) (c .before .if1 .ta
 returns-2 : tie.Need-returns-2
 unfolding Commits.commit
 returns-2 c =
-    rw (not-false (c .before .before .before .before .before .args .answered) (c .before .before .before .before .if1 .left), ← c .before .before .before .leading-same .ensures, ne-eqb _ _ (c .before .if2 .taken)) (c .not-started2 .ensures)
+    let entry = c .before .before .before .before .before in
+    let if1 = c .before .before .before .before .if1 in
+    rw (not-false (entry .args .answered) (if1 .left), ← c .before .before .before .leading-same .ensures, ne-eqb _ _ (c .before .if2 .taken)) (c .not-started2 .ensures)
 
 returns-3 : tie.Need-returns-3
 unfolding Commits.commit
 returns-3 c =
+    let entry = c .before .before .before .before .before .before .before in
+    let if1 = c .before .before .before .before .before .before .if1 in
+    let leading-same = c .before .before .before .before .before .leading-same in
     rw (
-      not-false (c .before .before .before .before .before .before .before .args .answered) (c .before .before .before .before .before .before .if1 .left),
-      ← c .before .before .before .before .before .leading-same .ensures,
+      not-false (entry .args .answered) (if1 .left),
+      ← leading-same .ensures,
       eq-eqb _ _ (c .before .before .before .if2 .left),
       ne-eqb _ _ (c .before .if3 .taken),
     )
@@ -28,9 +33,12 @@ returns-3 c =
 returns-4 : tie.Need-returns-4
 unfolding Commits.commit
 returns-4 c =
+    let entry = c .before .before .before .before .before .before in
+    let if1 = c .before .before .before .before .before .if1 in
+    let leading-same = c .before .before .before .before .leading-same in
     rw (
-      not-false (c .before .before .before .before .before .before .args .answered) (c .before .before .before .before .before .if1 .left),
-      ← c .before .before .before .before .leading-same .ensures,
+      not-false (entry .args .answered) (if1 .left),
+      ← leading-same .ensures,
       eq-eqb _ _ (c .before .before .if2 .left),
       eq-eqb _ _ (c .if3 .left),
     )

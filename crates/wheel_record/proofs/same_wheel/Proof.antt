@@ -15,7 +15,9 @@ returns-2 c = rw (lt-ltb _ _ (c .before .before .if1 .left), le-ltb _ _ (c .if2 
 
 returns-3 : tie.Need-returns-3
 unfolding sameWheel
-returns-3 c = rw (lt-ltb _ _ (c .before .before .before .before .before .if1 .left), lt-ltb _ _ (c .before .before .before .if2 .left)) (c .same-bits .ensures)
+returns-3 c =
+    let if1 = c .before .before .before .before .before .if1 in
+    rw (lt-ltb _ _ (if1 .left), lt-ltb _ _ (c .before .before .before .if2 .left)) (c .same-bits .ensures)
 
 pub same-wheel-spec : {M : Type 1} → statement M
 same-wheel-spec = tie.close (tie.spec returns returns-2 (λ c. search needs) (λ c. search needs) (λ c. search needs) (λ c. search needs) (λ c κs. search needs) returns-3)

@@ -14,7 +14,9 @@ put-legs-requires c κs =
     lends _ _ _ _ _ (told .before .before .check-tiles .ensures) (told .enum-told .given .1)
 
 returns : tie.Need-returns
-returns c = filled-not _ _ _ _ _ _ _ _ _ _ (c .before .before .before .before .before .check-tiles .ensures) (c .before .before .before .fate .given .1) (c .before .start .ensures) (c .halted .ensures)
+returns c =
+    let check-tiles = c .before .before .before .before .before .check-tiles in
+    filled-not _ _ _ _ _ _ _ _ _ _ (check-tiles .ensures) (c .before .before .before .fate .given .1) (c .before .start .ensures) (c .halted .ensures)
 
 returns-2 : tie.Need-returns-2
 returns-2 c =

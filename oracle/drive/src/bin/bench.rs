@@ -315,7 +315,7 @@ fn phases() {
     }
 }
 
-/// Samples of a path, one call each, beside the Rust's `densify` of the whole list.
+/// Samples of a path, one call each and in one call, beside the Rust's `densify` of the whole list.
 fn samples(turns: u32) {
     head("a dense sample of a path's list, nanoseconds");
     let plan = found(FAMILIES[0]).swap_remove(0);
@@ -338,10 +338,18 @@ fn samples(turns: u32) {
             black_box(&out);
         }
     };
+    let mut list = vec![[0.0; 14]; count];
+    let mut ours_whole = || {
+        let (mut written, mut place) = (0, 0);
+        let number = slew_sample_list(&j, plan.body[27], nodes.duration, &rows, requested, 1.0e-6, &mut list, &mut written, &mut place);
+        assert_eq!((number, written), (0, count));
+        black_box(&list);
+    };
     let rust = || assert!(black_box(scvx::dense_kept(drive::shapes::rows(j), &kept, requested, 1.0e-6)).is_finite());
-    let [with_ours, platform, ours] = measured(turns, [&mut { rust }, &mut || unaltered(&mut { rust }), &mut ours]);
-    line(&format!("one of {count}"), NANOSECONDS * count as f64, ours.least, Some(with_ours), Some(platform));
-    line("all of them as one list, microseconds", MICROSECONDS, ours.least, Some(with_ours), Some(platform));
+    let [with_ours, platform, ours, whole] = measured(turns, [&mut { rust }, &mut || unaltered(&mut { rust }), &mut ours, &mut ours_whole]);
+    line(&format!("one of {count}, one call each"), NANOSECONDS * count as f64, ours.least, Some(with_ours), Some(platform));
+    line(&format!("one of {count}, all in one call"), NANOSECONDS * count as f64, whole.least, Some(with_ours), Some(platform));
+    line("all of them in one call, microseconds", MICROSECONDS, whole.least, Some(with_ours), Some(platform));
 }
 
 /// Byte planes by the port's loops: plane by plane.

@@ -6,7 +6,9 @@ use Rattle.actuators.proofs.allocation.along_axes.Tie as tie
 
 returns : tie.Need-returns
 unfolding Allocate.alongAxes
-returns c = rw (← c .before .before .before .before .invert3 .ensures, c .before .enum-told .given .1) (c .unserved .ensures)
+returns c =
+    let invert3 = c .before .before .before .before .invert3 in
+    rw (← invert3 .ensures, c .before .enum-told .given .1) (c .unserved .ensures)
 
 returns-2 : tie.Need-returns-2
 unfolding Allocate.alongAxes

@@ -9,7 +9,9 @@ use Rattle.actuators.proofs.allocation.axes_alone.Statement.{statement}
 use Rattle.actuators.proofs.allocation.axes_alone.Tie as tie
 
 columns-requires : tie.Need-columns-requires
-columns-requires c κs = let l : length (c .before .before .before .before .args .map .«wheel_axes») ≡ 24 = search needs in omega arith
+columns-requires c κs =
+    let entry = c .before .before .before .before in
+    let l : length (entry .args .map .«wheel_axes») ≡ 24 = search needs in omega arith
 
 returns : tie.Need-returns
 unfolding Allocate.axesAlone Ieee.ofBits Ieee.neg
@@ -18,7 +20,9 @@ returns c =
     rw (← told .before .alone .ensures, told .if1 .taken, c .along-axes .ensures, c .before .scale3 .ensures, c .before .before .columns .ensures)
 
 columns-requires-2 : tie.Need-columns-requires-2
-columns-requires-2 c κs = let l : length (c .before .before .before .before .before .before .args .map .«thruster_axes») ≡ 36 = search needs in omega arith
+columns-requires-2 c κs =
+    let entry = c .before .before .before .before .before .before in
+    let l : length (entry .args .map .«thruster_axes») ≡ 36 = search needs in omega arith
 
 returns-2 : tie.Need-returns-2
 unfolding Allocate.axesAlone

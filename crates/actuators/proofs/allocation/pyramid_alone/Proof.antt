@@ -7,7 +7,9 @@ use Rattle.actuators.proofs.allocation.pyramid_alone.Tie as tie
 
 returns : tie.Need-returns
 unfolding Allocate.pyramidAlone Ieee.ofBits
-returns c = rw (← c .before .before .before .before .pyramid-a .ensures, c .before .enum-told .given .1) (c .unserved .ensures)
+returns c =
+    let pyramid-a = c .before .before .before .before .pyramid-a in
+    rw (← pyramid-a .ensures, c .before .enum-told .given .1) (c .unserved .ensures)
 
 returns-2 : tie.Need-returns-2
 unfolding Allocate.pyramidAlone Ieee.ofBits Ieee.neg

@@ -10,7 +10,9 @@ returns c = rw (c .enum-told2 .given .1)
 
 returns-2 : tie.Need-returns-2
 unfolding Prepare.cmgsNext
-returns-2 c = rw (c .before .before .before .before .enum-told .given .1, c .before .enum-told3 .given .1) (c .going .ensures)
+returns-2 c =
+    let enum-told = c .before .before .before .before .enum-told in
+    rw (enum-told .given .1, c .before .enum-told3 .given .1) (c .so-far .ensures)
 
 returns-3 : tie.Need-returns-3
 unfolding Prepare.cmgsNext
@@ -24,7 +26,7 @@ unfolding Prepare.cmgsNext
 returns-4 c =
     let tested = c .before .before in
     let known = tested .before .before in
-    rw (known .before .before .before .enum-told .given .1, known .cmgs .given .1, ← tested .pyramid-outside .ensures, c .before .if1 .left) (c .going2 .ensures)
+    rw (known .before .before .before .enum-told .given .1, known .cmgs .given .1, ← tested .pyramid-outside .ensures, c .before .if1 .left) (c .so-far2 .ensures)
 
 pub cmgs-turn-spec : {M : Type 1} → statement M
 cmgs-turn-spec =

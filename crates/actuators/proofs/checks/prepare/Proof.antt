@@ -16,15 +16,15 @@ returns-2 c = rw (le-ltb _ _ (c .before .before .if1 .left), lt-ltb _ _ (c .befo
 returns-3 : tie.Need-returns-3
 unfolding Prepare.prepare Prepare.filled
 returns-3 c =
-    let after-going = c .before .before .before in
-    let after-unfilled = after-going .before in
+    let after-so-far = c .before .before .before in
+    let after-unfilled = after-so-far .before in
     let branch2 = after-unfilled .before .before .before in
     let branch1 = branch2 .before in
     rw (
       le-ltb _ _ (branch1 .if1 .left),
       le-ltb _ _ (branch2 .if2 .left),
       ← after-unfilled .unfilled .ensures,
-      ← after-going .going .ensures,
+      ← after-so-far .so-far .ensures,
       ← c .before .before .wheels-checked .ensures,
       ← c .before .thrusters-checked .ensures,
     )

@@ -28,7 +28,7 @@ returns-4 c =
     let measured = c .before .before .before .before .before in
     let inside = measured .before .before .before in
     let tested = inside .before in
-    rw (tested .before .enum-told .given .1, ← tested .wheel-outside .ensures, inside .if1 .left, ← measured .unit3 .ensures, c .before .before .before .unit .given .1, ← c .before .with-wheel .ensures) (c .going .ensures)
+    rw (tested .before .enum-told .given .1, ← tested .wheel-outside .ensures, inside .if1 .left, ← measured .unit3 .ensures, c .before .before .before .unit .given .1, ← c .before .with-wheel .ensures) (c .so-far .ensures)
 
 pub wheel-turn-spec : {M : Type 1} → statement M
 wheel-turn-spec =

@@ -1,5 +1,6 @@
 -- `actuators::checks::wheels_checked` meets its contract: after k turns the answer is that of the first k wheels. Assumes nothing.
-use Rattle.common.specs.Iter.{iter, iter-none, iter-next}
+use Rattle.common.specs.Iter.{iter}
+use Rattle.common.specs.IterLaws.{iter-none, iter-next}
 use mathlib.Core.Path.{_≡_}
 use Prim.Native.Nat.{_≤_, _-_}
 use Rattle.actuators.specs.Prepare as Prepare

@@ -8,7 +8,9 @@ use Rattle.actuators.proofs.checks.with_thruster.Statement.{statement}
 use Rattle.actuators.proofs.checks.with_thruster.Tie as tie
 
 put-axis-requires : tie.Need-put-axis-requires
-put-axis-requires c κs = let l : length (c .before .before .before .before .before .before .args .map .«thruster_axes») ≡ 36 = search needs in omega arith
+put-axis-requires c κs =
+    let entry = c .before .before .before .before .before .before in
+    let l : length (entry .args .map .«thruster_axes») ≡ 36 = search needs in omega arith
 
 returns : tie.Need-returns
 unfolding Prepare.withThruster

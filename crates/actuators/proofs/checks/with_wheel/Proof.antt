@@ -12,7 +12,9 @@ put-axis-requires c κs = let l : length (c .before .before .args .map .«wheel_
 
 returns : tie.Need-returns
 unfolding Prepare.withWheel
-returns c = rw (c .before .before .before .before .before .before .put-axis .ensures)
+returns c =
+    let put-axis = c .before .before .before .before .before .before .put-axis in
+    rw (put-axis .ensures)
 
 pub with-wheel-spec : {M : Type 1} → statement M
 with-wheel-spec =

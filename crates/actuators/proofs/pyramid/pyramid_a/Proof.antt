@@ -10,7 +10,9 @@ returns c = rw (← c .before .before .before .sin-cos .ensures, c .before .enum
 
 returns-2 : tie.Need-returns-2
 unfolding Pyramid.pyramidA
-returns-2 c = rw (← c .before .before .before .before .sin-cos .ensures, c .before .before .pair .given .1) (c .pyramid-from .ensures)
+returns-2 c =
+    let sin-cos = c .before .before .before .before .sin-cos in
+    rw (← sin-cos .ensures, c .before .before .pair .given .1) (c .pyramid-from .ensures)
 
 pub pyramid-a-spec : {M : Type 1} → statement M
 pyramid-a-spec =

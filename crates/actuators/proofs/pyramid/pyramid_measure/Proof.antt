@@ -10,7 +10,9 @@ returns c = rw (← c .before .before .before .pyramid-a .ensures, c .enum-told 
 
 returns-2 : tie.Need-returns-2
 unfolding Pyramid.pyramidMeasure
-returns-2 c = rw (← c .before .before .before .before .pyramid-a .ensures, c .before .enum-told2 .given .1, c .singularity-of .ensures)
+returns-2 c =
+    let pyramid-a = c .before .before .before .before .pyramid-a in
+    rw (← pyramid-a .ensures, c .before .enum-told2 .given .1, c .singularity-of .ensures)
 
 pub pyramid-measure-spec : {M : Type 1} → statement M
 pyramid-measure-spec = tie.close (tie.spec (λ c κs. search needs) (λ c. search needs) (λ c. search needs) (λ c κs. search needs) returns returns-2)

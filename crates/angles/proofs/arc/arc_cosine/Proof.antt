@@ -10,15 +10,6 @@ use Rattle.angles.specs.EndedLaws.{arc-size}
 use Rattle.angles.proofs.arc.arc_cosine.Statement.{statement}
 use Rattle.angles.proofs.arc.arc_cosine.Tie as tie
 
-arc-ended-requires : tie.Need-arc-ended-requires
-arc-ended-requires c κs = search needs
-
-mul-over-60 : tie.Need-mul-over-60
-mul-over-60 c = search needs
-
-over-60-requires : tie.Need-over-60-requires
-over-60-requires c κs = search needs
-
 returns : tie.Need-returns
 unfolding arcOf
 returns c =
@@ -26,4 +17,4 @@ returns c =
     c .over-60 .ensures ∙ ap (λ (a : ℕ). round binary64 false (2 * a) (2 ^ 60)) (ap (λ (r : Ended). r .sum) (e .arc-ended .ensures .0) ∙ arc-size (e .before .args .w))
 
 pub arc-cosine-spec : {M : Type 1} → statement M
-arc-cosine-spec = tie.close (tie.spec arc-ended-requires mul-over-60 over-60-requires returns)
+arc-cosine-spec = tie.close (tie.spec (λ c κs. search needs) (λ c. search needs) (λ c κs. search needs) returns)

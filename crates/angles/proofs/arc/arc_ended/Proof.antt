@@ -29,12 +29,6 @@ sub-d c =
     let q = whole-at _ (kept (c .before)) (c .before .pre) in
     subst (λ (n : ℕ). n ≤ 2 ^ 60) (sym (c .truncating-f64-to-u64 .ensures ∙ q .0 .1)) (q .1)
 
-root-59-requires : tie.Need-root-59-requires
-root-59-requires c κs = search needs
-
-arc-sum-requires : tie.Need-arc-sum-requires
-arc-sum-requires c κs = search needs
-
 returns : tie.Need-returns
 returns c =
     let r = c .before in
@@ -43,4 +37,4 @@ returns c =
     (answer (t .before .args .w) (t .truncating-f64-to-u64 .result) (r .root-59 .result) (c .arc-sum .result) (t .truncating-f64-to-u64 .ensures ∙ q .0 .1) (r .root-59 .ensures .0) (c .arc-sum .ensures .0), c .arc-sum .ensures .1)
 
 pub arc-ended-spec : {M : Type 1} → statement M
-arc-ended-spec = tie.close (tie.spec truncating-f64-to-u64-requires sub-d root-59-requires arc-sum-requires returns)
+arc-ended-spec = tie.close (tie.spec truncating-f64-to-u64-requires sub-d (λ c κs. search needs) (λ c κs. search needs) returns)

@@ -20,27 +20,6 @@ joined c =
     let s = start c .args .s in
     c .arc-terms6 .ensures .1 s (e .arc-terms5 .ensures .1 s (d .arc-terms4 .ensures .1 s (b .arc-terms3 .ensures .1 s (a .arc-terms2 .ensures .1 s (z .arc-terms .ensures .1 s (z .before .first-part .ensures .1))))))
 
-first-part-requires : tie.Need-first-part-requires
-first-part-requires c κs = search needs
-
-arc-terms-requires : tie.Need-arc-terms-requires
-arc-terms-requires c κs = search needs
-
-arc-terms-requires-2 : tie.Need-arc-terms-requires-2
-arc-terms-requires-2 c κs = search needs
-
-arc-terms-requires-3 : tie.Need-arc-terms-requires-3
-arc-terms-requires-3 c κs = search needs
-
-arc-terms-requires-4 : tie.Need-arc-terms-requires-4
-arc-terms-requires-4 c κs = search needs
-
-arc-terms-requires-5 : tie.Need-arc-terms-requires-5
-arc-terms-requires-5 c κs = search needs
-
-arc-terms-requires-6 : tie.Need-arc-terms-requires-6
-arc-terms-requires-6 c κs = search needs
-
 returns : tie.Need-returns
 returns c =
     let l = c .before .before in
@@ -57,12 +36,12 @@ pub arc-sum-spec : {M : Type 1} → statement M
 arc-sum-spec =
     tie.close
     (tie.spec
-    first-part-requires
-    arc-terms-requires
-    arc-terms-requires-2
-    arc-terms-requires-3
-    arc-terms-requires-4
-    arc-terms-requires-5
-    arc-terms-requires-6
+    (λ c κs. search needs)
+    (λ c κs. search needs)
+    (λ c κs. search needs)
+    (λ c κs. search needs)
+    (λ c κs. search needs)
+    (λ c κs. search needs)
+    (λ c κs. search needs)
     returns
     returns-2)

@@ -8,30 +8,12 @@ use Rattle.angles.proofs.ArcTerms.{some-share, term-fits, term-at}
 use Rattle.angles.proofs.arc.arc_term.Statement.{statement}
 use Rattle.angles.proofs.arc.arc_term.Tie as tie
 
-add-share : tie.Need-add-share
-add-share c = search needs
-
-div-share : tie.Need-div-share
-div-share c = search needs
-
-mul-over : tie.Need-mul-over
-mul-over c = search needs
-
-add-over : tie.Need-add-over
-add-over c = search needs
-
-over-requires : tie.Need-over-requires
-over-requires c κs = search needs
-
 add-t8 : tie.Need-add-t8
 add-t8 c =
     let o = c .before in
     let s = o .before in
-    let h : o .over .result ≤ s .args .a .p = subst (λ (z : ℕ). z ≤ s .args .a .p) (sym (o .over .ensures)) (div-le-self (s .args .a .p) (2 * s .args .n + 1)) in
+    let h : o .quotient .result ≤ s .args .a .p = subst (λ (z : ℕ). z ≤ s .args .a .p) (sym (o .quotient .ensures)) (div-le-self (s .args .a .p) (2 * s .args .n + 1)) in
     omega (arith, s .pre .2 .room)
-
-mul-shift-requires : tie.Need-mul-shift-requires
-mul-shift-requires c κs = search needs
 
 sub-high-product : tie.Need-sub-high-product
 sub-high-product c = let s = c .before .before .before in some-share (s .args .n) (s .pre .1)
@@ -39,31 +21,28 @@ sub-high-product c = let s = c .before .before .before in some-share (s .args .n
 sub-high-product-2 : tie.Need-sub-high-product-2
 sub-high-product-2 c = omega (arith, div-le-self (2 ^ 63) (c .before .before .before .args .n + 1))
 
-high-product-requires : tie.Need-high-product-requires
-high-product-requires c κs = search needs
-
 returns : tie.Need-returns
 returns c =
     let m = c .before in
     let o = m .before .before in
     let s = o .before in
     let a = s .args in (
-      term-fits (a .h) (a .n) (a .a) (m .mul-shift .result) (c .high-product .result) (s .pre .0) (s .pre .1) (s .pre .2) (m .mul-shift .ensures) (c .high-product .ensures) (o .over .result) (o .over .ensures),
-      term-at (a .h) (a .n) (a .a) (m .mul-shift .result) (c .high-product .result) (s .pre .0) (s .pre .1) (s .pre .2) (m .mul-shift .ensures) (c .high-product .ensures) (o .over .result) (o .over .ensures),
+      term-fits (a .h) (a .n) (a .a) (m .mul-shift .result) (c .high-product .result) (s .pre .0) (s .pre .1) (s .pre .2) (m .mul-shift .ensures) (c .high-product .ensures) (o .quotient .result) (o .quotient .ensures),
+      term-at (a .h) (a .n) (a .a) (m .mul-shift .result) (c .high-product .result) (s .pre .0) (s .pre .1) (s .pre .2) (m .mul-shift .ensures) (c .high-product .ensures) (o .quotient .result) (o .quotient .ensures),
     )
 
 pub arc-term-spec : {M : Type 1} → statement M
 arc-term-spec =
     tie.close
     (tie.spec
-    add-share
-    div-share
-    mul-over
-    add-over
-    over-requires
+    (λ c. search needs)
+    (λ c. search needs)
+    (λ c. search needs)
+    (λ c. search needs)
+    (λ c κs. search needs)
     add-t8
-    mul-shift-requires
+    (λ c κs. search needs)
     sub-high-product
     sub-high-product-2
-    high-product-requires
+    (λ c κs. search needs)
     returns)

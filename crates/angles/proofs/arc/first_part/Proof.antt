@@ -5,9 +5,6 @@ use Rattle.angles.proofs.ArcEnds.{run-none, run-first}
 use Rattle.angles.proofs.arc.first_part.Statement.{statement}
 use Rattle.angles.proofs.arc.first_part.Tie as tie
 
-mul-shift-requires : tie.Need-mul-shift-requires
-mul-shift-requires c κs = search needs
-
 returns : tie.Need-returns
 returns c = let m = c .before in let s = m .before in (first-fits (s .args .h) (s .args .s) (m .mul-shift .result) (s .pre .1) (s .pre .0) (m .mul-shift .ensures), run-none (s .args .h) (s .args .s) (s .pre .1) (m .mul-shift .result) (m .mul-shift .ensures) (c .if1 .taken))
 
@@ -15,4 +12,4 @@ returns-2 : tie.Need-returns-2
 returns-2 c = let m = c .before in let s = m .before in (first-fits (s .args .h) (s .args .s) (m .mul-shift .result) (s .pre .1) (s .pre .0) (m .mul-shift .ensures), run-first (s .args .h) (s .args .s) (s .pre .1) (m .mul-shift .result) (m .mul-shift .ensures) (c .if1 .left))
 
 pub first-part-spec : {M : Type 1} → statement M
-first-part-spec = tie.close (tie.spec mul-shift-requires returns returns-2)
+first-part-spec = tie.close (tie.spec (λ c κs. search needs) returns returns-2)

@@ -15,12 +15,6 @@ joined d = omega arith
 small : (d : ℕ) → d ≤ 2 ^ 60 → isqrt (d * 2 ^ 59) ≤ 2 ^ 60
 small d h = root-le (d * 2 ^ 59) (2 ^ 60 * 2 ^ 60) (isqrt (d * 2 ^ 59)) (2 ^ 60) (isqrt-root (d * 2 ^ 59)) (record { low = lit≤ tt; high = lit< tt }) (omega arith)
 
-mul-isqrt : tie.Need-mul-isqrt
-mul-isqrt c = search needs
-
-isqrt-requires : tie.Need-isqrt-requires
-isqrt-requires c κs = search needs
-
 returns : tie.Need-returns
 returns c =
     let d = c .before .args .d in
@@ -28,4 +22,4 @@ returns c =
     (e, subst (λ (r : ℕ). r ≤ 2 ^ 60) (sym e) (small d (c .before .pre)))
 
 pub root-59-spec : {M : Type 1} → statement M
-root-59-spec = tie.close (tie.spec mul-isqrt isqrt-requires returns)
+root-59-spec = tie.close (tie.spec (λ c. search needs) (λ c κs. search needs) returns)

@@ -8,23 +8,8 @@ use Rattle.angles.proofs.Answered.{both-series-by, sine-ends, cosine-en
 use Rattle.angles.proofs.counted.both_series.Statement.{statement}
 use Rattle.angles.proofs.counted.both_series.Tie as tie
 
-region-requires : tie.Need-region-requires
-region-requires c κs = search needs
-
-enum-told : tie.Need-enum-told
-enum-told c = search needs
-
-enum-told-2 : tie.Need-enum-told-2
-enum-told-2 c = search needs
-
-enum-told-3 : tie.Need-enum-told-3
-enum-told-3 c = search needs
-
 reduced-requires : tie.Need-reduced-requires
 reduced-requires c κs = sym (c .before .before .region .ensures) ∙ c .enum-told3 .given .1
-
-both-sizes-requires : tie.Need-both-sizes-requires
-both-sizes-requires c κs = search needs
 
 returns : tie.Need-returns
 returns c = both-series-by _ (c .before .before .region .ensures) (c .enum-told .given .1)
@@ -45,12 +30,12 @@ pub both-series-spec : {M : Type 1} → statement M
 both-series-spec =
     tie.close
     (tie.spec
-    region-requires
-    enum-told
-    enum-told-2
-    enum-told-3
+    (λ c κs. search needs)
+    (λ c. search needs)
+    (λ c. search needs)
+    (λ c. search needs)
     reduced-requires
-    both-sizes-requires
+    (λ c κs. search needs)
     returns
     returns-2
     returns-3)

@@ -7,23 +7,8 @@ use Rattle.angles.proofs.Answered.{cosine-series-by, cosine-ends}
 use Rattle.angles.proofs.counted.cosine_series.Statement.{statement}
 use Rattle.angles.proofs.counted.cosine_series.Tie as tie
 
-region-requires : tie.Need-region-requires
-region-requires c κs = search needs
-
-enum-told : tie.Need-enum-told
-enum-told c = search needs
-
-enum-told-2 : tie.Need-enum-told-2
-enum-told-2 c = search needs
-
-enum-told-3 : tie.Need-enum-told-3
-enum-told-3 c = search needs
-
 reduced-requires : tie.Need-reduced-requires
 reduced-requires c κs = sym (c .before .before .region .ensures) ∙ c .enum-told3 .given .1
-
-cosine-size-requires : tie.Need-cosine-size-requires
-cosine-size-requires c κs = search needs
 
 returns : tie.Need-returns
 returns c = cosine-series-by _ (c .before .before .region .ensures) (c .enum-told .given .1)
@@ -43,12 +28,12 @@ pub cosine-series-spec : {M : Type 1} → statement M
 cosine-series-spec =
     tie.close
     (tie.spec
-    region-requires
-    enum-told
-    enum-told-2
-    enum-told-3
+    (λ c κs. search needs)
+    (λ c. search needs)
+    (λ c. search needs)
+    (λ c. search needs)
     reduced-requires
-    cosine-size-requires
+    (λ c κs. search needs)
     returns
     returns-2
     returns-3)

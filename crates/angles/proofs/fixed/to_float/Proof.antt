@@ -4,9 +4,6 @@ use borrow.Author.Needs.{needs}
 use Rattle.angles.proofs.fixed.to_float.Statement.{statement}
 use Rattle.angles.proofs.fixed.to_float.Tie as tie
 
-over-60-requires : tie.Need-over-60-requires
-over-60-requires c κs = search needs
-
 returns : tie.Need-returns
 returns c = float-zero _ _ _ (c .before .if1 .taken) (c .if2 .taken) (c .before .before .over-60 .ensures)
 
@@ -17,4 +14,4 @@ returns-3 : tie.Need-returns-3
 returns-3 c = float-pos _ _ _ (c .if1 .left) (c .before .over-60 .ensures)
 
 pub to-float-spec : {M : Type 1} → statement M
-to-float-spec = tie.close (tie.spec over-60-requires returns returns-2 returns-3)
+to-float-spec = tie.close (tie.spec (λ c κs. search needs) returns returns-2 returns-3)

@@ -8,30 +8,6 @@ use Rattle.angles.proofs.Places.{placed, next-four}
 use Rattle.angles.proofs.ring.both_at.Statement.{statement}
 use Rattle.angles.proofs.ring.both_at.Tie as tie
 
-both-sizes-requires : tie.Need-both-sizes-requires
-both-sizes-requires c κs = search needs
-
-add-next : tie.Need-add-next
-add-next c = search needs
-
-size-of-requires : tie.Need-size-of-requires
-size-of-requires c κs = search needs
-
-negative-at-requires : tie.Need-negative-at-requires
-negative-at-requires c κs = search needs
-
-to-float-requires : tie.Need-to-float-requires
-to-float-requires c κs = search needs
-
-size-of-requires-2 : tie.Need-size-of-requires-2
-size-of-requires-2 c κs = search needs
-
-negative-at-requires-2 : tie.Need-negative-at-requires-2
-negative-at-requires-2 c κs = search needs
-
-to-float-requires-2 : tie.Need-to-float-requires-2
-to-float-requires-2 c κs = search needs
-
 returns : tie.Need-returns
 returns c =
     let n2 = c .before in
@@ -53,12 +29,12 @@ pub both-at-spec : {M : Type 1} → statement M
 both-at-spec =
     tie.close
     (tie.spec
-    both-sizes-requires
-    add-next
-    size-of-requires
-    negative-at-requires
-    to-float-requires
-    size-of-requires-2
-    negative-at-requires-2
-    to-float-requires-2
+    (λ c κs. search needs)
+    (λ c. search needs)
+    (λ c κs. search needs)
+    (λ c κs. search needs)
+    (λ c κs. search needs)
+    (λ c κs. search needs)
+    (λ c κs. search needs)
+    (λ c κs. search needs)
     returns)

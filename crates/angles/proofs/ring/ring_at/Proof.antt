@@ -4,15 +4,6 @@ use Rattle.angles.proofs.Places.{placed}
 use Rattle.angles.proofs.ring.ring_at.Statement.{statement}
 use Rattle.angles.proofs.ring.ring_at.Tie as tie
 
-size-at-requires : tie.Need-size-at-requires
-size-at-requires c κs = search needs
-
-negative-at-requires : tie.Need-negative-at-requires
-negative-at-requires c κs = search needs
-
-to-float-requires : tie.Need-to-float-requires
-to-float-requires c κs = search needs
-
 returns : tie.Need-returns
 returns c =
     let n = c .before in
@@ -21,4 +12,4 @@ returns c =
     placed (s .args .q) (s .args .below) (s .args .u) (s .pre .0) (s .pre .1) (n .negative-at .ensures) (z .size-at .ensures) (c .to-float .ensures)
 
 pub ring-at-spec : {M : Type 1} → statement M
-ring-at-spec = tie.close (tie.spec size-at-requires negative-at-requires to-float-requires returns)
+ring-at-spec = tie.close (tie.spec (λ c κs. search needs) (λ c κs. search needs) (λ c κs. search needs) returns)

@@ -8,12 +8,6 @@ use Rattle.angles.proofs.Places.{even-size, odd-size}
 use Rattle.angles.proofs.ring.size_at.Statement.{statement}
 use Rattle.angles.proofs.ring.size_at.Tie as tie
 
-sine-size-requires : tie.Need-sine-size-requires
-sine-size-requires c κs = search needs
-
-cosine-size-requires : tie.Need-cosine-size-requires
-cosine-size-requires c κs = search needs
-
 returns : tie.Need-returns
 returns c =
     let s = c .before .before in
@@ -25,4 +19,4 @@ returns-2 c =
     ap (λ (e : Ended). e .sum) (c .cosine-size .ensures false) ∙ cosine-size (s .args .u) (s .pre .1) ∙ odd-size (s .args .q) (s .args .u) (s .pre .0) (c .before .if1 .left)
 
 pub size-at-spec : {M : Type 1} → statement M
-size-at-spec = tie.close (tie.spec sine-size-requires cosine-size-requires returns returns-2)
+size-at-spec = tie.close (tie.spec (λ c κs. search needs) (λ c κs. search needs) returns returns-2)

@@ -9,62 +9,97 @@ use Rattle.angles.proofs.Stages.{count-is}
 use Rattle.angles.proofs.series.both_sizes.Statement.{statement}
 use Rattle.angles.proofs.series.both_sizes.Tie as tie
 
-square-of-requires : tie.Need-square-of-requires
-square-of-requires c κs = search needs
-
-cosine-start-requires : tie.Need-cosine-start-requires
-cosine-start-requires c κs = search needs
-
-sine-start-requires : tie.Need-sine-start-requires
-sine-start-requires c κs = search needs
-
 cosine-step-requires : tie.Need-cosine-step-requires
 cosine-step-requires c κs = (lit≤ tt, c .before .before .before .pre, c .before .before .square-of .ensures, c .before .cosine-start .ensures _)
 
 sine-step-requires : tie.Need-sine-step-requires
-sine-step-requires c κs = (lit≤ tt, c .before .before .before .before .pre, c .before .before .before .square-of .ensures, c .before .sine-start .ensures)
+sine-step-requires c κs =
+    let entry = c .before .before .before .before in
+    (lit≤ tt, entry .pre, c .before .before .before .square-of .ensures, c .before .sine-start .ensures)
 
 cosine-step-requires-2 : tie.Need-cosine-step-requires-2
-cosine-step-requires-2 c κs = (lit≤ tt, c .before .before .before .before .before .pre, c .before .before .before .before .square-of .ensures, c .before .cosine-step .ensures)
+cosine-step-requires-2 c κs =
+    let entry = c .before .before .before .before .before in
+    let square-of = c .before .before .before .before .square-of in
+    (lit≤ tt, entry .pre, square-of .ensures, c .before .cosine-step .ensures)
 
 sine-step-requires-2 : tie.Need-sine-step-requires-2
-sine-step-requires-2 c κs = (lit≤ tt, c .before .before .before .before .before .before .pre, c .before .before .before .before .before .square-of .ensures, c .before .sine-step .ensures)
+sine-step-requires-2 c κs =
+    let entry = c .before .before .before .before .before .before in
+    let square-of = c .before .before .before .before .before .square-of in
+    (lit≤ tt, entry .pre, square-of .ensures, c .before .sine-step .ensures)
 
 cosine-step-requires-3 : tie.Need-cosine-step-requires-3
-cosine-step-requires-3 c κs = (lit≤ tt, c .before .before .before .before .before .before .before .pre, c .before .before .before .before .before .before .square-of .ensures, c .before .cosine-step2 .ensures)
+cosine-step-requires-3 c κs =
+    let entry = c .before .before .before .before .before .before .before in
+    let square-of = c .before .before .before .before .before .before .square-of in
+    (lit≤ tt, entry .pre, square-of .ensures, c .before .cosine-step2 .ensures)
 
 sine-step-requires-3 : tie.Need-sine-step-requires-3
-sine-step-requires-3 c κs = (lit≤ tt, c .before .before .before .before .before .before .before .before .pre, c .before .before .before .before .before .before .before .square-of .ensures, c .before .sine-step2 .ensures)
+sine-step-requires-3 c κs =
+    let entry = c .before .before .before .before .before .before .before .before in
+    let square-of = c .before .before .before .before .before .before .before .square-of in
+    (lit≤ tt, entry .pre, square-of .ensures, c .before .sine-step2 .ensures)
 
 cosine-step-requires-4 : tie.Need-cosine-step-requires-4
-cosine-step-requires-4 c κs = (lit≤ tt, c .before .before .before .before .before .before .before .before .before .pre, c .before .before .before .before .before .before .before .before .square-of .ensures, c .before .cosine-step3 .ensures)
+cosine-step-requires-4 c κs =
+    let entry = c .before .before .before .before .before .before .before .before .before in
+    let square-of = c .before .before .before .before .before .before .before .before .square-of in
+    (lit≤ tt, entry .pre, square-of .ensures, c .before .cosine-step3 .ensures)
 
 sine-step-requires-4 : tie.Need-sine-step-requires-4
-sine-step-requires-4 c κs = (lit≤ tt, c .before .before .before .before .before .before .before .before .before .before .pre, c .before .before .before .before .before .before .before .before .before .square-of .ensures, c .before .sine-step3 .ensures)
+sine-step-requires-4 c κs =
+    let entry = c .before .before .before .before .before .before .before .before .before .before in
+    let square-of = c .before .before .before .before .before .before .before .before .before .square-of in
+    (lit≤ tt, entry .pre, square-of .ensures, c .before .sine-step3 .ensures)
 
 cosine-step-requires-5 : tie.Need-cosine-step-requires-5
-cosine-step-requires-5 c κs = (lit≤ tt, c .before .before .before .before .before .before .before .before .before .before .before .pre, c .before .before .before .before .before .before .before .before .before .before .square-of .ensures, c .before .cosine-step4 .ensures)
+cosine-step-requires-5 c κs =
+    let entry = c .before .before .before .before .before .before .before .before .before .before .before in
+    let square-of = c .before .before .before .before .before .before .before .before .before .before .square-of in
+    (lit≤ tt, entry .pre, square-of .ensures, c .before .cosine-step4 .ensures)
 
 sine-step-requires-5 : tie.Need-sine-step-requires-5
-sine-step-requires-5 c κs = (lit≤ tt, c .before .before .before .before .before .before .before .before .before .before .before .before .pre, c .before .before .before .before .before .before .before .before .before .before .before .square-of .ensures, c .before .sine-step4 .ensures)
+sine-step-requires-5 c κs =
+    let entry = c .before .before .before .before .before .before .before .before .before .before .before .before in
+    let square-of = c .before .before .before .before .before .before .before .before .before .before .before .square-of in
+    (lit≤ tt, entry .pre, square-of .ensures, c .before .sine-step4 .ensures)
 
 cosine-step-requires-6 : tie.Need-cosine-step-requires-6
-cosine-step-requires-6 c κs = (lit≤ tt, c .before .before .before .before .before .before .before .before .before .before .before .before .before .pre, c .before .before .before .before .before .before .before .before .before .before .before .before .square-of .ensures, c .before .cosine-step5 .ensures)
+cosine-step-requires-6 c κs =
+    let entry = c .before .before .before .before .before .before .before .before .before .before .before .before .before in
+    let square-of = c .before .before .before .before .before .before .before .before .before .before .before .before .square-of in
+    (lit≤ tt, entry .pre, square-of .ensures, c .before .cosine-step5 .ensures)
 
 sine-step-requires-6 : tie.Need-sine-step-requires-6
-sine-step-requires-6 c κs = (lit≤ tt, c .before .before .before .before .before .before .before .before .before .before .before .before .before .before .pre, c .before .before .before .before .before .before .before .before .before .before .before .before .before .square-of .ensures, c .before .sine-step5 .ensures)
+sine-step-requires-6 c κs =
+    let entry = c .before .before .before .before .before .before .before .before .before .before .before .before .before .before in
+    let square-of = c .before .before .before .before .before .before .before .before .before .before .before .before .before .square-of in
+    (lit≤ tt, entry .pre, square-of .ensures, c .before .sine-step5 .ensures)
 
 cosine-step-requires-7 : tie.Need-cosine-step-requires-7
-cosine-step-requires-7 c κs = (lit≤ tt, c .before .before .before .before .before .before .before .before .before .before .before .before .before .before .before .pre, c .before .before .before .before .before .before .before .before .before .before .before .before .before .before .square-of .ensures, c .before .cosine-step6 .ensures)
+cosine-step-requires-7 c κs =
+    let entry = c .before .before .before .before .before .before .before .before .before .before .before .before .before .before .before in
+    let square-of = c .before .before .before .before .before .before .before .before .before .before .before .before .before .before .square-of in
+    (lit≤ tt, entry .pre, square-of .ensures, c .before .cosine-step6 .ensures)
 
 sine-step-requires-7 : tie.Need-sine-step-requires-7
-sine-step-requires-7 c κs = (lit≤ tt, c .before .before .before .before .before .before .before .before .before .before .before .before .before .before .before .before .pre, c .before .before .before .before .before .before .before .before .before .before .before .before .before .before .before .square-of .ensures, c .before .sine-step6 .ensures)
+sine-step-requires-7 c κs =
+    let entry = c .before .before .before .before .before .before .before .before .before .before .before .before .before .before .before .before in
+    let square-of = c .before .before .before .before .before .before .before .before .before .before .before .before .before .before .before .square-of in
+    (lit≤ tt, entry .pre, square-of .ensures, c .before .sine-step6 .ensures)
 
 cosine-step-requires-8 : tie.Need-cosine-step-requires-8
-cosine-step-requires-8 c κs = (lit≤ tt, c .before .before .before .before .before .before .before .before .before .before .before .before .before .before .before .before .before .pre, c .before .before .before .before .before .before .before .before .before .before .before .before .before .before .before .before .square-of .ensures, c .before .cosine-step7 .ensures)
+cosine-step-requires-8 c κs =
+    let entry = c .before .before .before .before .before .before .before .before .before .before .before .before .before .before .before .before .before in
+    let square-of = c .before .before .before .before .before .before .before .before .before .before .before .before .before .before .before .before .square-of in
+    (lit≤ tt, entry .pre, square-of .ensures, c .before .cosine-step7 .ensures)
 
 sine-step-requires-8 : tie.Need-sine-step-requires-8
-sine-step-requires-8 c κs = (lit≤ tt, c .before .before .before .before .before .before .before .before .before .before .before .before .before .before .before .before .before .before .pre, c .before .before .before .before .before .before .before .before .before .before .before .before .before .before .before .before .before .square-of .ensures, c .before .sine-step7 .ensures)
+sine-step-requires-8 c κs =
+    let entry = c .before .before .before .before .before .before .before .before .before .before .before .before .before .before .before .before .before .before in
+    let square-of = c .before .before .before .before .before .before .before .before .before .before .before .before .before .before .before .before .before .square-of in
+    (lit≤ tt, entry .pre, square-of .ensures, c .before .sine-step7 .ensures)
 
 closed-requires : tie.Need-closed-requires
 closed-requires c κs = subst (λ (q : Stage). q .terms ≤ 9) (sym (c .sine-step8 .ensures)) (count-is 1 _ 8 .within)
@@ -83,9 +118,9 @@ pub both-sizes-spec : {M : Type 1} → statement M
 both-sizes-spec =
     tie.close
     (tie.spec
-    square-of-requires
-    cosine-start-requires
-    sine-start-requires
+    (λ c κs. search needs)
+    (λ c κs. search needs)
+    (λ c κs. search needs)
     cosine-step-requires
     sine-step-requires
     cosine-step-requires-2

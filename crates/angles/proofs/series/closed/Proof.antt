@@ -8,9 +8,6 @@ use Rattle.angles.proofs.Stages.{ends-zero, ends-some}
 use Rattle.angles.proofs.series.closed.Statement.{statement}
 use Rattle.angles.proofs.series.closed.Tie as tie
 
-add-t4 : tie.Need-add-t4
-add-t4 c = search needs
-
 returns : tie.Need-returns
 returns c = λ k u h e. subst (λ (q : Stage). Ends k u (q .sum) (q .terms + 1)) (sym e) (ends-zero k u (sym (ap (λ (q : Stage). q .term) e) ∙ c .before .if1 .taken))
 
@@ -18,4 +15,4 @@ returns-2 : tie.Need-returns-2
 returns-2 c = λ k u h e. subst (λ (q : Stage). Ends k u (q .sum) (q .terms)) (sym e) (ends-some k u (λ z. c .if1 .left (ap (λ (q : Stage). q .term) e ∙ z)))
 
 pub closed-spec : {M : Type 1} → statement M
-closed-spec = tie.close (tie.spec add-t4 returns returns-2)
+closed-spec = tie.close (tie.spec (λ c. search needs) returns returns-2)

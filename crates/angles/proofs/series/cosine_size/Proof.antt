@@ -9,12 +9,6 @@ use Rattle.angles.proofs.Stages.{count-is}
 use Rattle.angles.proofs.series.cosine_size.Statement.{statement}
 use Rattle.angles.proofs.series.cosine_size.Tie as tie
 
-square-of-requires : tie.Need-square-of-requires
-square-of-requires c κs = search needs
-
-cosine-start-requires : tie.Need-cosine-start-requires
-cosine-start-requires c κs = search needs
-
 cosine-step-requires : tie.Need-cosine-step-requires
 cosine-step-requires c κs = (lit≤ tt, c .before .before .pre, c .before .square-of .ensures, c .cosine-start .ensures _)
 
@@ -22,22 +16,39 @@ cosine-step-requires-2 : tie.Need-cosine-step-requires-2
 cosine-step-requires-2 c κs = (lit≤ tt, c .before .before .before .pre, c .before .before .square-of .ensures, c .cosine-step .ensures)
 
 cosine-step-requires-3 : tie.Need-cosine-step-requires-3
-cosine-step-requires-3 c κs = (lit≤ tt, c .before .before .before .before .pre, c .before .before .before .square-of .ensures, c .cosine-step2 .ensures)
+cosine-step-requires-3 c κs =
+    let entry = c .before .before .before .before in
+    (lit≤ tt, entry .pre, c .before .before .before .square-of .ensures, c .cosine-step2 .ensures)
 
 cosine-step-requires-4 : tie.Need-cosine-step-requires-4
-cosine-step-requires-4 c κs = (lit≤ tt, c .before .before .before .before .before .pre, c .before .before .before .before .square-of .ensures, c .cosine-step3 .ensures)
+cosine-step-requires-4 c κs =
+    let entry = c .before .before .before .before .before in
+    let square-of = c .before .before .before .before .square-of in
+    (lit≤ tt, entry .pre, square-of .ensures, c .cosine-step3 .ensures)
 
 cosine-step-requires-5 : tie.Need-cosine-step-requires-5
-cosine-step-requires-5 c κs = (lit≤ tt, c .before .before .before .before .before .before .pre, c .before .before .before .before .before .square-of .ensures, c .cosine-step4 .ensures)
+cosine-step-requires-5 c κs =
+    let entry = c .before .before .before .before .before .before in
+    let square-of = c .before .before .before .before .before .square-of in
+    (lit≤ tt, entry .pre, square-of .ensures, c .cosine-step4 .ensures)
 
 cosine-step-requires-6 : tie.Need-cosine-step-requires-6
-cosine-step-requires-6 c κs = (lit≤ tt, c .before .before .before .before .before .before .before .pre, c .before .before .before .before .before .before .square-of .ensures, c .cosine-step5 .ensures)
+cosine-step-requires-6 c κs =
+    let entry = c .before .before .before .before .before .before .before in
+    let square-of = c .before .before .before .before .before .before .square-of in
+    (lit≤ tt, entry .pre, square-of .ensures, c .cosine-step5 .ensures)
 
 cosine-step-requires-7 : tie.Need-cosine-step-requires-7
-cosine-step-requires-7 c κs = (lit≤ tt, c .before .before .before .before .before .before .before .before .pre, c .before .before .before .before .before .before .before .square-of .ensures, c .cosine-step6 .ensures)
+cosine-step-requires-7 c κs =
+    let entry = c .before .before .before .before .before .before .before .before in
+    let square-of = c .before .before .before .before .before .before .before .square-of in
+    (lit≤ tt, entry .pre, square-of .ensures, c .cosine-step6 .ensures)
 
 cosine-step-requires-8 : tie.Need-cosine-step-requires-8
-cosine-step-requires-8 c κs = (lit≤ tt, c .before .before .before .before .before .before .before .before .before .pre, c .before .before .before .before .before .before .before .before .square-of .ensures, c .cosine-step7 .ensures)
+cosine-step-requires-8 c κs =
+    let entry = c .before .before .before .before .before .before .before .before .before in
+    let square-of = c .before .before .before .before .before .before .before .before .square-of in
+    (lit≤ tt, entry .pre, square-of .ensures, c .cosine-step7 .ensures)
 
 closed-requires : tie.Need-closed-requires
 closed-requires c κs = subst (λ (q : Stage). q .terms ≤ 9) (sym (c .cosine-step8 .ensures)) (count-is 0 _ 8 .within)
@@ -52,8 +63,8 @@ pub cosine-size-spec : {M : Type 1} → statement M
 cosine-size-spec =
     tie.close
     (tie.spec
-    square-of-requires
-    cosine-start-requires
+    (λ c κs. search needs)
+    (λ c κs. search needs)
     cosine-step-requires
     cosine-step-requires-2
     cosine-step-requires-3

@@ -6,17 +6,8 @@ use Rattle.angles.proofs.Stages.{stays}
 use Rattle.angles.proofs.series.cosine_step.Statement.{statement}
 use Rattle.angles.proofs.series.cosine_step.Tie as tie
 
-cosine-least-requires : tie.Need-cosine-least-requires
-cosine-least-requires c κs = search needs
-
-further-requires : tie.Need-further-requires
-further-requires c κs = search needs
-
 returns : tie.Need-returns
 returns c = let s = c .before .before in stays 0 (s .args .u) (s .args .j) (s .args .p) (s .pre .3) (zero-below 0 (s .args .u) (s .args .j) (omega arith) (s .pre .0) (omega (arith, c .before .cosine-least .ensures)))
 
-returns-2 : tie.Need-returns-2
-returns-2 c = search needs
-
 pub cosine-step-spec : {M : Type 1} → statement M
-cosine-step-spec = tie.close (tie.spec cosine-least-requires further-requires returns returns-2)
+cosine-step-spec = tie.close (tie.spec (λ c κs. search needs) (λ c κs. search needs) returns (λ c. search needs))

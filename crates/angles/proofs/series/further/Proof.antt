@@ -22,24 +22,6 @@ not-zero c = some-above (c .args .c) (c .args .u) (c .args .j) (c .pre .0) (c .p
 more : (c : tie.After-term-after) → c .before .args .p .terms + 1 < 2 ^ 64
 more c = let s = c .before in subst (λ (q : Stage). q .terms + 1 < 2 ^ 64) (sym (s .pre .4)) (omega (arith, count-is (s .args .c) (s .args .u) (s .args .j) .within))
 
-mul-term-after : tie.Need-mul-term-after
-mul-term-after c = search needs
-
-add-term-after : tie.Need-add-term-after
-add-term-after c = search needs
-
-add-term-after-2 : tie.Need-add-term-after-2
-add-term-after-2 c = search needs
-
-mul-term-after-2 : tie.Need-mul-term-after-2
-mul-term-after-2 c = search needs
-
-add-term-after-3 : tie.Need-add-term-after-3
-add-term-after-3 c = search needs
-
-add-term-after-4 : tie.Need-add-term-after-4
-add-term-after-4 c = search needs
-
 mul-term-after-3 : tie.Need-mul-term-after-3
 mul-term-after-3 c = omega (arith, divisor-most (c .args .c) (c .args .j) (c .pre .0) (c .pre .1))
 
@@ -76,12 +58,12 @@ pub further-spec : {M : Type 1} → statement M
 further-spec =
     tie.close
     (tie.spec
-    mul-term-after
-    add-term-after
-    add-term-after-2
-    mul-term-after-2
-    add-term-after-3
-    add-term-after-4
+    (λ c. search needs)
+    (λ c. search needs)
+    (λ c. search needs)
+    (λ c. search needs)
+    (λ c. search needs)
+    (λ c. search needs)
     mul-term-after-3
     term-after-requires
     sub-t16

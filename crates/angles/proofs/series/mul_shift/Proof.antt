@@ -5,14 +5,8 @@ use borrow.Author.Needs.{needs}
 use Rattle.angles.proofs.series.mul_shift.Statement.{statement}
 use Rattle.angles.proofs.series.mul_shift.Tie as tie
 
-mul-high-product : tie.Need-mul-high-product
-mul-high-product c = search needs
-
-high-product-requires : tie.Need-high-product-requires
-high-product-requires c κs = search needs
-
 returns : tie.Need-returns
 returns c = c .high-product .ensures ∙ shift-16 (c .before .args .t) (c .before .args .u)
 
 pub mul-shift-spec : {M : Type 1} → statement M
-mul-shift-spec = tie.close (tie.spec mul-high-product high-product-requires returns)
+mul-shift-spec = tie.close (tie.spec (λ c. search needs) (λ c κs. search needs) returns)

@@ -6,14 +6,8 @@ use Rattle.angles.proofs.Division.{next-fits}
 use Rattle.angles.proofs.series.next_term.Statement.{statement}
 use Rattle.angles.proofs.series.next_term.Tie as tie
 
-mul-shift-requires : tie.Need-mul-shift-requires
-mul-shift-requires c κs = search needs
-
-mul-shift-requires-2 : tie.Need-mul-shift-requires-2
-mul-shift-requires-2 c κs = search needs
-
-over-requires : tie.Need-over-requires
-over-requires c κs =
+quotient-requires : tie.Need-quotient-requires
+quotient-requires c κs =
     let s = c .before .before in
     let a = s .args in (
       s .pre .1,
@@ -25,7 +19,7 @@ returns c =
     let m = c .before in
     let s = m .before .before in
     let a = s .args in
-    c .over .ensures ∙ ap (λ (x : ℕ). x / a .d) (m .mul-shift2 .ensures ∙ ap (λ (x : ℕ). x * a .u / 2 ^ 60) (m .before .mul-shift .ensures))
+    c .quotient .ensures ∙ ap (λ (x : ℕ). x / a .d) (m .mul-shift2 .ensures ∙ ap (λ (x : ℕ). x * a .u / 2 ^ 60) (m .before .mul-shift .ensures))
 
 pub next-term-spec : {M : Type 1} → statement M
-next-term-spec = tie.close (tie.spec mul-shift-requires mul-shift-requires-2 over-requires returns)
+next-term-spec = tie.close (tie.spec (λ c κs. search needs) (λ c κs. search needs) quotient-requires returns)

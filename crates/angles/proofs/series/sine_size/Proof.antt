@@ -9,12 +9,6 @@ use Rattle.angles.proofs.Stages.{count-is}
 use Rattle.angles.proofs.series.sine_size.Statement.{statement}
 use Rattle.angles.proofs.series.sine_size.Tie as tie
 
-square-of-requires : tie.Need-square-of-requires
-square-of-requires c κs = search needs
-
-sine-start-requires : tie.Need-sine-start-requires
-sine-start-requires c κs = search needs
-
 sine-step-requires : tie.Need-sine-step-requires
 sine-step-requires c κs = (lit≤ tt, c .before .before .pre, c .before .square-of .ensures, c .sine-start .ensures)
 
@@ -22,22 +16,39 @@ sine-step-requires-2 : tie.Need-sine-step-requires-2
 sine-step-requires-2 c κs = (lit≤ tt, c .before .before .before .pre, c .before .before .square-of .ensures, c .sine-step .ensures)
 
 sine-step-requires-3 : tie.Need-sine-step-requires-3
-sine-step-requires-3 c κs = (lit≤ tt, c .before .before .before .before .pre, c .before .before .before .square-of .ensures, c .sine-step2 .ensures)
+sine-step-requires-3 c κs =
+    let entry = c .before .before .before .before in
+    (lit≤ tt, entry .pre, c .before .before .before .square-of .ensures, c .sine-step2 .ensures)
 
 sine-step-requires-4 : tie.Need-sine-step-requires-4
-sine-step-requires-4 c κs = (lit≤ tt, c .before .before .before .before .before .pre, c .before .before .before .before .square-of .ensures, c .sine-step3 .ensures)
+sine-step-requires-4 c κs =
+    let entry = c .before .before .before .before .before in
+    let square-of = c .before .before .before .before .square-of in
+    (lit≤ tt, entry .pre, square-of .ensures, c .sine-step3 .ensures)
 
 sine-step-requires-5 : tie.Need-sine-step-requires-5
-sine-step-requires-5 c κs = (lit≤ tt, c .before .before .before .before .before .before .pre, c .before .before .before .before .before .square-of .ensures, c .sine-step4 .ensures)
+sine-step-requires-5 c κs =
+    let entry = c .before .before .before .before .before .before in
+    let square-of = c .before .before .before .before .before .square-of in
+    (lit≤ tt, entry .pre, square-of .ensures, c .sine-step4 .ensures)
 
 sine-step-requires-6 : tie.Need-sine-step-requires-6
-sine-step-requires-6 c κs = (lit≤ tt, c .before .before .before .before .before .before .before .pre, c .before .before .before .before .before .before .square-of .ensures, c .sine-step5 .ensures)
+sine-step-requires-6 c κs =
+    let entry = c .before .before .before .before .before .before .before in
+    let square-of = c .before .before .before .before .before .before .square-of in
+    (lit≤ tt, entry .pre, square-of .ensures, c .sine-step5 .ensures)
 
 sine-step-requires-7 : tie.Need-sine-step-requires-7
-sine-step-requires-7 c κs = (lit≤ tt, c .before .before .before .before .before .before .before .before .pre, c .before .before .before .before .before .before .before .square-of .ensures, c .sine-step6 .ensures)
+sine-step-requires-7 c κs =
+    let entry = c .before .before .before .before .before .before .before .before in
+    let square-of = c .before .before .before .before .before .before .before .square-of in
+    (lit≤ tt, entry .pre, square-of .ensures, c .sine-step6 .ensures)
 
 sine-step-requires-8 : tie.Need-sine-step-requires-8
-sine-step-requires-8 c κs = (lit≤ tt, c .before .before .before .before .before .before .before .before .before .pre, c .before .before .before .before .before .before .before .before .square-of .ensures, c .sine-step7 .ensures)
+sine-step-requires-8 c κs =
+    let entry = c .before .before .before .before .before .before .before .before .before in
+    let square-of = c .before .before .before .before .before .before .before .before .square-of in
+    (lit≤ tt, entry .pre, square-of .ensures, c .sine-step7 .ensures)
 
 closed-requires : tie.Need-closed-requires
 closed-requires c κs = subst (λ (q : Stage). q .terms ≤ 9) (sym (c .sine-step8 .ensures)) (count-is 1 _ 8 .within)
@@ -52,8 +63,8 @@ pub sine-size-spec : {M : Type 1} → statement M
 sine-size-spec =
     tie.close
     (tie.spec
-    square-of-requires
-    sine-start-requires
+    (λ c κs. search needs)
+    (λ c κs. search needs)
     sine-step-requires
     sine-step-requires-2
     sine-step-requires-3

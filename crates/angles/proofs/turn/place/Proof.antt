@@ -6,16 +6,10 @@ use Rattle.angles.specs.SizesInner.{TurnOf}
 use Rattle.angles.proofs.turn.place.Statement.{statement}
 use Rattle.angles.proofs.turn.place.Tie as tie
 
-split-requires : tie.Need-split-requires
-split-requires c κs = search needs
-
-nearest-turn-requires : tie.Need-nearest-turn-requires
-nearest-turn-requires c κs = search needs
-
 returns : tie.Need-returns
 returns c =
     let t = c .nearest-turn .result in
     subst (λ (y : ℕ). TurnOf y (t .quarter) (t .size) (t .below)) (sym (c .before .split .ensures .0)) (c .nearest-turn .ensures)
 
 pub place-spec : {M : Type 1} → statement M
-place-spec = tie.close (tie.spec split-requires nearest-turn-requires returns)
+place-spec = tie.close (tie.spec (λ c κs. search needs) (λ c κs. search needs) returns)

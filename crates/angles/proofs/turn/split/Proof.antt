@@ -26,30 +26,15 @@ shr-divided c =
     let s = c .before in
     omega (arith, field-low (x s) (held s) (s .pre .0) (s .pre .1))
 
-divided-requires : tie.Need-divided-requires
-divided-requires c κs = search needs
-
 returns : tie.Need-returns
 returns c =
     let s = c .before .before in
     (cut-down (x s) (held s) (s .pre .0) (s .pre .1) (c .before .if1 .taken) ∙ sym (mul-one _) ∙ c .divided .ensures .0, c .divided .ensures .1, c .divided .ensures .2)
 
-sub-s : tie.Need-sub-s
-sub-s c = search needs
-
-shl-divided : tie.Need-shl-divided
-shl-divided c = search needs
-
-divided-requires-2 : tie.Need-divided-requires-2
-divided-requires-2 c κs = search needs
-
 returns-2 : tie.Need-returns-2
 returns-2 c =
     let s = c .before .before .before in
     (cut-up (x s) (held s) (s .pre .0) (s .pre .1) (c .before .before .if1 .left) ∙ sym (no-loss (x s) (held s) (s .pre .0) (s .pre .1) _ (c .before .if2 .taken)) ∙ sym (mul-one _) ∙ c .divided2 .ensures .0, c .divided2 .ensures .1, c .divided2 .ensures .2)
-
-sub-divided : tie.Need-sub-divided
-sub-divided c = search needs
 
 divided-requires-3 : tie.Need-divided-requires-3
 divided-requires-3 c κs =
@@ -67,12 +52,12 @@ split-spec =
     (tie.spec
     float-to-bits-bits
     shr-divided
-    divided-requires
+    (λ c κs. search needs)
     returns
-    sub-s
-    shl-divided
-    divided-requires-2
+    (λ c. search needs)
+    (λ c. search needs)
+    (λ c κs. search needs)
     returns-2
-    sub-divided
+    (λ c. search needs)
     divided-requires-3
     returns-3)

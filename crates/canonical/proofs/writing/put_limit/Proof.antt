@@ -8,7 +8,9 @@ use Rattle.canonical.proofs.writing.put_limit.Statement.{statement}
 use Rattle.canonical.proofs.writing.put_limit.Tie as tie
 
 returns : tie.Need-returns
-returns c = rw (c .before .before .before .before .before .enum-told .given .1) (puts-most (omega arith) (puts-piece non (c .before .before .put-all .ensures)))
+returns c =
+    let enum-told = c .before .before .before .before .before .enum-told in
+    rw (enum-told .given .1) (puts-most (omega arith) (puts-piece non (c .before .before .put-all .ensures)))
 
 returns-2 : tie.Need-returns-2
 returns-2 c =

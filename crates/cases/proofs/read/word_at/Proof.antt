@@ -4,7 +4,8 @@ use mathlib.Core.Path.{_≡_, _∙_, ap}
 use mathlib.Core.Bool.{true}
 use native.Mathlib.Omega.{arith}
 use borrow.Author.Needs.{needs}
-use Rattle.common.specs.Iter.{iter, iter-none, iter-next}
+use Rattle.common.specs.Iter.{iter}
+use Rattle.common.specs.IterLaws.{iter-none, iter-next}
 use Rattle.cases.specs.Words.{taken, wordAt}
 use Rattle.cases.proofs.read.word_at.Statement.{statement}
 use Rattle.cases.proofs.read.word_at.Tie as tie

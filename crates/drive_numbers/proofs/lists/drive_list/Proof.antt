@@ -5,7 +5,9 @@ use Rattle.drive_numbers.proofs.lists.drive_list.Statement.{statement}
 use Rattle.drive_numbers.proofs.lists.drive_list.Tie as tie
 
 returns : tie.Need-returns
-returns c = lists-short _ _ _ _ _ _ _ (rw (← c .before .before .before .before .sample-count .ensures, c .before .before .counted .given .1)) (c .if1 .taken)
+returns c =
+    let sample-count = c .before .before .before .before .sample-count in
+    lists-short _ _ _ _ _ _ _ (rw (← sample-count .ensures, c .before .before .counted .given .1)) (c .if1 .taken)
 
 returns-2 : tie.Need-returns-2
 returns-2 c = lists-many _ _ _ _ _ _ _ (rw (← c .before .before .sample-count .ensures, c .enum-told .given .1))

@@ -37,7 +37,10 @@ place-requires c κs = let s = c .before .before .before .before .before .before
 
 returns-2 : tie.Need-returns-2
 unfolding Elimination.reduce
-returns-2 c = let s = c .before .before .before .before .before .before .before .before .before .before .before .before .before .before .before .before .before .before .before .before .before .before .before .before .before .before .before .before .before .before in
+returns-2 c =
+    let if1 = c .before .before .before .before .before .before .before .before .before .before .before .before .before .before .before .before .if1 in
+    let place = c .before .before .before .before .before .before .before .before .before .before .place in
+    let s = c .before .before .before .before .before .before .before .before .before .before .before .before .before .before .before .before .before .before .before .before .before .before .before .before .before .before .before .before .before .before in
     let a = s .args in
     let n : ℕ = length (a .b .now) in
     let k : ℕ = a .k in
@@ -45,12 +48,12 @@ returns-2 c = let s = c .before .before .before .before .before .before .before 
     let f = c .before .before .before .before .before .before .before .before .before .before .before .before .before .before .before .before .before .before .before .before .before .before .column-at in
     let g = c .before .before .before .before .before .before .before .before .before .before .before .before .before .before .before .before .before .before .pivot in
     let p = pivot-found n (length (a .col .now)) _ k (λ w. rows w w (a .a .now)) (f .last .0) _ _ (s .pre .1) (f .kept .0) (f .ensures) (g .ensures) in
-    let q = c .before .before .before .before .before .before .before .before .before .before .place .ensures in
+    let q = place .ensures in
     let swapped : List (List Float) = Elimination.swapRows n k (g .result .at) m in
     let right : List Float = Elimination.divideRight n k (Normal.cell swapped k k) (Elimination.swapRight n k (g .result .at) (a .b .now)) in
     let h = subst (λ w. Inner.Column w k (rows w w (a .a .now)) (f .last .0)) (s .pre .1) (f .ensures) in
     record {
-      stage = pivot-small n k m (a .b .now) _ _ p false (c .before .before .before .before .before .before .before .before .before .before .before .before .before .before .before .before .if1 .left)
+      stage = pivot-small n k m (a .b .now) _ _ p false (if1 .left)
           ∙ going-both (ap (Elimination.eliminate n k) (sym (q .matrix .placed)))
           (sym (q .right ∙ right-done n k (g .result .at) m (f .last .0) right (s .pre .2) (p .inside) (f .kept .0 ∙ s .pre .1) h));
       first = λ e. q .matrix .first;

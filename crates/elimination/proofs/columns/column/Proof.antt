@@ -28,12 +28,14 @@ eliminate-requires c κs = let s = c .before .before .before .before .before .be
     (omega arith, f .kept .0 ∙ s .pre .0 .matrix ∙ ap (λ k. k * k) e, f .ensures .first g ∙ ap (λ w. row w (f .last .0) (s .args .k)) e)
 
 returns-2 : tie.Need-returns-2
-returns-2 c = let s = c .before .before .before .before .before .before .before .before .before .before .before .before .before .before .before .before .before .before .before .before .before .before .before .before .before .before .before in
+returns-2 c =
+    let if1 = c .before .before .before .before .before .if1 in
+    let s = c .before .before .before .before .before .before .before .before .before .before .before .before .before .before .before .before .before .before .before .before .before .before .before .before .before .before .before in
     let n : ℕ = length (s .args .b .now) in
     let k : ℕ = s .args .k in
     let f = c .before .before .before .before .before .before .before .before .before .before .before .before .before .before .before .before .begin in
     let e = c .before .before .eliminate in
-    let g : f .result ≡ true = not-false _ (c .before .before .before .before .before .if1 .left) in
+    let g : f .result ≡ true = not-false _ (if1 .left) in
     let done : rows n n (e .last .0) ≡ Elimination.eliminate n k (rows n n (f .last .0)) =
     subst (λ w. rows w w (e .last .0) ≡ Elimination.eliminate w k (rows w w (f .last .0))) (f .kept .1 .1 .0 ∙ s .pre .0 .tops) (e .ensures) in
     f .ensures .stage ∙ ap (λ r. Elimination.after r (Elimination.eliminate n k (rows n n (f .last .0))) (f .last .1 .0)) g

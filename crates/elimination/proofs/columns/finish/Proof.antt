@@ -6,9 +6,9 @@ use Rattle.elimination.specs.Inner as Inner
 use Rattle.normal_equations.specs.Normal as Normal
 use Rattle.elimination.specs.Elimination as Elimination
 use Rattle.elimination.specs.EliminationLaws.{pivot-small, going-both, swapped-pivot}
-use Rattle.normal_equations.specs.Filled.{OneRow, one-row}
+use Rattle.normal_equations.specs.FilledInner.{OneRow, one-row}
 use Rattle.normal_equations.specs.Rows.{row, rows}
-use Rattle.common.specs.Iter.{row-end}
+use Rattle.common.specs.IterLaws.{row-end}
 use Rattle.common.specs.Lists.{at}
 use lib.ListN.{length}
 use mathlib.Core.List.{List}
@@ -44,13 +44,15 @@ elim-row-requires c κs = let s = c .before .before .before .before .before .bef
     (omega arith, subst (λ w. g .result .at * w + w ≤ length (a .a .now)) (sym (s .pre .3)) (omega (arith, s .pre .0 .matrix, row-end (g .result .at) n n (p .inside))))
 
 place-requires : tie.Need-place-requires
-place-requires c κs = let s = c .before .before .before .before .before .before .before .before .before .before .before .before .before .before .before .before .before .before .before .before .before .before .before .before in
+place-requires c κs =
+    let elim-row = c .before .before .before .before .before .before .before .elim-row in
+    let s = c .before .before .before .before .before .before .before .before .before .before .before .before .before .before .before .before .before .before .before .before .before .before .before .before in
     let a = s .args in
     let n : ℕ = length (a .b .now) in
     let f = c .before .before .before .before .before .before .before .before .before .before .before .before .before .before .before .column-after in
     let g = c .before .before .before .before .before .before .before .before .before .before .before .pivot in
     let p = pivot-found n (length (a .col .now)) _ (a .k + 1) (λ w. Elimination.eliminate w (a .k) (rows w w (a .a .now))) (f .last .0) _ _ (s .pre .1) (f .kept .0) (f .ensures) (g .ensures) in
-    (record { matrix = c .before .before .before .before .before .before .before .elim-row .kept .0 ∙ s .pre .0 .matrix; tops = s .pre .0 .tops; spares = s .pre .0 .spares }, f .kept .0 ∙ s .pre .1, omega arith, p .inside)
+    (record { matrix = elim-row .kept .0 ∙ s .pre .0 .matrix; tops = s .pre .0 .tops; spares = s .pre .0 .spares }, f .kept .0 ∙ s .pre .1, omega arith, p .inside)
 
 eliminate-two-requires : tie.Need-eliminate-two-requires
 eliminate-two-requires c κs = let s = c .before .before .before .before .before .before .before .before .before .before .before .before .before .before .before .before .before .before .before .before .before .before .before .before .before .before .before .before .before .before .before .before .before .before .before .before .before in
@@ -60,7 +62,9 @@ eliminate-two-requires c κs = let s = c .before .before .before .before .before
 
 returns-2 : tie.Need-returns-2
 unfolding Elimination.reduce
-returns-2 c = let s = c .before .before .before .before .before .before .before .before .before .before .before .before .before .before .before .before .before .before .before .before .before .before .before .before .before .before .before .before .before .before .before .before .before .before .before .before .before .before .before .before in
+returns-2 c =
+    let if1 = c .before .before .before .before .before .before .before .before .before .before .before .before .before .before .before .before .before .before .before .before .before .before .before .before .before .if1 in
+    let s = c .before .before .before .before .before .before .before .before .before .before .before .before .before .before .before .before .before .before .before .before .before .before .before .before .before .before .before .before .before .before .before .before .before .before .before .before .before .before .before .before in
     let a = s .args in
     let n : ℕ = length (a .b .now) in
     let k : ℕ = a .k in
@@ -89,7 +93,7 @@ returns-2 c = let s = c .before .before .before .before .before .before .before 
     let right : Float → List Float = λ d. Elimination.divideRight n (k + 1) d (Elimination.swapRight n (k + 1) at-p (a .b .now)) in
     let eb = q .ensures .right ∙ right-done n (k + 1) at-p m (f .last .0) (right (Normal.cell (Elimination.swapRows n (k + 1) at-p (rows n n w)) (k + 1) (k + 1))) (s .pre .2) (p .inside) (f .kept .0 ∙ s .pre .1) h
     ∙ ap (λ d. Elimination.eliminateRight n (k + 1) (Elimination.divideRow n (k + 1) (Elimination.swapRows n (k + 1) at-p m)) (right d)) same in
-    pivot-small n (k + 1) m (a .b .now) _ _ p false (c .before .before .before .before .before .before .before .before .before .before .before .before .before .before .before .before .before .before .before .before .before .before .before .before .before .if1 .left) ∙ going-both (sym ea) (sym eb)
+    pivot-small n (k + 1) m (a .b .now) _ _ p false (if1 .left) ∙ going-both (sym ea) (sym eb)
 
 pub finish-spec : {M : Type 1} → statement M
 finish-spec =

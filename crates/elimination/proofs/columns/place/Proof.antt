@@ -13,9 +13,11 @@ use Rattle.elimination.proofs.columns.place.Statement.{statement}
 use Rattle.elimination.proofs.columns.place.Tie as tie
 
 take-right-requires : tie.Need-take-right-requires
-take-right-requires c κs = let r = c .before .before .before .before .before .scale-right in
-    let a = c .before .before .before .before .before .before .before .before .before .before .before .before .before .before .before .before .before .before .before .before .before .before .args in
-    (omega (arith, r .kept .0), length-set (a .col .now) (a .p) (at (a .col .now) (a .k)) ∙ c .before .before .before .before .before .before .before .before .before .before .before .before .before .before .before .before .before .before .before .before .before .before .pre .1 ∙ sym (r .kept .0))
+take-right-requires c κs =
+    let entry = c .before .before .before .before .before .before .before .before .before .before .before .before .before .before .before .before .before .before .before .before .before .before in
+    let r = c .before .before .before .before .before .scale-right in
+    let a = entry .args in
+    (omega (arith, r .kept .0), length-set (a .col .now) (a .p) (at (a .col .now) (a .k)) ∙ entry .pre .1 ∙ sym (r .kept .0))
 
 returns : tie.Need-returns
 returns c = let st = c .before .before .before .before .before .before .before .before .before .before .before .before .before .before .before .before .before .before .before .before .before .before .before .before .before in

@@ -1,7 +1,7 @@
 -- `elimination::columns::take_right` meets its contract: the loop keeps the numbers before i reduced, and number k is put back last (`right-put`).
 use lib.Ieee.{binary64, sub, mul}
 use Rattle.elimination.specs.TwoColumns.{right-put}
-use Rattle.normal_equations.specs.Filled.{Filled, filled-none, filled-set}
+use Rattle.normal_equations.specs.FilledInner.{Filled, filled-none, filled-set}
 use Rattle.common.specs.Lists.{at}
 use lib.ListN.{length, length-set}
 use mathlib.Core.Path.{_≡_, refl, ap}

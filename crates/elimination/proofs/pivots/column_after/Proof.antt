@@ -1,8 +1,8 @@
 -- `elimination::pivots::column_after` meets its contract: the loop keeps each number before i eliminated, and number k is set last (`column-put`).
 use lib.Ieee.{binary64, sub, mul}
-use Rattle.common.specs.Iter.{row-end}
+use Rattle.common.specs.IterLaws.{row-end}
 use Rattle.elimination.specs.TwoColumns.{column-put}
-use Rattle.normal_equations.specs.Filled.{Filled, filled-none, filled-set}
+use Rattle.normal_equations.specs.FilledInner.{Filled, filled-none, filled-set}
 use Rattle.common.specs.Lists.{at}
 use lib.ListN.{length, length-set}
 use mathlib.Core.Path.{_≡_, refl}

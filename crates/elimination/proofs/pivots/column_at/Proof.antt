@@ -1,7 +1,7 @@
 -- `elimination::pivots::column_at` meets its contract: the loop keeps that each number before i is the one of its row in column k.
-use Rattle.common.specs.Iter.{row-end}
-use Rattle.normal_equations.specs.Rows.{cell-rows}
-use Rattle.normal_equations.specs.Filled.{Filled, filled-none, filled-set}
+use Rattle.common.specs.IterLaws.{row-end}
+use Rattle.normal_equations.specs.RowsLaws.{cell-rows}
+use Rattle.normal_equations.specs.FilledInner.{Filled, filled-none, filled-set}
 use Rattle.common.specs.Lists.{at}
 use lib.ListN.{length, length-set}
 use mathlib.Core.Path.{_≡_, refl, sym, _∙_}

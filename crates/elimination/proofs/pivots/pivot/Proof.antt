@@ -2,7 +2,8 @@
 use Rattle.float.specs.Ops as Ops
 use Rattle.elimination.specs.EliminationLaws.{choice, choice-within}
 use Rattle.elimination.specs.TwoColumns.{pivot-of}
-use Rattle.common.specs.Iter.{iter, iter-none, iter-next}
+use Rattle.common.specs.Iter.{iter}
+use Rattle.common.specs.IterLaws.{iter-none, iter-next}
 use Rattle.common.specs.Lists.{at}
 use mathlib.Core.Bool.{Bool, cond}
 use lib.Ieee.{Float, lt}

@@ -1,10 +1,11 @@
 -- `elimination::rows::eliminate` meets its contract: the loop keeps that the rows before i are eliminated and the others unchanged; top is row k.
 use lib.ListN.{getD, length}
 use Rattle.elimination.specs.Elimination as Elimination
-use Rattle.common.specs.Iter.{row-end}
-use Rattle.normal_equations.specs.Rows.{row, rows, line-rows}
-use Rattle.normal_equations.specs.Filled.{Filled, filled-none, filled-more}
-use Rattle.normal_equations.specs.Tab.{tab-same}
+use Rattle.common.specs.IterLaws.{row-end}
+use Rattle.normal_equations.specs.Rows.{row, rows}
+use Rattle.normal_equations.specs.RowsLaws.{line-rows}
+use Rattle.normal_equations.specs.FilledInner.{Filled, filled-none, filled-more}
+use Rattle.normal_equations.specs.TabLaws.{tab-same}
 use lib.Ieee.{Float}
 use mathlib.Core.List.{List, []}
 use mathlib.Core.Path.{_≡_, refl, ap, sym, _∙_}
@@ -32,12 +33,14 @@ loop-again c = let a = c .before .before .before .before .before .before .before
 
 returns : tie.Need-returns Inv-loop μ-loop
 unfolding Elimination.eliminate
-returns c = let l = c .before .loop in
-    let a = c .before .before .before .before .args in
+returns c =
+    let entry = c .before .before .before .before in
+    let l = c .before .loop in
+    let a = entry .args in
     let n : ℕ = length (a .top .now) in
     let v : List Float = a .a .now in
     tab-same n _ _ (λ x h. l .inv .2 .done x (omega arith) (omega arith)
-    ∙ ap (λ t. Elimination.eliminatedRow n (a .k) t x (row n v x)) (c .before .before .before .before .pre .2 ∙ sym (line-rows n n v (a .k) (omega arith)))
+    ∙ ap (λ t. Elimination.eliminatedRow n (a .k) t x (row n v x)) (entry .pre .2 ∙ sym (line-rows n n v (a .k) (omega arith)))
     ∙ ap (λ r. Elimination.eliminatedRow n (a .k) (getD (rows n n v) (a .k) []) x r) (sym (line-rows n n v x h)))
 
 pub eliminate-spec : {M : Type 1} → statement M

@@ -1,9 +1,9 @@
 -- `elimination::rows::eliminate_two` meets its contract: the loop keeps that the rows before i have had both eliminations and the others none.
 use Rattle.elimination.specs.Inner as Inner
-use Rattle.common.specs.Iter.{row-end}
+use Rattle.common.specs.IterLaws.{row-end}
 use Rattle.normal_equations.specs.Rows.{row}
-use Rattle.normal_equations.specs.Filled.{Filled, filled-none, filled-more}
-use Rattle.normal_equations.specs.Tab.{tab-same}
+use Rattle.normal_equations.specs.FilledInner.{Filled, filled-none, filled-more}
+use Rattle.normal_equations.specs.TabLaws.{tab-same}
 use lib.ListN.{length}
 use mathlib.Core.Path.{_≡_, refl, ap, _∙_}
 use Prim.Native.Nat.{ℕ, _-_, _≤_}

@@ -5,9 +5,10 @@ use mathlib.Core.Bool.{cond}
 use borrow.Author.Tests.{eq-eqb}
 use Rattle.normal_equations.specs.Normal as Normal
 use Rattle.elimination.specs.Elimination as Elimination
-use Rattle.normal_equations.specs.Rows.{row, rows, part-row, line-rows}
-use Rattle.normal_equations.specs.Filled.{OneRow, one-row}
-use Rattle.common.specs.Iter.{row-end}
+use Rattle.normal_equations.specs.Rows.{row, rows}
+use Rattle.normal_equations.specs.RowsLaws.{part-row, line-rows}
+use Rattle.normal_equations.specs.FilledInner.{OneRow, one-row}
+use Rattle.common.specs.IterLaws.{row-end}
 use Rattle.common.specs.Lists.{at}
 use lib.Ieee.{Float, lt}
 use lib.ListN.{length}
@@ -20,20 +21,27 @@ use Rattle.elimination.proofs.rows.place_rows.Statement.{statement}
 use Rattle.elimination.proofs.rows.place_rows.Tie as tie
 
 put-row-requires : tie.Need-put-row-requires
-put-row-requires c κs = let a = c .before .before .before .before .before .before .before .before .before .before .before .before .before .before .before .before .before .before .before .before .before .before .args in
+put-row-requires c κs =
+    let copy = c .before .before .before .before .before .before .before .before .before .before .before .before .before .before .before .copy in
+    let a = c .before .before .before .before .before .before .before .before .before .before .before .before .before .before .before .before .before .before .before .before .before .before .args in
     let n : ℕ = length (a .top .now) in
-    let ls : n ≡ length (c .before .before .before .before .before .before .before .before .before .before .before .before .before .before .before .copy .last .0) = omega (arith, c .before .before .before .before .before .before .before .before .before .before .before .before .before .before .before .copy .kept .0) in
+    let ls : n ≡ length (copy .last .0) = omega (arith, copy .kept .0) in
     subst (λ w. a .p * w + w ≤ length (a .a .now)) ls (omega (arith, row-end (a .p) n n (omega arith)))
 
 put-row-requires-2 : tie.Need-put-row-requires-2
-put-row-requires-2 c κs = let a = c .before .before .before .before .before .before .before .before .before .before .before .before .before .before .before .before .before .before .before .before .before .before .before .before .before .before .before .args in
+put-row-requires-2 c κs =
+    let copy2 = c .before .before .before .before .before .before .before .before .before .before .before .before .before .before .copy2 in
+    let divide = c .before .before .before .before .before .before .before .before .before .divide in
+    let a = c .before .before .before .before .before .before .before .before .before .before .before .before .before .before .before .before .before .before .before .before .before .before .before .before .before .before .before .args in
     let n : ℕ = length (a .top .now) in
     let r = c .before .before .before .before .put-row in
-    let lt : n ≡ length (c .before .before .before .before .before .before .before .before .before .divide .last .0) = omega (arith, c .before .before .before .before .before .before .before .before .before .divide .kept .0, c .before .before .before .before .before .before .before .before .before .before .before .before .before .before .copy2 .kept .0) in
+    let lt : n ≡ length (divide .last .0) = omega (arith, divide .kept .0, copy2 .kept .0) in
     subst (λ w. a .k * w + w ≤ length (r .last .0)) lt (omega (arith, r .kept .0, row-end (a .k) n n (omega arith)))
 
 returns : tie.Need-returns
-returns c = let a = c .before .before .before .before .before .before .before .before .before .before .before .before .before .before .before .before .before .before .before .before .before .before .before .before .before .before .before .before .before .before .args in
+returns c =
+    let entry = c .before .before .before .before .before .before .before .before .before .before .before .before .before .before .before .before .before .before .before .before .before .before .before .before .before .before .before .before .before .before in
+    let a = entry .args in
     let n : ℕ = length (a .top .now) in
     let v : List Float = a .a .now in
     let r1 = c .before .before .before .before .before .before .before .put-row in
@@ -46,7 +54,7 @@ returns c = let a = c .before .before .before .before .before .before .before .b
     let ly : length (y .last .0) ≡ n = y .kept .0 in
     let ez : z .last .0 ≡ Elimination.divided n (a .k) (row n v (a .p)) =
     z .ensures ∙ ap (λ w. Elimination.divided w (a .k) (y .last .0)) ly ∙ ap (λ r. Elimination.divided n (a .k) r) ey in
-    let lx : length (x .last .0) ≡ n = omega (arith, x .kept .0, c .before .before .before .before .before .before .before .before .before .before .before .before .before .before .before .before .before .before .before .before .before .before .before .before .before .before .before .before .before .before .pre .2) in
+    let lx : length (x .last .0) ≡ n = omega (arith, x .kept .0, entry .pre .2) in
     let lz : length (z .last .0) ≡ n = z .kept .0 ∙ ly in
     let f1 : OneRow (a .p) (row n v (a .k)) (row n v) (row n (r1 .last .0)) = one-row n (length (x .last .0)) (x .last .0) (row n v (a .k)) v (r1 .last .0) (a .p) lx ex (r1 .ensures) in
     let f2 : OneRow (a .k) (Elimination.divided n (a .k) (row n v (a .p))) (row n (r1 .last .0)) (row n (r2 .last .0)) =
@@ -54,10 +62,10 @@ returns c = let a = c .before .before .before .before .before .before .before .b
     let m : List (List Float) = rows n n v in
     record {
       size = r2 .kept .0 ∙ r1 .kept .0;
-      by = ap (λ r. at r (a .k)) (ey ∙ sym (line-rows n n v (a .p) (c .before .before .before .before .before .before .before .before .before .before .before .before .before .before .before .before .before .before .before .before .before .before .before .before .before .before .before .before .before .before .pre .1)))
+      by = ap (λ r. at r (a .k)) (ey ∙ sym (line-rows n n v (a .p) (entry .pre .1)))
           ∙ ap (λ b. Normal.cell m (cond b (a .p) (cond (eqb (a .k) (a .p)) (a .k) (a .k))) (a .k)) (sym (eq-eqb (a .k) (a .k) refl))
-          ∙ sym (swap-cell n (a .k) (a .p) m (a .k) (a .k) (c .before .before .before .before .before .before .before .before .before .before .before .before .before .before .before .before .before .before .before .before .before .before .before .before .before .before .before .before .before .before .pre .0));
-      placed = rows-placed n v (r1 .last .0) (r2 .last .0) (a .k) (a .p) (c .before .before .before .before .before .before .before .before .before .before .before .before .before .before .before .before .before .before .before .before .before .before .before .before .before .before .before .before .before .before .pre .0) (c .before .before .before .before .before .before .before .before .before .before .before .before .before .before .before .before .before .before .before .before .before .before .before .before .before .before .before .before .before .before .pre .1) f1 f2;
+          ∙ sym (swap-cell n (a .k) (a .p) m (a .k) (a .k) (entry .pre .0));
+      placed = rows-placed n v (r1 .last .0) (r2 .last .0) (a .k) (a .p) (entry .pre .0) (entry .pre .1) f1 f2;
       first = ez ∙ sym (f2 .own);
     }
 

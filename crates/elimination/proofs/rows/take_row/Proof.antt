@@ -3,7 +3,7 @@ use lib.Ieee.{Float, binary64, sub, mul}
 use mathlib.Core.List.{List}
 use borrow.Author.Tests.{le-leb, lt-leb}
 use Rattle.elimination.specs.Elimination as Elimination
-use Rattle.normal_equations.specs.Filled.{Filled, filled-none, filled-set, filled-all}
+use Rattle.normal_equations.specs.FilledInner.{Filled, filled-none, filled-set, filled-all}
 use Rattle.common.specs.Lists.{at}
 use lib.ListN.{length, length-set}
 use mathlib.Core.Path.{_≡_, refl, ap}

@@ -2,7 +2,7 @@
 use lib.Ieee.{Float, binary64, sub, mul}
 use mathlib.Core.List.{List}
 use Rattle.elimination.specs.TwoColumns.{firstDone, two-put}
-use Rattle.normal_equations.specs.Filled.{Filled, filled-none, filled-set}
+use Rattle.normal_equations.specs.FilledInner.{Filled, filled-none, filled-set}
 use Rattle.common.specs.Lists.{at}
 use lib.ListN.{length, length-set}
 use mathlib.Core.Path.{_≡_, refl, ap, _∙_}

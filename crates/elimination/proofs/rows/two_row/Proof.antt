@@ -2,8 +2,9 @@
 use Rattle.elimination.specs.Elimination as Elimination
 use Rattle.elimination.specs.Inner as Inner
 use Rattle.elimination.specs.TwoColumns.{two-first, two-second, two-rest}
-use Rattle.normal_equations.specs.Filled.{one-row}
-use Rattle.normal_equations.specs.Rows.{row, length-row, row-same, row-other, part-row}
+use Rattle.normal_equations.specs.FilledInner.{one-row}
+use Rattle.normal_equations.specs.Rows.{row}
+use Rattle.normal_equations.specs.RowsLaws.{length-row, row-same, row-other, part-row}
 use lib.Ieee.{Float}
 use lib.ListN.{length, take, drop}
 use mathlib.Core.List.{List}
@@ -19,13 +20,15 @@ elim-row-requires c κs = let s = c .before .before .before .before .before in
     (omega arith, subst (λ w. s .args .i * w + w ≤ length (s .args .a .now)) (sym (s .pre .1)) (s .pre .2))
 
 returns : tie.Need-returns
-returns c = let s = c .before .before .before .before .before .before .before .before in
+returns c =
+    let if1 = c .before .before .before .before .if1 in
+    let s = c .before .before .before .before .before .before .before .before in
     let a = s .args in
     let n : ℕ = length (a .t .now) in
     let v : List Float = a .a .now in
     let f = c .before .before .elim-row in
     one-row n (length (a .u .now)) _ _ v (f .last .0) (a .i) (s .pre .1)
-    (ap (λ w. Elimination.eliminatedRow w (a .k + 1) (a .u .now) (a .i) (row w v (a .i))) (s .pre .1) ∙ two-first n (a .k) (a .t .now) (a .u .now) (a .i) (row n v (a .i)) (c .before .before .before .before .if1 .taken)) (f .ensures)
+    (ap (λ w. Elimination.eliminatedRow w (a .k + 1) (a .u .now) (a .i) (row w v (a .i))) (s .pre .1) ∙ two-first n (a .k) (a .t .now) (a .u .now) (a .i) (row n v (a .i)) (if1 .taken)) (f .ensures)
 
 returns-2 : tie.Need-returns-2
 returns-2 c = let a = c .before .before .before .before .before .args in
@@ -33,7 +36,10 @@ returns-2 c = let a = c .before .before .before .before .before .args in
     record { own = two-second n (a .k) (a .t .now) (a .u .now) (a .i) (row n (a .a .now) (a .i)) (c .if2 .taken); others = λ x ne. refl }
 
 returns-3 : tie.Need-returns-3
-returns-3 c = let a = c .before .before .before .before .before .before .before .before .before .args in
+returns-3 c =
+    let if1 = c .before .before .before .before .before .if1 in
+    let if2 = c .before .before .before .before .if2 in
+    let a = c .before .before .before .before .before .before .before .before .before .args in
     let n : ℕ = length (a .t .now) in
     let v : List Float = a .a .now in
     let s : ℕ = a .i * n in
@@ -45,7 +51,7 @@ returns-3 c = let a = c .before .before .before .before .before .before .before 
     let e : t .last .0 ≡ Inner.twoRow n (a .k) (a .t .now) (a .u .now) (a .i) r =
     t .ensures ∙ ap (λ p. Inner.lessTwo (length p) (a .k) (a .t .now) (a .u .now) p) pr
     ∙ ap (λ k. Inner.lessTwo k (a .k) (a .t .now) (a .u .now) r) lr
-    ∙ two-rest n (a .k) (a .t .now) (a .u .now) (a .i) r (c .before .before .before .before .before .if1 .left) (c .before .before .before .before .if2 .left) in
+    ∙ two-rest n (a .k) (a .t .now) (a .u .now) (a .i) r (if1 .left) (if2 .left) in
     record { own = row-same n v (t .last .0) (a .i) (omega arith) whole ∙ e; others = row-other n v (t .last .0) (a .i) (omega arith) whole }
 
 pub two-row-spec : {M : Type 1} → statement M

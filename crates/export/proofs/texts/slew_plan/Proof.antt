@@ -5,7 +5,8 @@ use Rattle.export.proofs.texts.slew_plan.Tie as tie
 
 returns : tie.Need-returns
 returns c =
-    let told = c .before .before .before .before .plan-text .ensures in
+    let plan-text = c .before .before .before .before .plan-text in
+    let told = plan-text .ensures in
     record { bytes-are = rw (told .is); text-is = told .bytes; left = told .left }
 
 pub slew-plan-spec : {M : Type 1} → statement M

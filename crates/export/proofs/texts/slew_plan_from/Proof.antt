@@ -5,7 +5,8 @@ use Rattle.export.proofs.texts.slew_plan_from.Tie as tie
 
 returns : tie.Need-returns
 returns c =
-    let told = c .before .before .before .before .plan-text-from .ensures in
+    let plan-text-from = c .before .before .before .before .plan-text-from in
+    let told = plan-text-from .ensures in
     record { bytes-are = rw (told .is); text-is = told .bytes; left = told .left }
 
 pub slew-plan-from-spec : {M : Type 1} → statement M

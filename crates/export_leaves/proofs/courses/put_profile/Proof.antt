@@ -7,7 +7,8 @@ use Rattle.export_leaves.proofs.courses.put_profile.Tie as tie
 
 returns : tie.Need-returns
 returns c =
-    let p = c .before .before .before .before .args .p in
+    let entry = c .before .before .before .before in
+    let p = entry .args .p in
     rw (map-fate numbers (p .profile) (p .fate)) (rw (c .before .before .numbers .ensures) at (c .put-made .ensures))
 
 pub put-profile-spec : {M : Type 1} → statement M

@@ -6,31 +6,16 @@ use borrow.Author.Needs.{needs}
 use Rattle.float.proofs.root.guess.Statement.{statement}
 use Rattle.float.proofs.root.guess.Tie as tie
 
-add-root-hint : tie.Need-add-root-hint
-add-root-hint c = search needs
-
-root-hint-requires : tie.Need-root-hint-requires
-root-hint-requires c κs = search needs
-
 float-to-bits-wrapping-sub-u64 : tie.Need-float-to-bits-wrapping-sub-u64
 float-to-bits-wrapping-sub-u64 c = ⊎-elim (λ w. rw (w .1) (above-no-nan _ _ (w .0 .taken))) (λ w. rw (w .1) (unfold isNan ofBits in tt)) (c .if1 .came)
-
-wrapping-sub-u64-requires : tie.Need-wrapping-sub-u64-requires
-wrapping-sub-u64-requires c κs = search needs
-
-add-result : tie.Need-add-result
-add-result c = search needs
-
-returns : tie.Need-returns
-returns c = search needs
 
 pub guess-spec : {M : Type 1} → statement M
 guess-spec =
     tie.close
     (tie.spec
-    add-root-hint
-    root-hint-requires
+    (λ c. search needs)
+    (λ c κs. search needs)
     float-to-bits-wrapping-sub-u64
-    wrapping-sub-u64-requires
-    add-result
-    returns)
+    (λ c κs. search needs)
+    (λ c. search needs)
+    (λ c. search needs))

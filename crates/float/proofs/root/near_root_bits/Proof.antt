@@ -5,11 +5,8 @@ use Rattle.float.proofs.Near.{near-law}
 use Rattle.float.proofs.root.near_root_bits.Statement.{statement}
 use Rattle.float.proofs.root.near_root_bits.Tie as tie
 
-add-result : tie.Need-add-result
-add-result c = search needs
-
 returns : tie.Need-returns
 returns c = (near-law _ (c .pre .0) (c .pre .1), omega arith)
 
 pub near-root-bits-spec : {M : Type 1} → statement M
-near-root-bits-spec = tie.close (tie.spec add-result returns)
+near-root-bits-spec = tie.close (tie.spec (λ c. search needs) returns)

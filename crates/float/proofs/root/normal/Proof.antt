@@ -10,36 +10,6 @@ use borrow.Author.Needs.{needs}
 use Rattle.float.proofs.root.normal.Statement.{statement}
 use Rattle.float.proofs.root.normal.Tie as tie
 
-norm-shift-requires : tie.Need-norm-shift-requires
-norm-shift-requires c κs = search needs
-
-cast-j : tie.Need-cast-j
-cast-j c = search needs
-
-sub-j : tie.Need-sub-j
-sub-j c = search needs
-
-mul-t7 : tie.Need-mul-t7
-mul-t7 c = search needs
-
-cast-t8 : tie.Need-cast-t8
-cast-t8 c = search needs
-
-shl-t9 : tie.Need-shl-t9
-shl-t9 c = search needs
-
-add-t11 : tie.Need-add-t11
-add-t11 c = search needs
-
-add-t13 : tie.Need-add-t13
-add-t13 c = search needs
-
-add-t14 : tie.Need-add-t14
-add-t14 c = search needs
-
-add-t17 : tie.Need-add-t17
-add-t17 c = search needs
-
 returns : tie.Need-returns
 returns c =
     let b = c .before .before .args .b in
@@ -57,15 +27,15 @@ pub normal-spec : {M : Type 1} → statement M
 normal-spec =
     tie.close
     (tie.spec
-    norm-shift-requires
-    cast-j
-    sub-j
-    mul-t7
-    cast-t8
-    shl-t9
-    add-t11
-    add-t13
-    add-t14
-    add-t17
+    (λ c κs. search needs)
+    (λ c. search needs)
+    (λ c. search needs)
+    (λ c. search needs)
+    (λ c. search needs)
+    (λ c. search needs)
+    (λ c. search needs)
+    (λ c. search needs)
+    (λ c. search needs)
+    (λ c. search needs)
     returns
     returns-2)

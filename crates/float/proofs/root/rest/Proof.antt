@@ -7,29 +7,8 @@ use borrow.Author.Needs.{needs}
 use Rattle.float.proofs.root.rest.Statement.{statement}
 use Rattle.float.proofs.root.rest.Tie as tie
 
-mul-t9 : tie.Need-mul-t9
-mul-t9 c = search needs
-
-mul-raised : tie.Need-mul-raised
-mul-raised c = search needs
-
-sub-raised : tie.Need-sub-raised
-sub-raised c = search needs
-
-raised-requires : tie.Need-raised-requires
-raised-requires c κs = search needs
-
-product-requires : tie.Need-product-requires
-product-requires c κs = search needs
-
-wrapping-sub-u64-requires : tie.Need-wrapping-sub-u64-requires
-wrapping-sub-u64-requires c κs = search needs
-
 raised-requires-2 : tie.Need-raised-requires-2
 raised-requires-2 c κs = square-small _ _ _ (c .before .before .before .pre .1) (c .before .product .ensures)
-
-mul-t15 : tie.Need-mul-t15
-mul-t15 c = search needs
 
 returns : tie.Need-returns
 returns c t =
@@ -43,13 +22,13 @@ pub rest-spec : {M : Type 1} → statement M
 rest-spec =
     tie.close
     (tie.spec
-    mul-t9
-    mul-raised
-    sub-raised
-    raised-requires
-    product-requires
-    wrapping-sub-u64-requires
+    (λ c. search needs)
+    (λ c. search needs)
+    (λ c. search needs)
+    (λ c κs. search needs)
+    (λ c κs. search needs)
+    (λ c κs. search needs)
     raised-requires-2
-    mul-t15
+    (λ c. search needs)
     returns
     returns-2)

@@ -5,18 +5,6 @@ use borrow.Author.Needs.{needs}
 use Rattle.float.proofs.root.root_bits.Statement.{statement}
 use Rattle.float.proofs.root.root_bits.Tie as tie
 
-normal-requires : tie.Need-normal-requires
-normal-requires c κs = search needs
-
-mul-result : tie.Need-mul-result
-mul-result c = search needs
-
-root-digits-requires : tie.Need-root-digits-requires
-root-digits-requires c κs = search needs
-
-add-result : tie.Need-add-result
-add-result c = search needs
-
 returns : tie.Need-returns
 returns c =
     let start = c .before .before .before in
@@ -26,4 +14,4 @@ returns c =
 
 pub root-bits-spec : {M : Type 1} → statement M
 root-bits-spec =
-    tie.close (tie.spec normal-requires mul-result root-digits-requires add-result returns)
+    tie.close (tie.spec (λ c κs. search needs) (λ c. search needs) (λ c κs. search needs) (λ c. search needs) returns)

@@ -8,21 +8,6 @@ use borrow.Author.Needs.{needs}
 use Rattle.float.proofs.root.settled.Statement.{statement}
 use Rattle.float.proofs.root.settled.Tie as tie
 
-mul-if1 : tie.Need-mul-if1
-mul-if1 c = search needs
-
-sub-if1 : tie.Need-sub-if1
-sub-if1 c = search needs
-
-sub-r : tie.Need-sub-r
-sub-r c = search needs
-
-mul-if2 : tie.Need-mul-if2
-mul-if2 c = search needs
-
-sub-if2 : tie.Need-sub-if2
-sub-if2 c = search needs
-
 add-result : tie.Need-add-result
 add-result c = ⊎-elim (λ w. omega arith) (λ w. omega arith) (c .before .before .if1 .came)
 
@@ -36,4 +21,4 @@ returns-2 c n h =
 
 pub settled-spec : {M : Type 1} → statement M
 settled-spec =
-    tie.close (tie.spec mul-if1 sub-if1 sub-r mul-if2 sub-if2 add-result returns returns-2)
+    tie.close (tie.spec (λ c. search needs) (λ c. search needs) (λ c. search needs) (λ c. search needs) (λ c. search needs) add-result returns returns-2)

@@ -7,23 +7,11 @@ use borrow.Author.Needs.{needs}
 use Rattle.float.proofs.root.slow_root.Statement.{statement}
 use Rattle.float.proofs.root.slow_root.Tie as tie
 
-mul-isqrt : tie.Need-mul-isqrt
-mul-isqrt c = search needs
-
-isqrt-requires : tie.Need-isqrt-requires
-isqrt-requires c κs = search needs
-
 mul-above : tie.Need-mul-above
 mul-above c = let h = whole-root _ _ (c .before .pre .0) (c .before .pre .1) (c .isqrt .ensures) .1 in omega arith
 
 add-above : tie.Need-add-above
 add-above c = let h = whole-root _ _ (c .before .pre .0) (c .before .pre .1) (c .isqrt .ensures) .1 in omega arith
-
-mul-above-2 : tie.Need-mul-above-2
-mul-above-2 c = search needs
-
-above-requires : tie.Need-above-requires
-above-requires c κs = search needs
 
 add-result : tie.Need-add-result
 add-result c = let h = whole-root _ _ (c .before .before .before .pre .0) (c .before .before .before .pre .1) (c .before .before .isqrt .ensures) .1 in omega arith
@@ -44,12 +32,12 @@ pub slow-root-spec : {M : Type 1} → statement M
 slow-root-spec =
     tie.close
     (tie.spec
-    mul-isqrt
-    isqrt-requires
+    (λ c. search needs)
+    (λ c κs. search needs)
     mul-above
     add-above
-    mul-above-2
-    above-requires
+    (λ c. search needs)
+    (λ c κs. search needs)
     add-result
     returns
     returns-2)

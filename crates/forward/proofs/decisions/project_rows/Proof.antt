@@ -1,10 +1,11 @@
--- `forward::decisions::project_rows` meets its contract. Assumes nothing.
+-- `forward::decisions::project_rows` meets its contract: after k turns the first k rows are projected, and a row put back keeps the list's length.
 use Prim.Native.Nat.{ℕ, _≤_, _-_, _+_, _*_}
 use mathlib.Core.Path.{_≡_, _∙_}
 use lib.ListN.{length}
-use Rattle.common.specs.Iter.{iter, iter-none, iter-next, row-end}
+use Rattle.common.specs.Iter.{iter}
+use Rattle.common.specs.IterLaws.{iter-none, iter-next, row-end}
 use Rattle.forward.specs.Decisions as Decisions
-use Rattle.forward.specs.Pasted.{length-pasted}
+use Rattle.forward.specs.PastedLaws.{length-pasted}
 use native.Mathlib.Omega.{arith}
 use borrow.Author.Needs.{needs}
 use Rattle.forward.proofs.decisions.project_rows.Statement.{statement}
@@ -31,32 +32,18 @@ add-end c = omega (arith, row-end (c .before .loop .k) 16 (c .before .before .ar
 mul-out : tie.Need-mul-out Inv-loop μ-loop
 mul-out c = omega (arith, row-end (c .before .loop .k) 16 (c .before .before .args .n) (search needs), c .before .before .pre .1)
 
-sub-project-controls : tie.Need-sub-project-controls Inv-loop μ-loop
-sub-project-controls c = search needs
-
-part-out-start : tie.Need-part-out-start Inv-loop μ-loop
-part-out-start c = search needs
-
 part-out-end : tie.Need-part-out-end Inv-loop μ-loop
 part-out-end c = omega (arith, row-end (c .before .loop .k) 16 (c .before .before .args .n) (search needs), c .before .before .pre .1)
 
-project-controls-requires : tie.Need-project-controls-requires Inv-loop μ-loop
-project-controls-requires c κs = search needs
-
-add-k : tie.Need-add-k Inv-loop μ-loop
-add-k c = search needs
-
-loop-less : tie.Need-loop-less Inv-loop μ-loop
-loop-less c = search needs
-
 loop-again : tie.Need-loop-again Inv-loop μ-loop
 loop-again c =
-    let d = c .before .before .before .before .before .args .n in
-    let h = c .before .before .before .before .before .pre .1 in
+    let entry = c .before .before .before .before .before in
+    let d = entry .args .n in
+    let h = entry .pre .1 in
     let l = c .before .before .before .before .loop in
     let f = c .before .project-controls in
     let r = row-end (l .k) 16 d (omega arith) in
-    (search needs, (length-pasted (l .out) (f .last .1 .0) (1 + l .k * d) (1 + l .k * d + d) (omega arith) (omega arith) (f .kept .1 .0) ∙ l .inv .1 .0, iter-next _ _ _ (l .inv .1 .1) (rw (← c .before .before .before .before .before .pre .0, f .ensures))))
+    (search needs, (length-pasted (l .out) (f .last .1 .0) (1 + l .k * d) (1 + l .k * d + d) (omega arith) (omega arith) (f .kept .1 .0) ∙ l .inv .1 .0, iter-next _ _ _ (l .inv .1 .1) (rw (← entry .pre .0, f .ensures))))
 
 returns : tie.Need-returns Inv-loop μ-loop
 returns c = let e : c .before .loop .k ≡ 16 = omega arith in rw (← e) (c .before .loop .inv .1 .1)
@@ -72,11 +59,11 @@ project-rows-spec =
     add-at
     add-end
     mul-out
-    sub-project-controls
-    part-out-start
+    (λ c. search needs)
+    (λ c. search needs)
     part-out-end
-    project-controls-requires
-    add-k
-    loop-less
+    (λ c κs. search needs)
+    (λ c. search needs)
+    (λ c. search needs)
     loop-again
     returns)

@@ -1,4 +1,4 @@
--- `forward::rows::node_in` meets its contract. Assumes nothing.
+-- `forward::rows::node_in` meets its contract: each part of the node is its place of the row.
 use Rattle.forward.specs.Rows as Rows
 use borrow.Author.Needs.{needs}
 use Rattle.forward.proofs.rows.node_in.Statement.{statement}

@@ -23,8 +23,9 @@ loop-holds c = ((omega arith, omega arith), (search needs, λ i h. let e : i ≡
 
 loop-again : tie.Need-loop-again Inv-loop μ-loop
 loop-again c =
+    let entry = c .before .before .before .before .before .before in
     let l = c .before .before .before .loop in
-    let rows = c .before .before .before .before .before .before .args .rows .now in (
+    let rows = entry .args .rows .now in (
       (omega arith, omega arith),
       (
         search needs,
@@ -36,9 +37,10 @@ loop-again c =
 
 returns : tie.Need-returns Inv-loop μ-loop
 returns c =
+    let entry = c .before .before .before .before in
     let l = c .before .loop in
-    let rows = c .before .before .before .before .args .rows .now in
-    let long : length rows ≡ 17 = c .before .before .before .before .pre in
+    let rows = entry .args .rows .now in
+    let long : length rows ≡ 17 = entry .pre in
     ext-getD noNode (l .nodes) (nodesFrom rows) (l .inv .1 .0 ∙ sym (nodes-length rows ∙ long))
     (λ i h. l .inv .1 .1 i (omega (arith, l .inv .1 .0)) ∙ sym (nodes-at rows i (omega (arith, l .inv .1 .0, long))))
 

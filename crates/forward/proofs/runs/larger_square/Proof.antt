@@ -1,6 +1,6 @@
 use mathlib.Core.Path.{sym, subst}
 use lib.Dec.{T}
-use Rattle.forward.specs.Defects.{keeps, takes, takes-upright}
+use Rattle.forward.specs.DefectLaws.{keeps, takes, takes-upright}
 use Rattle.forward.proofs.runs.larger_square.Statement.{statement}
 use Rattle.forward.proofs.runs.larger_square.Tie as tie
 

@@ -6,14 +6,16 @@ use lib.Ieee as Ieee
 use Rattle.controls.specs.SizeLaws.{dim-sized}
 use Rattle.control_rows.specs.declared.WheelLaw.the-variants.{Once}
 use Rattle.forward.specs.Runs as Runs
-use Rattle.forward.specs.Launch.{launch-goes, launch-refused}
+use Rattle.forward.specs.GimbalStartInner.{start-goes, start-refused}
 use Rattle.forward.specs.PartLaws.{told, stands-first}
 use borrow.Author.Needs.{needs}
 use Rattle.forward.proofs.runs.run_into.Statement.{statement}
 use Rattle.forward.proofs.runs.run_into.Tie as tie
 
 start-requires : tie.Need-start-requires
-start-requires c κs = dim-sized Once _ (c .before .before .before .before .pre .0) .wheels
+start-requires c κs =
+    let entry = c .before .before .before .before in
+    dim-sized Once _ (entry .pre .0) .wheels
 
 run-on-requires : tie.Need-run-on-requires
 unfolding Runs.start Ieee.ofBits
@@ -22,12 +24,15 @@ run-on-requires c κs =
     let l = u .before .before .before in
     let s = l .before in
     let pre = s .before .before .before .before .before .pre in
-    let made = launch-goes _ (l .launch .ensures) (c .before .enum-told2 .given .1) in
-    (pre .0, (pre .1 .0, (made .0, (rw (u .unbegun .ensures, s .start .ensures) (record { matrix = made .1; plus = tt }), omega arith))))
+    let made = start-goes _ (l .start-gimbals .ensures) (c .before .enum-told2 .given .1) in
+    (record { sized = pre .0; narrow = pre .1 .0; skewed = made .0; sound = rw (u .unbegun .ensures, s .start .ensures) (record { matrix = made .1; plus = tt }) }, omega arith)
 
 returns : tie.Need-returns
 unfolding told Runs.runUnder Runs.start
-returns c = (launch-refused _ _ _ _ refl (c .before .before .before .before .before .launch .ensures) (c .enum-told .given .1), c .before .before .before .before .before .before .before .before .before .before .before .pre .1 .1)
+returns c =
+    let entry = c .before .before .before .before .before .before .before .before .before .before .before in
+    let start-gimbals = c .before .before .before .before .before .start-gimbals in
+    (start-refused _ _ _ _ refl (start-gimbals .ensures) (c .enum-told .given .1), entry .pre .1 .1)
 
 returns-2 : tie.Need-returns-2
 unfolding Runs.runUnder Ieee.ofBits
@@ -37,7 +42,7 @@ returns-2 c =
     let s = l .before in
     let nodes = s .before .before .before .before .before .args .nodes .now in
     let long = s .before .before .before .before .before .pre .1 .1 in
-    let whole = c .run-on .ensures .whole (s .start .result) (rw (u .unbegun .ensures) (stands-first _ _ _ (s .start .result) (l .launch .result .a) nodes long)) in
+    let whole = c .run-on .ensures .whole (s .start .result) (rw (u .unbegun .ensures) (stands-first _ _ _ (s .start .result) (l .start-gimbals .result .a) nodes long)) in
     (rw (whole, s .start .ensures), c .run-on .ensures .size ∙ long)
 
 pub run-into-spec : {M : Type 1} → statement M

@@ -7,11 +7,16 @@ use Rattle.forward.proofs.runs.run_under.Tie as tie
 
 returns : tie.Need-returns
 unfolding told
-returns c = c .refused-run .ensures ∙ (rw (c .before .before .fate .given .1) at (c .before .before .before .before .run-into .ensures .0))
+returns c =
+    let run-into = c .before .before .before .before .run-into in
+    c .refused-run .ensures ∙ (rw (c .before .before .fate .given .1) at (run-into .ensures .0))
 
 returns-2 : tie.Need-returns-2
 unfolding told
-returns-2 c = rw (c .sqrt .ensures, c .before .nodes-in .ensures) (rw (c .before .before .before .before .enum-told .given .1) at (c .before .before .before .before .before .before .run-into .ensures .0))
+returns-2 c =
+    let run-into = c .before .before .before .before .before .before .run-into in
+    let enum-told = c .before .before .before .before .enum-told in
+    rw (c .sqrt .ensures, c .before .nodes-in .ensures) (rw (enum-told .given .1) at (run-into .ensures .0))
 
 pub run-under-spec : {M : Type 1} → statement M
 run-under-spec =

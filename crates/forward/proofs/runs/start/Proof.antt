@@ -1,4 +1,4 @@
--- `forward::runs::start` meets its contract. Assumes nothing.
+-- `forward::runs::start` meets its contract: the parts are the definition's, the body momentum by its own contract.
 use Rattle.forward.specs.Runs as Runs
 use borrow.Author.Needs.{needs}
 use Rattle.forward.proofs.runs.start.Statement.{statement}

@@ -1,4 +1,4 @@
--- `forward::runs::steps_under` meets its contract. Assumes nothing.
+-- `forward::runs::steps_under` meets its contract: a sized map has rows wide enough for its parts, and the steps' own contract does the rest.
 use lib.Ieee as Ieee
 use Rattle.controls.specs.SizeLaws.{dim-sized}
 use borrow.Author.Needs.{needs}
@@ -10,8 +10,8 @@ steps-on-requires c κs =
     let g = c .before .before .before .before .before .before .before .before in
     let d = g .before in
     let pre = d .before .before .pre in (
-      rw (g .rig-under .ensures, d .control-dim .ensures) (dim-sized _ _ (pre .0)),
-      (rw (d .control-dim .ensures) (pre .1 .0), (rw (g .rig-under .ensures) (pre .1 .1 .0), (rw (g .rig-under .ensures) (pre .1 .1 .1 .0), pre .1 .1 .1 .1))),
+      rw (g .rig-under .ensures, d .control-dim .ensures) (dim-sized _ _ (pre .0 .sized)),
+      (rw (d .control-dim .ensures) (pre .0 .narrow), (rw (g .rig-under .ensures) (pre .0 .skewed), (rw (g .rig-under .ensures) (pre .0 .sound), pre .1))),
     )
 
 returns : tie.Need-returns

@@ -1,4 +1,4 @@
--- `forward::runs::unbegun` meets its contract. Assumes nothing.
+-- `forward::runs::unbegun` meets its contract: the parts are the definition's.
 use mathlib.Core.Path.{refl}
 use lib.Ieee as Ieee
 use borrow.Author.Needs.{needs}

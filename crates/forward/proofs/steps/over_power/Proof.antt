@@ -1,4 +1,4 @@
--- `forward::steps::over_power` meets its contract. Assumes nothing.
+-- `forward::steps::over_power` meets its contract: with no wheels the excess is +0, which is not above the slack; else it is the excess's own contract.
 use mathlib.Core.Path.{refl}
 use lib.Ieee as Ieee
 use Rattle.common.specs.Iter as Iter
@@ -11,12 +11,9 @@ returns : tie.Need-returns
 unfolding Limits.powerExcess Iter.iter Ieee.lt Ieee.ofBits
 returns c = rw (c .if1 .taken) refl
 
-power-excess-requires : tie.Need-power-excess-requires
-power-excess-requires c κs = search needs
-
 returns-2 : tie.Need-returns-2
 unfolding Ieee.ofBits
 returns-2 c = rw (c .power-excess .ensures)
 
 pub over-power-spec : {M : Type 1} → statement M
-over-power-spec = tie.close (tie.spec returns power-excess-requires returns-2)
+over-power-spec = tie.close (tie.spec returns (λ c κs. search needs) returns-2)

@@ -12,4 +12,4 @@ returns-2 c =
     c .tile-at2 .ensures ∙ List·getD-eq-default tiles _ (omega arith) ∙ sym (List·getD-eq-default tiles _ (omega (arith, c .before .if1 .left)))
 
 pub tile-after-spec : {M : Type 1} → statement M
-tile-after-spec = tie.close (tie.spec (search needs) (search needs) (search needs) (search needs) returns-2)
+tile-after-spec = tie.close (tie.spec (search needs) (search needs) (λ c. search needs) (search needs) returns-2)

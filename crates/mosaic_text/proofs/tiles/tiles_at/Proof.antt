@@ -5,7 +5,8 @@ use mathlib.Core.Path.{_≡_}
 use lib.ListN.{length}
 use borrow.Author.Needs.{needs}
 use borrow.Author.Tests.{not-true, not-false}
-use Rattle.common.specs.Iter.{iter, iter-none, iter-next}
+use Rattle.common.specs.Iter.{iter}
+use Rattle.common.specs.IterLaws.{iter-none, iter-next}
 use Rattle.mosaic_text.specs.TileLines.{turn, begun}
 use Rattle.mosaic_text.specs.MosaicTextLaws.{turn-goes, tiles-early, tiles-whole, tiles-low}
 use Rattle.mosaic_text.proofs.tiles.tiles_at.Statement.{statement}

@@ -20,9 +20,11 @@ put-sums-requires c κs = let s = c .before .before .before .before .before .bef
     (omega arith, s .pre .1 ∙ ap (λ k. k * a .m + k * k) e, subst (λ w. Inner.Summed (a .m) (take (w * a .m) (a .v .now)) (a .c) (a .c) w r) e (f .ensures))
 
 returns : tie.Need-returns
-returns c = let a = c .before .before .before .before .before .before .before .before .before .before .before .before .before .before .args in
+returns c =
+    let sum-row = c .before .before .before .before .before .before .before .before .before .sum-row in
+    let a = c .before .before .before .before .before .before .before .before .before .before .before .before .before .before .args in
     let g = c .before .before .before .before .put-sums in
-    subst (λ w. Inner.RowFilled w (a .m) (a .v .now) (a .lambda) (a .c) (g .last .0)) (c .before .before .before .before .before .before .before .before .before .sum-row .kept .1 .1 .1 .0) (g .ensures)
+    subst (λ w. Inner.RowFilled w (a .m) (a .v .now) (a .lambda) (a .c) (g .last .0)) (sum-row .kept .1 .1 .1 .0) (g .ensures)
 
 pub matrix-row-spec : {M : Type 1} → statement M
 matrix-row-spec =

@@ -1,6 +1,6 @@
 -- `normal_equations::matrix::mirror` meets its contract: the loop keeps that the numbers before d are those of column c in the rows above.
-use Rattle.common.specs.Iter.{row-end}
-use Rattle.normal_equations.specs.Filled.{Filled, filled-none, filled-set}
+use Rattle.common.specs.IterLaws.{row-end}
+use Rattle.normal_equations.specs.FilledInner.{Filled, filled-none, filled-set}
 use Rattle.common.specs.Lists.{at}
 use lib.ListN.{length, length-set}
 use mathlib.Core.Path.{_≡_, refl}

@@ -2,11 +2,12 @@
 use Rattle.normal_equations.specs.Inner as Inner
 use mathlib.Core.List.{_++_, List}
 use Rattle.normal_equations.specs.NormalLaws.{row-mirrored}
-use Rattle.normal_equations.specs.Rows.{length-pasted, tail-part, tail-back, row}
+use Rattle.normal_equations.specs.Rows.{row}
+use Rattle.normal_equations.specs.RowsLaws.{length-pasted, tail-part, tail-back}
 use lib.ListN.{length-drop, length, take, drop, set, length-set}
 use lib.Seq.{length-take-le, take-at}
-use Rattle.normal_equations.specs.Filled.{Filled, OneRow, one-row}
-use Rattle.common.specs.Iter.{row-end}
+use Rattle.normal_equations.specs.FilledInner.{Filled, OneRow, one-row}
+use Rattle.common.specs.IterLaws.{row-end}
 use Rattle.common.specs.Lists.{at, pasted}
 use lib.Ieee.{Float, binary64, add}
 use mathlib.Core.Path.{_≡_, ap, sym, subst, _∙_}

@@ -1,7 +1,7 @@
 -- `normal_equations::rows::copy` meets its contract: the loop keeps that the numbers before i are those of `from`, so that in the end all are.
 use lib.Ieee.{nan}
 use lib.Seq.{ext-getD}
-use Rattle.normal_equations.specs.Filled.{Filled, filled-none, filled-set}
+use Rattle.normal_equations.specs.FilledInner.{Filled, filled-none, filled-set}
 use Rattle.common.specs.Lists.{at}
 use lib.ListN.{length, length-set}
 use mathlib.Core.Path.{_≡_, refl}

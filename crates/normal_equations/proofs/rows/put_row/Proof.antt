@@ -1,5 +1,5 @@
 -- `normal_equations::rows::put_row` meets its contract: the lent part is row c, which `copy` fills; every other row lies outside it.
-use Rattle.normal_equations.specs.Rows.{row-same, row-other}
+use Rattle.normal_equations.specs.RowsLaws.{row-same, row-other}
 use lib.ListN.{length}
 use mathlib.Core.Path.{_≡_, ap, _∙_}
 use Prim.Native.Nat.{ℕ}

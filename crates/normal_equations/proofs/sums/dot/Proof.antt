@@ -1,6 +1,6 @@
 -- `normal_equations::sums::dot` meets its contract: the loop keeps that s is the definition's sum of the first i products.
 use Rattle.normal_equations.specs.Normal as Normal
-use Rattle.common.specs.Iter.{iter-none, iter-next}
+use Rattle.common.specs.IterLaws.{iter-none, iter-next}
 use lib.ListN.{length}
 use mathlib.Core.Path.{_≡_, refl}
 use Prim.Native.Nat.{_-_, _≤_}

@@ -1,6 +1,6 @@
 -- `normal_equations::sums::dot8` meets its contract: the loop keeps for each of the eight sums that it is the definition's over the first i rows.
 use Rattle.normal_equations.specs.Normal as Normal
-use Rattle.common.specs.Iter.{iter-none, iter-next}
+use Rattle.common.specs.IterLaws.{iter-none, iter-next}
 use lib.ListN.{length}
 use mathlib.Core.Path.{_≡_, refl}
 use Prim.Native.Nat.{_-_, _≤_}

@@ -1,7 +1,7 @@
 -- `normal_equations::sums::eights` meets its contract: the loop keeps that in both rows the cells from `from` to d are right, four more a turn.
 use Rattle.normal_equations.specs.Inner as Inner
 use native.Mathlib.Nat.{add-mul, mul-le-mul-right}
-use Rattle.normal_equations.specs.Filled.{Filled, filled-none, filled-join}
+use Rattle.normal_equations.specs.FilledInner.{Filled, filled-none, filled-join}
 use Rattle.common.specs.Lists.{at}
 use lib.ListN.{length}
 use mathlib.Core.Path.{_≡_, refl}

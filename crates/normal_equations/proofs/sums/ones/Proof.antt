@@ -1,9 +1,10 @@
 -- `normal_equations::sums::ones` meets its contract: the loop keeps that the cells from `from` to d are the sums of p with their columns.
 use Rattle.normal_equations.specs.Inner as Inner
 use Rattle.normal_equations.specs.Normal as Normal
-use Rattle.common.specs.Iter.{row-end}
-use Rattle.normal_equations.specs.Rows.{row, length-row, part-row}
-use Rattle.normal_equations.specs.Filled.{Filled, filled-none, filled-set}
+use Rattle.common.specs.IterLaws.{row-end}
+use Rattle.normal_equations.specs.Rows.{row}
+use Rattle.normal_equations.specs.RowsLaws.{length-row, part-row}
+use Rattle.normal_equations.specs.FilledInner.{Filled, filled-none, filled-set}
 use Rattle.common.specs.Lists.{at}
 use lib.ListN.{length, length-set}
 use mathlib.Core.Path.{_≡_, refl, ap, _∙_}
@@ -33,8 +34,10 @@ loop-again c = let a = c .before .before .before .before .before .before .before
     )
 
 returns : tie.Need-returns Inv-loop μ-loop
-returns c = let l = c .before .loop in
-    let e : l .d ≡ length (c .before .before .before .before .before .args .row .now) = omega arith in rw e at (l .inv .3)
+returns c =
+    let entry = c .before .before .before .before .before in
+    let l = c .before .loop in
+    let e : l .d ≡ length (entry .args .row .now) = omega arith in rw e at (l .inv .3)
 
 pub ones-spec : {M : Type 1} → statement M
 ones-spec =

@@ -1,7 +1,7 @@
 -- `normal_equations::sums::sum_row` meets its contract: the part of j that is lent is column c, so the cells of `ones` are its sums (`summed`).
 use Rattle.normal_equations.specs.NormalLaws.{part-length, summed}
-use Rattle.normal_equations.specs.Rows.{part-row}
-use Rattle.common.specs.Iter.{row-end}
+use Rattle.normal_equations.specs.RowsLaws.{part-row}
+use Rattle.common.specs.IterLaws.{row-end}
 use Rattle.common.specs.Lists.{at, slice}
 use lib.Ieee.{Float}
 use lib.ListN.{length}

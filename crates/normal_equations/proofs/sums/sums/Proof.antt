@@ -2,9 +2,9 @@
 use Rattle.normal_equations.specs.Inner as Inner
 use Rattle.normal_equations.specs.NormalLaws.{part-length, summed}
 use native.Mathlib.Nat.{add-mul}
-use Rattle.normal_equations.specs.Rows.{part-row}
-use Rattle.normal_equations.specs.Filled.{Filled, filled-join}
-use Rattle.common.specs.Iter.{row-end}
+use Rattle.normal_equations.specs.RowsLaws.{part-row}
+use Rattle.normal_equations.specs.FilledInner.{Filled, filled-join}
+use Rattle.common.specs.IterLaws.{row-end}
 use Rattle.common.specs.Lists.{at, slice}
 use lib.Ieee.{Float}
 use lib.ListN.{length}

@@ -6,7 +6,9 @@ use Rattle.order_text.proofs.writing.put_order.Statement.{statement}
 use Rattle.order_text.proofs.writing.put_order.Tie as tie
 
 returns : tie.Need-returns
-returns c = puts-most (omega arith) (puts-join (c .before .before .before .before .before .before .put-all .ensures) (c .before .before .put-tiles .ensures))
+returns c =
+    let put-all = c .before .before .before .before .before .before .put-all in
+    puts-most (omega arith) (puts-join (put-all .ensures) (c .before .before .put-tiles .ensures))
 
 pub put-order-spec : {M : Type 1} → statement M
 put-order-spec = tie.close (tie.spec (search needs) (search needs) (search needs) (search needs) returns)

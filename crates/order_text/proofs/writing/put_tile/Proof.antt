@@ -5,7 +5,9 @@ use Rattle.order_text.proofs.writing.put_tile.Statement.{statement}
 use Rattle.order_text.proofs.writing.put_tile.Tie as tie
 
 returns : tie.Need-returns
-returns c = puts-join (c .before .before .before .before .before .before .put-byte .ensures) (c .before .before .put-digits .ensures)
+returns c =
+    let put-byte = c .before .before .before .before .before .before .put-byte in
+    puts-join (put-byte .ensures) (c .before .before .put-digits .ensures)
 
 pub put-tile-spec : {M : Type 1} → statement M
 put-tile-spec = tie.close (tie.spec (search needs) (search needs) (search needs) returns)

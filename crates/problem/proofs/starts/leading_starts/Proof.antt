@@ -2,7 +2,8 @@
 use Prim.Native.Nat.{_-_, _≤_}
 use native.Mathlib.Omega.{arith}
 use mathlib.Core.Path.{_≡_}
-use Rattle.common.specs.Iter.{iter, iter-none}
+use Rattle.common.specs.Iter.{iter}
+use Rattle.common.specs.IterLaws.{iter-none}
 use Rattle.geom.specs.Tests.{met, unmet}
 use Rattle.problem.specs.Starts.{leadingTurn}
 use Rattle.problem.specs.StartLaws.{leading-next, leading-stays, leading-whole}

@@ -4,7 +4,8 @@ use native.Mathlib.Omega.{arith}
 use mathlib.Core.Path.{_≡_}
 use lib.ListN.{length}
 use borrow.Author.Tests.{lt-ltb, not-true, not-false}
-use Rattle.common.specs.Iter.{iter, iter-none, iter-next}
+use Rattle.common.specs.Iter.{iter}
+use Rattle.common.specs.IterLaws.{iter-none, iter-next}
 use Rattle.text.specs.Forms.{loose}
 use Rattle.problem_text.specs.Listing.{turn, listAt}
 use Rattle.problem_text.proofs.Lists.{Counts, counts-first, counts-next, turn-goes, list-early, list-whole}

@@ -14,7 +14,9 @@ returns-2 c = rw (c .before .if1 .left, c .if2 .taken)
 
 returns-3 : tie.Need-returns-3
 unfolding alphaSigned ofBits
-returns-3 c = rw (c .before .before .before .before .if1 .left, c .before .before .before .if2 .left, c .before .if3 .taken)
+returns-3 c =
+    let if1 = c .before .before .before .before .if1 in
+    rw (if1 .left, c .before .before .before .if2 .left, c .before .if3 .taken)
 
 returns-4 : tie.Need-returns-4
 unfolding alphaSigned ofBits

@@ -7,7 +7,8 @@ use Rattle.programs.proofs.axis_plans.answer.Tie as tie
 
 returns : tie.Need-returns
 returns c =
-    let told = c .before .before .before .before .before .before .before .plan-eigenaxis-text .ensures in
+    let plan-eigenaxis-text = c .before .before .before .before .before .before .before .plan-eigenaxis-text in
+    let told = plan-eigenaxis-text .ensures in
     record { bytes = ap (λ (t : Told). t .bytes) (told .is); prints = search needs; within = search needs; says = rw (told .is) at (c .before .before .explain-plan .ensures) }
 
 pub answer-spec : {M : Type 1} → statement M

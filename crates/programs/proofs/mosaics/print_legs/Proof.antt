@@ -36,8 +36,9 @@ loop-again c =
 
 returns-2 : tie.Need-returns-2 Inv-loop μ-loop
 returns-2 c =
+    let entry = c .before .before .before .before .before .before in
     let l = c .before .before .loop in
-    let e : l .k - 1 ≡ c .before .before .before .before .before .before .args .m .count - 1 = omega (arith, l .inv .0, l .inv .1, c .if1 .left) in
+    let e : l .k - 1 ≡ entry .args .m .count - 1 = omega (arith, l .inv .0, l .inv .1, c .if1 .left) in
     rw e at (l .inv .2)
 
 pub print-legs-spec : {M : Type 1} → statement M

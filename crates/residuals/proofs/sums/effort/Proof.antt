@@ -1,6 +1,6 @@
--- `residuals::sums::effort` meets its contract. Assumes nothing.
+-- `residuals::sums::effort` meets its contract: after k turns the sum is the definition's over the first k controls.
 use Rattle.residuals.specs.Sums as Sums
-use Rattle.common.specs.Iter.{iter-none, iter-next}
+use Rattle.common.specs.IterLaws.{iter-none, iter-next}
 use Rattle.common.specs.Lists.{at}
 use mathlib.Core.Path.{_≡_, refl}
 use Prim.Native.Nat.{ℕ, _+_, _≤_, _-_}

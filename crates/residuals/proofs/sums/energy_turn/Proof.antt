@@ -1,4 +1,4 @@
--- `residuals::sums::energy_turn` meets its contract. Assumes nothing.
+-- `residuals::sums::energy_turn` meets its contract: product, size and sum, as the definition has them.
 use Rattle.forward.specs.Rows.{nodeFrom}
 use borrow.Author.Needs.{needs}
 use Rattle.residuals.proofs.sums.energy_turn.Statement.{statement}

@@ -1,6 +1,6 @@
--- `residuals::sums::norm_slice` meets its contract. Assumes nothing.
+-- `residuals::sums::norm_slice` meets its contract: after k turns the sum is that of the first k squares; the root is taken once.
 use Rattle.residuals.specs.Sums as Sums
-use Rattle.common.specs.Iter.{iter-none, iter-next}
+use Rattle.common.specs.IterLaws.{iter-none, iter-next}
 use Rattle.common.specs.Lists.{at}
 use mathlib.Core.Path.{_≡_, refl}
 use Prim.Native.Nat.{_≤_, _-_}
@@ -23,7 +23,9 @@ loop-again c = (search needs, iter-next _ _ _ (c .before .before .before .loop .
 
 returns : tie.Need-returns Inv-loop μ-loop
 unfolding Sums.normSlice
-returns c = let e : c .before .before .loop .k ≡ c .before .before .before .before .args .n = omega arith in rw (c .sqrt .ensures, c .before .before .loop .inv .1, e)
+returns c =
+    let entry = c .before .before .before .before in
+    let e : c .before .before .loop .k ≡ entry .args .n = omega arith in rw (c .sqrt .ensures, c .before .before .loop .inv .1, e)
 
 pub norm-slice-spec : {M : Type 1} → statement M
 norm-slice-spec =

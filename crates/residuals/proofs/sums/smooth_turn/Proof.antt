@@ -1,4 +1,4 @@
--- `residuals::sums::smooth_turn` meets its contract. Assumes nothing.
+-- `residuals::sums::smooth_turn` meets its contract: the length of the rate's change, its square and the sum, as the definition has them.
 use lib.Ieee as Ieee
 use Rattle.forward.specs.Rows.{nodeFrom}
 use Rattle.residuals.specs.Sums as Sums
@@ -8,7 +8,9 @@ use Rattle.residuals.proofs.sums.smooth_turn.Tie as tie
 
 returns : tie.Need-returns
 unfolding Sums.smoothOf Ieee.ofBits nodeFrom
-returns c = rw (c .norm3 .ensures, c .before .scale3 .ensures, c .before .before .sub3 .ensures, c .before .before .before .rate-in2 .ensures, c .before .before .before .before .rate-in .ensures)
+returns c =
+    let rate-in = c .before .before .before .before .rate-in in
+    rw (c .norm3 .ensures, c .before .scale3 .ensures, c .before .before .sub3 .ensures, c .before .before .before .rate-in2 .ensures, rate-in .ensures)
 
 pub smooth-turn-spec : {M : Type 1} → statement M
 smooth-turn-spec =

@@ -2,7 +2,7 @@
 use Prim.Native.Nat.{_+_, _-_}
 use mathlib.Core.Path.{_≡_, refl, sym, ap, _∙_}
 use native.Mathlib.Omega.{arith}
-use Rattle.common.specs.Iter.{iter-next}
+use Rattle.common.specs.IterLaws.{iter-next}
 use Rattle.residuals.specs.BeginLaws.{energy-turns, smooth-turns}
 use borrow.Author.Needs.{needs}
 use Rattle.residuals.proofs.sums.sums_next.Statement.{statement}

@@ -11,27 +11,37 @@ use Rattle.residuals.proofs.terms.closing.Tie as tie
 
 energy-requires : tie.Need-energy-requires
 unfolding Ieee.ofBits
-energy-requires c κs = let s = c .before .before .before .before .before .before .before .before .pre .1 .1 in ((s .few, s .long), s .energy)
+energy-requires c κs =
+    let entry = c .before .before .before .before .before .before .before .before in
+    let s = entry .pre .1 .1 in ((s .few, s .long), s .energy)
 
 smooth-requires : tie.Need-smooth-requires
 unfolding Ieee.ofBits
-smooth-requires c κs = let s = c .before .before .before .before .before .before .before .before .before .before .before .pre .1 .1 in rw (c .changes .ensures) ((omega (arith, s .few), s .long), s .smooth)
+smooth-requires c κs =
+    let entry = c .before .before .before .before .before .before .before .before .before .before .before in
+    let s = entry .pre .1 .1 in rw (c .changes .ensures) ((omega (arith, s .few), s .long), s .smooth)
 
 returns : tie.Need-returns
 unfolding Residuals.closing Ieee.ofBits nodeFrom
 returns c =
+    let momenta-in = c .before .before .before .before .before .before .before .before .before .before .momenta-in in
+    let effort = c .before .before .before .before .before .before .before .before .before .effort in
+    let weighted = c .before .before .before .before .before .before .before .before .weighted in
+    let energy = c .before .before .before .before .before .before .before .energy in
+    let weighted2 = c .before .before .before .before .before .before .weighted2 in
+    let smooth = c .before .before .before .before .smooth in
     let start = c .before .before .before .before .before .before .before .before .before .before .before .before .before .before .before .before in
     rw (
       c .before .before .sqrt .ensures,
-      c .before .before .before .before .before .before .before .before .weighted .ensures,
-      c .before .before .before .before .before .before .before .before .before .effort .ensures,
-      c .before .before .before .before .before .before .weighted2 .ensures,
-      c .before .before .before .before .before .before .before .energy .ensures,
+      weighted .ensures,
+      effort .ensures,
+      weighted2 .ensures,
+      energy .ensures,
       c .before .before .before .weighted3 .ensures,
-      c .before .before .before .before .smooth .ensures,
+      smooth .ensures,
       c .before .sqrt2 .ensures,
       c .stored .ensures,
-      c .before .before .before .before .before .before .before .before .before .before .momenta-in .ensures,
+      momenta-in .ensures,
       nodes-at (start .args .nodes .now) 16 (omega (arith, start .pre .1 .1 .long)),
     )
 

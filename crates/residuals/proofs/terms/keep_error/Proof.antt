@@ -1,4 +1,4 @@
--- `residuals::terms::keep_error` meets its contract. Assumes nothing.
+-- `residuals::terms::keep_error` meets its contract: with a pointing weight one place is set to the logarithm, and the errors before it stay.
 use Prim.Native.Nat.{ℕ}
 use mathlib.Core.Bool.{Bool, true, false}
 use mathlib.Core.Path.{_≡_, refl, sym, ap, _∙_}
@@ -12,7 +12,9 @@ use Rattle.residuals.proofs.terms.keep_error.Statement.{statement}
 use Rattle.residuals.proofs.terms.keep_error.Tie as tie
 
 returns : tie.Need-returns
-returns c = (λ h. let no : _≡_ {A = ℕ} 0 1 = cc in absurd (omega arith), c .before .before .before .before .before .before .before .pre .1 .1 .0)
+returns c =
+    let entry = c .before .before .before .before .before .before .before in
+    (λ h. let no : _≡_ {A = ℕ} 0 1 = cc in absurd (omega arith), entry .pre .1 .1 .0)
 
 returns-2 : tie.Need-returns-2
 returns-2 c =

@@ -2,7 +2,7 @@
 use Prim.Native.Nat.{_+_, _-_, _≤_}
 use mathlib.Core.Path.{_≡_, refl, sym, ap, _∙_}
 use native.Mathlib.Omega.{arith}
-use Rattle.common.specs.Iter.{iter-none}
+use Rattle.common.specs.IterLaws.{iter-none}
 use Rattle.geom.specs.declared.Rotation.{Rotation}
 use Rattle.forward.specs.Rows.{nodesFrom}
 use Rattle.residuals.specs.Residuals as Residuals

@@ -2,7 +2,7 @@
 use mathlib.Core.Path.{_≡_, refl, sym, ap, _∙_}
 use native.Mathlib.Omega.{arith}
 use lib.Ieee as Ieee
-use Rattle.common.specs.Iter.{iter-none}
+use Rattle.common.specs.IterLaws.{iter-none}
 use Rattle.actuators.specs.MapLaws.{sized-counts}
 use Rattle.residuals.specs.BeginLaws.{told-refused, told-going}
 use borrow.Author.Needs.{needs}
@@ -26,8 +26,10 @@ returns c = let t = c .before .before .before .before in c .refused-residuals .e
 
 returns-2 : tie.Need-returns-2
 returns-2 c =
+    let enum-told = c .before .before .before .before .before .enum-told in
+    let target-of = c .before .before .before .before .target-of in
     let t = c .before .before .before .before .before .before .before in
-    rw (c .of-rows .ensures, c .before .before .before .before .target-of .ensures) (told-going _ _ _ _ (t .run-into .ensures .0) (c .before .before .before .before .before .enum-told .given .1))
+    rw (c .of-rows .ensures, target-of .ensures) (told-going _ _ _ _ (t .run-into .ensures .0) (enum-told .given .1))
 
 pub residuals-of-spec : {M : Type 1} → statement M
 residuals-of-spec =

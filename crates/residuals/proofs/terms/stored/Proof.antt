@@ -1,4 +1,4 @@
--- `residuals::terms::stored` meets its contract. Assumes nothing.
+-- `residuals::terms::stored` meets its contract: the contract of the length that it calls.
 use borrow.Author.Needs.{needs}
 use Rattle.residuals.proofs.terms.stored.Statement.{statement}
 use Rattle.residuals.proofs.terms.stored.Tie as tie

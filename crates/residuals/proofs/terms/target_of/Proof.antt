@@ -1,4 +1,4 @@
--- `residuals::terms::target_of` meets its contract. Assumes nothing.
+-- `residuals::terms::target_of` meets its contract: each part is read from the problem as the definition reads it.
 use borrow.Author.Needs.{needs}
 use Rattle.residuals.proofs.terms.target_of.Statement.{statement}
 use Rattle.residuals.proofs.terms.target_of.Tie as tie

@@ -1,4 +1,4 @@
--- `residuals::terms::weighted` meets its contract. Assumes nothing.
+-- `residuals::terms::weighted` meets its contract: two roots and a product, as the definition has them.
 use borrow.Author.Needs.{needs}
 use Rattle.residuals.proofs.terms.weighted.Statement.{statement}
 use Rattle.residuals.proofs.terms.weighted.Tie as tie

@@ -22,10 +22,11 @@ closing-requires c κs = let pre = c .before .before .before .before .before .be
 returns-2 : tie.Need-returns-2
 unfolding Ieee.ofBits
 returns-2 c =
+    let enum-told = c .before .before .before .before .before .enum-told in
     let t = c .before .before .before .before .before .before .before in
     let root = t .before .before .sqrt .ensures in
     rw (c .closing .ensures, c .before .before .put3 .ensures, c .before .before .before .scale3 .ensures, root)
-    (with-going _ _ _ _ _ (t .before .before .before .before .before .before .before .args .error) (rw root at (rw (c .before .before .before .before .before .enum-told .given .1) at (t .pointed .ensures))) (t .before .before .before .before .before .before .before .pre .1 .1 .end))
+    (with-going _ _ _ _ _ (t .before .before .before .before .before .before .before .args .error) (rw root at (rw (enum-told .given .1) at (t .pointed .ensures))) (t .before .before .before .before .before .before .before .pre .1 .1 .end))
 
 pub with-pointing-spec : {M : Type 1} → statement M
 with-pointing-spec =

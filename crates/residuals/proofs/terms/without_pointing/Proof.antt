@@ -1,4 +1,4 @@
--- `residuals::terms::without_pointing` meets its contract. Assumes nothing.
+-- `residuals::terms::without_pointing` meets its contract: the closing terms from place 23 on, by their own contract.
 use native.Mathlib.Omega.{arith}
 use Rattle.residuals.specs.Residuals as Residuals
 use borrow.Author.Needs.{needs}

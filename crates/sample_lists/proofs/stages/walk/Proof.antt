@@ -25,8 +25,9 @@ returns c =
 
 loop-again : tie.Need-loop-again Inv-loop μ-loop
 loop-again c =
+    let entry = c .before .before .before .before in
     let l = c .before .before .before .loop in
-    (omega arith, passed-next (c .before .before .before .before .args .nodes .now) _ _ (l .inv .1) (c .before .time .ensures) (c .before .time .ok) (not-false _ (c .if1 .left)))
+    (omega arith, passed-next (entry .args .nodes .now) _ _ (l .inv .1) (c .before .time .ensures) (c .before .time .ok) (not-false _ (c .if1 .left)))
 
 returns-2 : tie.Need-returns-2 Inv-loop μ-loop
 returns-2 c =

@@ -8,7 +8,7 @@ use lib.Seq.{getD-set-same, getD-set-other}
 use mathlib.Core.List.{List, []}
 use lib.Ieee.{Float}
 use Rattle.geom.specs.Vec as Vec
-use Rattle.laws.specs.Below.{below-next}
+use Rattle.float_laws.specs.Below.{below-next}
 use Rattle.sample_lists.specs.StagesInner.{stepRow}
 use borrow.Author.Needs.{needs}
 use Rattle.sample_lists.proofs.steps.step_rows.Statement.{statement}

@@ -3,7 +3,8 @@ use Prim.Native.Nat.{_≤_, _-_}
 use mathlib.Core.Path.{_≡_, refl}
 use native.Mathlib.Omega.{arith}
 use borrow.Author.Tests.{not-true, not-false}
-use Rattle.common.specs.Iter.{iter, iter-none}
+use Rattle.common.specs.Iter.{iter}
+use Rattle.common.specs.IterLaws.{iter-none}
 use Rattle.samples.specs.Samples.{onward}
 use Rattle.samples.specs.SampleLaws.{walks, stops}
 use borrow.Author.Needs.{needs}
@@ -23,7 +24,9 @@ returns : tie.Need-returns Inv-loop μ-loop
 returns c = (stops _ _ _ (c .before .before .before .loop .inv .1) (c .before .time .ensures) (not-true _ (c .if1 .taken)) (omega arith), omega arith)
 
 loop-again : tie.Need-loop-again Inv-loop μ-loop
-loop-again c = (search needs, walks (c .before .before .before .before .args .nodes .now) _ _ (c .before .before .before .loop .inv .1) (c .before .time .ensures) (not-false _ (c .if1 .left)))
+loop-again c =
+    let entry = c .before .before .before .before in
+    (search needs, walks (entry .args .nodes .now) _ _ (c .before .before .before .loop .inv .1) (c .before .time .ensures) (not-false _ (c .if1 .left)))
 
 returns-2 : tie.Need-returns-2 Inv-loop μ-loop
 returns-2 c =

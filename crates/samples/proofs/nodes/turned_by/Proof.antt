@@ -1,4 +1,4 @@
--- `samples::nodes::turned_by` meets its contract. Assumes nothing.
+-- `samples::nodes::turned_by` meets its contract: each way out is a case of the definition: no rotation, no unit length, or the sample turned.
 use borrow.Author.Needs.{needs}
 use Rattle.samples.proofs.nodes.turned_by.Statement.{statement}
 use Rattle.samples.proofs.nodes.turned_by.Tie as tie

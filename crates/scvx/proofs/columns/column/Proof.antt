@@ -6,8 +6,8 @@ use lib.Ieee.{Float}
 use Rattle.residuals.specs.Residuals.{residualsOf}
 use Rattle.residuals.specs.declared.ResidualVector.{ResidualVector}
 use Rattle.kept_rows.specs.KeptLaws.{slopes-kept, kept-most}
-use Rattle.scvx.specs.Search.{nudged}
-use Rattle.scvx.specs.Stands.{column-stands, width-laid, width-zeros, width-most}
+use Rattle.scvx.specs.Search.{perturb}
+use Rattle.scvx.specs.ProgressInner.{column-stands, width-laid, width-zeros, width-most}
 use native.Mathlib.Omega.{arith}
 use borrow.Author.Needs.{needs}
 use Rattle.scvx.proofs.columns.column.Statement.{statement}
@@ -17,8 +17,8 @@ abbrev start : tie.After-residuals-sharing → tie.Start
 start c = c .before .before .before .before .before
 
 -- the run is that of the nudged decision
-run : (c : tie.After-residuals-sharing) → c .residuals-sharing .result ≡ residualsOf (start c .args .p) (nudged (start c .args .p) (start c .args .z .now) (start c .args .c))
-run c = c .residuals-sharing .ensures .0 ∙ ap (λ (z : List Float). residualsOf (start c .args .p) z) (c .before .before .before .nudged .ensures)
+run : (c : tie.After-residuals-sharing) → c .residuals-sharing .result ≡ residualsOf (start c .args .p) (perturb (start c .args .p) (start c .args .z .now) (start c .args .c))
+run c = c .residuals-sharing .ensures .0 ∙ ap (λ (z : List Float). residualsOf (start c .args .p) z) (c .before .before .before .perturb .ensures)
 
 long : (c : tie.After-residuals-sharing) → length (c .residuals-sharing .result .r) ≡ 79
 long c = search needs
@@ -44,14 +44,16 @@ returns c =
 
 returns-2 : tie.Need-returns-2
 returns-2 c =
+    let enum-told = c .before .before .before .before .before .before .before .before .before .before .enum-told in
+    let gather = c .before .before .before .before .before .before .before .gather in
     let r = c .before .before .before .before .before .before .before .before .before .before .before .before in
     let a = start r .args in
     let em = start r .pre .1 .1 .1 .1 .0 in
-    let gathered = rw (run r) at (c .before .before .before .before .before .before .before .gather .ensures) in
+    let gathered = rw (run r) at (gather .ensures) in
     let put = rw (c .before .before .before .before .kept .ensures) at (c .before .before .put-column .ensures) in (
       (
-        sym (c .before .before .before .before .before .before .before .before .before .before .enum-told .given .1) ∙ ap (λ (x : ResidualVector). x .fate) (run r),
-        λ r0 g z. column-stands put (slopes-kept (a .m) _ r0 _ _ (width-laid (a .p) em) gathered g (width-zeros (a .p) (nudged (a .p) (a .z .now) (a .c)) em) z),
+        sym (enum-told .given .1) ∙ ap (λ (x : ResidualVector). x .fate) (run r),
+        λ r0 g z. column-stands put (slopes-kept (a .m) _ r0 _ _ (width-laid (a .p) em) gathered g (width-zeros (a .p) (perturb (a .p) (a .z .now) (a .c)) em) z),
       ),
       r .residuals-sharing .ensures .1,
     )

@@ -5,10 +5,10 @@ use mathlib.Core.Logic.{⊎-elim}
 use mathlib.Core.List.{List}
 use lib.ListN.{length}
 use lib.Ieee.{Float}
-use Rattle.common.specs.Iter.{row-end}
+use Rattle.common.specs.IterLaws.{row-end}
 use Rattle.shared_runs.specs.Shared as Shared
 use Rattle.kept_rows.specs.Kept.{kept, Gathered, Zeros}
-use Rattle.scvx.specs.Stands.{SameFrom, width-laid}
+use Rattle.scvx.specs.ProgressInner.{SameFrom, width-laid}
 use Rattle.scvx.specs.ColumnLaws.{Front, front-none, front-next, front-broken, front-whole, left-length, left-past}
 use native.Mathlib.Omega.{arith}
 use borrow.Author.Needs.{needs}
@@ -58,6 +58,7 @@ column-requires c κs =
 
 returns : tie.Need-returns Inv-loop μ-loop
 returns c =
+    let loop-test = c .before .before .before .before .before .before .before .before .before .before .before .before .before .loop-test in
     let first = c .before .before .before .before .before .before .before .before .before .before .before .before .before .before .before in
     let a = start first .args in
     let s = start first .pre .0 in
@@ -65,19 +66,20 @@ returns c =
     let z = start first .pre .1 in
     let l = c .before .before .before .before .before .before .before .before .before .before .before .before .before .before .loop in
     let t = c .before .before .before .before .before .column in
-    let below = c .before .before .before .before .before .before .before .before .before .before .before .before .before .loop-test .taken in
+    let below = loop-test .taken in
     let past = left-past (a .p) (a .m) (a .t5) (a .r0) (l .c) (l .v) (l .inv .1 .1 .0 (a .r0) g z) (t .last .1 .1 .0) (t .result) (t .ensures .0 .1 (a .r0) g z) (a .n * kept (a .m)) (row-end (l .c) (a .n) (kept (a .m)) (below)) in
     (front-broken (a .p) (a .m) (a .t5) (a .r0) (l .c) (l .v) (l .inv .1 .1 .0 (a .r0) g z) (s .m-is) (omega (arith, s .n-is, below)) (sym (t .ensures .0 .0) ∙ c .before .fate .given .1), λ i h. past i h ∙ l .inv .1 .1 .1 .0 i h)
 
 loop-again : tie.Need-loop-again Inv-loop μ-loop
 loop-again c =
+    let loop-test = c .before .before .before .before .before .before .before .before .before .before .before .before .loop-test in
     let first = c .before .before .before .before .before .before .before .before .before .before .before .before .before .before in
     let a = start first .args in
     let g = gathered first .gather .ensures in
     let z = start first .pre .1 in
     let l = c .before .before .before .before .before .before .before .before .before .before .before .before .before .loop in
     let t = c .before .before .before .before .column in
-    let below = c .before .before .before .before .before .before .before .before .before .before .before .before .loop-test .taken in
+    let below = loop-test .taken in
     let u = t .last .1 .1 .0 in
     let here = l .inv .1 .1 .0 (a .r0) g z in
     let size = left-length (a .p) (a .m) (a .t5) (a .r0) (l .c) (l .v) here u (t .result) (t .ensures .0 .1 (a .r0) g z) in
@@ -121,7 +123,7 @@ jacobian-spec =
     (λ c. search needs)
     returns
     (λ c. search needs)
-    (λ c. search needs)
+    (λ c. omega (arith, c .before .before .before .before .before .before .before .before .before .before .before .before .loop-test .taken, start (c .before .before .before .before .before .before .before .before .before .before .before .before .before .before) .pre .0 .n-most))
     (λ c. search needs)
     loop-again
     (λ c. search needs)

@@ -1,4 +1,4 @@
--- `scvx::columns::numbers` meets its contract. Assumes nothing.
+-- `scvx::columns::numbers` meets its contract: one sum and one product of the row's width, which is at most 12.
 use Rattle.scvx.specs.Search as Search
 use borrow.Author.Needs.{needs}
 use Rattle.scvx.proofs.columns.numbers.Statement.{statement}

@@ -1,4 +1,4 @@
--- `scvx::columns::width` meets its contract. Assumes nothing.
+-- `scvx::columns::width` meets its contract: the test of the pointing weight decides, as in the definition.
 use lib.Ieee as Ieee
 use Rattle.scvx.specs.Search as Search
 use Rattle.scvx.proofs.columns.width.Statement.{statement}

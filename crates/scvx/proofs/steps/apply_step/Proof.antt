@@ -1,8 +1,9 @@
--- `scvx::steps::apply_step` meets its contract. Assumes nothing.
+-- `scvx::steps::apply_step` meets its contract: after i turns the first i numbers are moved.
 use Prim.Native.Nat.{_-_, _≤_}
 use mathlib.Core.Path.{_≡_, refl}
 use lib.ListN.{length}
-use Rattle.common.specs.Iter.{iter, iter-none, iter-next}
+use Rattle.common.specs.Iter.{iter}
+use Rattle.common.specs.IterLaws.{iter-none, iter-next}
 use Rattle.scvx.specs.Search as Search
 use native.Mathlib.Omega.{arith}
 use borrow.Author.Needs.{needs}

@@ -24,7 +24,9 @@ known c = c .before .before .before .kept .ensures
 
 -- columns and matrix fit into the workspace
 fits : (c : tie.After-front2) → c .before .before .before .before .before .args .n * c .before .before .before .kept .result + c .before .before .before .before .before .args .n * c .before .before .before .before .before .args .n ≤ length (c .before .before .before .before .before .args .ws .now)
-fits c = rw (known c) (c .before .before .before .before .before .pre .1 .1 .0)
+fits c =
+    let entry = c .before .before .before .before .before in
+    rw (known c) (entry .pre .1 .1 .0)
 
 long : (c : tie.Start) → length (c .args .r) ≡ 79
 long c = search needs
@@ -36,16 +38,19 @@ slice-aggregate-damped-step : tie.Need-slice-aggregate-damped-step
 slice-aggregate-damped-step c = sym (length-take-le _ _ (fits (c .before)))
 
 slice-aggregate-damped-step-3 : tie.Need-slice-aggregate-damped-step-3
-slice-aggregate-damped-step-3 c = sym (length-take-le _ _ (omega (arith, c .before .before .before .before .before .before .before .before .pre .0)))
+slice-aggregate-damped-step-3 c =
+    let entry = c .before .before .before .before .before .before .before .before in
+    sym (length-take-le _ _ (omega (arith, entry .pre .0)))
 
 damped-step-requires : tie.Need-damped-step-requires
 damped-step-requires c κs =
+    let gather = c .before .before .before .before .gather in
     let st = c .before .before .before .before .before .before .before .before in
     let a = st .args in
     let w = c .before .before .before .before .before .before .kept .result in
     let e : length (take (a .n) blank) ≡ a .n = length-take-le (a .n) blank (omega (arith, st .pre .0)) in
     let whole : length (a .r) ≡ 79 = long st in
-    (omega (arith, st .pre .0), omega (arith, known (c .before .before .before), kept-most (a .m) (st .pre .1 .0), laid-most (st .pre .1 .0), c .before .before .before .before .gather .kept .1 .0), length-take-le _ _ (fits (c .before .before .before)) ∙ ap (λ k. k * w + k * k) (sym e))
+    (omega (arith, st .pre .0), omega (arith, known (c .before .before .before), kept-most (a .m) (st .pre .1 .0), laid-most (st .pre .1 .0), gather .kept .1 .0), length-take-le _ _ (fits (c .before .before .before)) ∙ ap (λ k. k * w + k * k) (sym e))
 
 returns : tie.Need-returns
 returns c =

@@ -1,13 +1,14 @@
--- `scvx::turns::turns` meets its contract. Assumes nothing.
+-- `scvx::turns::turns` meets its contract: after k turns the state is the definition's, with its residuals known; a status that is not on its way stays.
 use Prim.Native.Nat.{_+_, _*_, _-_, _≤_}
 use mathlib.Core.Path.{_≡_, ap, sym, _∙_}
 use lib.ListN.{length}
-use Rattle.common.specs.Iter.{iter, iter-none, iter-next, iter-stays}
+use Rattle.common.specs.Iter.{iter}
+use Rattle.common.specs.IterLaws.{iter-none, iter-next, iter-stays}
 use Rattle.scvx.specs.declared.Status.the-variants.{Going}
-use Rattle.scvx.specs.declared.State.{State}
+use Rattle.scvx.specs.declared.SearchState.{SearchState}
 use Rattle.scvx.specs.Search as Search
-use Rattle.scvx.specs.Counts.{going-le}
-use Rattle.scvx.specs.Stands.{Holds, columnsIn, sizes-kept}
+use Rattle.scvx.specs.CountLaws.{iterate-le}
+use Rattle.scvx.specs.ProgressInner.{Holds, columnsIn, sizes-kept}
 use Rattle.scvx.specs.StepLaws.{turn-going, turn-ended, turn-refused}
 use native.Mathlib.Omega.{arith}
 use borrow.Author.Needs.{needs}
@@ -24,29 +25,29 @@ abbrev μ-loop : tie.MeasureT-loop
 loop-holds : tie.Need-loop-holds Inv-loop μ-loop
 loop-holds c = (search needs, (omega (arith, c .before .pre .1 .0), (search needs, (c .before .pre .1 .1 .0, (iter-none _ _, c .before .pre .1 .1 .1)))))
 
-going-requires : tie.Need-going-requires Inv-loop μ-loop
-going-requires c κs = let l = c .before .before .loop .inv in (sizes-kept (c .before .before .before .before .pre .0) (l .1 .1 .0), (omega arith, (omega (arith, l .1 .0), l .1 .1 .1 .1 .1)))
+iterate-requires : tie.Need-iterate-requires Inv-loop μ-loop
+iterate-requires c κs = let l = c .before .before .loop .inv in (sizes-kept (c .before .before .before .before .pre .0) (l .1 .1 .0), (omega arith, (omega (arith, l .1 .0), l .1 .1 .1 .1 .1)))
 
 returns : tie.Need-returns Inv-loop μ-loop
 returns c =
     let l = c .before .before .before .before .before .before .before .before .loop .inv in
-    let next = c .before .before .before .before .before .going .ensures .0 ∙ sym (turn-going (c .before .before .before .before .before .before .before .before .before .before .args .p) (c .before .before .before .before .before .before .before .before .loop .k) (c .before .before .before .before .before .before .before .before .loop .g .state) (l .1 .1 .1 .0)) in
+    let next = c .before .before .before .before .before .iterate .ensures .0 ∙ sym (turn-going (c .before .before .before .before .before .before .before .before .before .before .args .p) (c .before .before .before .before .before .before .before .before .loop .k) (c .before .before .before .before .before .before .before .before .loop .g .state) (l .1 .1 .1 .0)) in
     iter-stays _ _ (c .before .before .before .before .before .before .before .before .loop .k + 1) 40 (omega arith) (iter-next _ _ (c .before .before .before .before .before .before .before .before .loop .k) (l .1 .1 .1 .1 .0) next) (λ j. turn-ended _ j _ (c .enum-told .given .1))
 
 returns-2 : tie.Need-returns-2 Inv-loop μ-loop
 returns-2 c =
     let l = c .before .before .before .before .before .before .before .before .loop .inv in
-    let next = c .before .before .before .before .before .going .ensures .0 ∙ sym (turn-going (c .before .before .before .before .before .before .before .before .before .before .args .p) (c .before .before .before .before .before .before .before .before .loop .k) (c .before .before .before .before .before .before .before .before .loop .g .state) (l .1 .1 .1 .0)) in
+    let next = c .before .before .before .before .before .iterate .ensures .0 ∙ sym (turn-going (c .before .before .before .before .before .before .before .before .before .before .args .p) (c .before .before .before .before .before .before .before .before .loop .k) (c .before .before .before .before .before .before .before .before .loop .g .state) (l .1 .1 .1 .0)) in
     iter-stays _ _ (c .before .before .before .before .before .before .before .before .loop .k + 1) 40 (omega arith) (iter-next _ _ (c .before .before .before .before .before .before .before .before .loop .k) (l .1 .1 .1 .1 .0) next) (λ j. turn-refused _ j _ (c .enum-told2 .given .1))
 
 loop-again : tie.Need-loop-again Inv-loop μ-loop
 loop-again c =
     let a = c .before .before .before .before .before .before .before .before .before .before .args in
     let l = c .before .before .before .before .before .before .before .before .loop .inv in
-    let t = c .before .before .before .before .before .going in
+    let t = c .before .before .before .before .before .iterate in
     let next = t .ensures .0 ∙ sym (turn-going (a .p) (c .before .before .before .before .before .before .before .before .loop .k) (c .before .before .before .before .before .before .before .before .loop .g .state) (l .1 .1 .1 .0)) in
-    let most = going-le (a .p) (c .before .before .before .before .before .before .before .before .loop .k) (c .before .before .before .before .before .before .before .before .loop .g .state) in
-    let q = ap (λ (x : State). x .runs) (t .ensures .0) in (
+    let most = iterate-le (a .p) (c .before .before .before .before .before .before .before .before .loop .k) (c .before .before .before .before .before .before .before .before .loop .g .state) in
+    let q = ap (λ (x : SearchState). x .runs) (t .ensures .0) in (
       search needs,
       (
         omega (arith, c .before .before .before .before .before .before .before .before .before .before .pre .0 .n-is, c .before .before .before .before .before .before .before .before .before .before .pre .0 .n-most, l .1 .0),
@@ -64,7 +65,7 @@ turns-spec =
     Inv-loop
     μ-loop
     loop-holds
-    going-requires
+    iterate-requires
     (λ c. search needs)
     (λ c. search needs)
     (λ c. search needs)

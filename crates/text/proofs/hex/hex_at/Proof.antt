@@ -44,13 +44,15 @@ returns-2 c =
 
 mul-m-2 : tie.Need-mul-m-2 Inv-loop μ-loop
 mul-m-2 c =
-    let u = c .before .before .before .before .before .loop .weight / 16 in
+    let loop = c .before .before .before .before .before .loop in
+    let u = loop .weight / 16 in
     let h : c .wide2 .result * u ≤ 15 * u = weighed _ u (omega arith) in
     omega (arith, h)
 
 add-m : tie.Need-add-m Inv-loop μ-loop
 add-m c =
-    let u = c .before .before .before .before .before .loop .weight / 16 in
+    let loop = c .before .before .before .before .before .loop in
+    let u = loop .weight / 16 in
     let h : c .wide2 .result * u ≤ 15 * u = weighed _ u (omega arith) in
     omega (arith, h)
 

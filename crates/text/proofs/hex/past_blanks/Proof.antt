@@ -19,7 +19,9 @@ loop-holds : tie.Need-loop-holds Inv-loop μ-loop
 loop-holds c = (omega arith, omega arith, past-start _ _)
 
 blank : (c : tie.Then1 Inv-loop μ-loop) → c .before .before .loop .i < length (c .before .before .before .before .args .s .now)
-blank c = blank-within (c .before .before .before .before .args .s .now) (c .before .before .loop .i) (sym (c .before .byte .ensures) ∙ c .if1 .taken)
+blank c =
+    let entry = c .before .before .before .before in
+    blank-within (entry .args .s .now) (c .before .before .loop .i) (sym (c .before .byte .ensures) ∙ c .if1 .taken)
 
 add-i : tie.Need-add-i Inv-loop μ-loop
 add-i c = omega (arith, blank c)

@@ -15,7 +15,9 @@ returns-2 : tie.Need-returns-2
 returns-2 c = c .wrong-row .ensures ∙ sym (limited-fewer _ _ _ (c .before .if2 .taken))
 
 returns-3 : tie.Need-returns-3
-returns-3 c = c .wrong-row2 .ensures ∙ sym (limited-more _ _ _ (c .before .before .before .if2 .left) (c .before .before .before .before .before .if1 .left) (c .before .if3 .taken))
+returns-3 c =
+    let if1 = c .before .before .before .before .before .if1 in
+    c .wrong-row2 .ensures ∙ sym (limited-more _ _ _ (c .before .before .before .if2 .left) (if1 .left) (c .before .if3 .taken))
 
 returns-4 : tie.Need-returns-4
 returns-4 c = limited-one _ _ _ (c .before .before .if2 .left) (c .if3 .left)

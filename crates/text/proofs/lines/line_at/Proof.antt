@@ -19,7 +19,7 @@ words-at-requires c κs = c .before .is-at .ensures .within (not-false _ (c .if1
 
 returns-2 : tie.Need-returns-2
 unfolding lineAt
-returns-2 c = simp (met (c .before .before .before .is-at .ensures .is) (c .before .before .if1 .left)) (rw (c .before .words-at .ensures) at (c .ended .ensures))
+returns-2 c = simp (met (c .before .before .before .is-at .ensures .is) (c .before .before .if1 .left)) (rw (c .before .words-at .ensures) at (c .with-tail .ensures))
 
 pub line-at-spec : {M : Type 1} → statement M
 line-at-spec = tie.close (tie.spec (search needs) (search needs) returns after-head words-at-requires (search needs) returns-2)

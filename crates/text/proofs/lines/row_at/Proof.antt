@@ -21,7 +21,9 @@ loop-holds : tie.Need-loop-holds Inv-loop μ-loop
 loop-holds c = (omega arith, refl, omega arith, row-start _ _)
 
 returns : tie.Need-returns Inv-loop μ-loop
-returns c = sym (c .before .before .before .before .loop .inv .3 ∙ row-stop _ _ _ (sym (c .before .before .word-at .ensures .is) ∙ c .enum-told .given .1))
+returns c =
+    let loop = c .before .before .before .before .loop in
+    sym (loop .inv .3 ∙ row-stop _ _ _ (sym (c .before .before .word-at .ensures .is) ∙ c .enum-told .given .1))
 
 loop-again : tie.Need-loop-again Inv-loop μ-loop
 loop-again c =

@@ -6,11 +6,15 @@ use Rattle.text.proofs.lines.words_at.Tie as tie
 
 returns : tie.Need-returns
 unfolding wordsAt
-returns c = simp (c .before .before .words .given .1, ← c .before .before .before .before .row-at .ensures) (c .floats .ensures)
+returns c =
+    let row-at = c .before .before .before .before .row-at in
+    simp (c .before .before .words .given .1, ← row-at .ensures) (c .floats .ensures)
 
 returns-2 : tie.Need-returns-2
 unfolding wordsAt
-returns-2 c = simp (c .before .before .words2 .given .1, ← c .before .before .before .before .row-at .ensures) (c .limited .ensures)
+returns-2 c =
+    let row-at = c .before .before .before .before .row-at in
+    simp (c .before .before .words2 .given .1, ← row-at .ensures) (c .limited .ensures)
 
 returns-3 : tie.Need-returns-3
 unfolding wordsAt

@@ -4,7 +4,9 @@ use Rattle.text_writer.proofs.forms.put_node.Statement.{statement}
 use Rattle.text_writer.proofs.forms.put_node.Tie as tie
 
 returns : tie.Need-returns
-returns c = rw (c .before .before .before .before .before .before .state-of .ensures) at (c .before .before .put-node-line .ensures)
+returns c =
+    let state-of = c .before .before .before .before .before .before .state-of in
+    rw (state-of .ensures) at (c .before .before .put-node-line .ensures)
 
 pub put-node-spec : {M : Type 1} → statement M
 put-node-spec = tie.close (tie.spec (search needs) (search needs) (λ c. search needs) (λ c κs. search needs) (λ c. search needs) returns)

@@ -1,7 +1,7 @@
 -- `text_writer::forms::put_rows` meets its contract: the loop keeps `PutsFirst`, that the first texts are put, which the call carries on by one. Assumes nothing.
 use Prim.Native.Nat.{_-_}
 use Rattle.text_writer.specs.PutLaws.{PutsFirst, first-none, first-next, first-all}
-use Rattle.common.specs.Iter.{row-end}
+use Rattle.common.specs.IterLaws.{row-end}
 use Rattle.text_writer.specs.Texts.{row, rows}
 use borrow.Author.Needs.{needs}
 use native.Mathlib.Omega.{arith}
@@ -15,7 +15,9 @@ abbrev μ-loop : tie.MeasureT-loop
 μ-loop b₀ at z c i₀ k₀ b i k = 16 - k
 
 put-row-requires : tie.Need-put-row-requires Inv-loop μ-loop
-put-row-requires c κs = let h = row-end (c .before .before .loop .k) 16 (c .before .before .before .before .before .args .c) (omega arith) in omega arith
+put-row-requires c κs =
+    let entry = c .before .before .before .before .before in
+    let h = row-end (c .before .before .loop .k) 16 (entry .args .c) (omega arith) in omega arith
 
 loop-again : tie.Need-loop-again Inv-loop μ-loop
 loop-again c =

@@ -9,7 +9,8 @@ use borrow.Fn.Kinds.{In}
 use borrow.Fn.PlainCycle.{Measures, is, falls, and}
 use lib.ListN.{length, getD, set, length-set}
 use lib.Seq.{getD-set-same, getD-set-other}
-use Rattle.common.specs.Iter.{iter, iter-none}
+use Rattle.common.specs.Iter.{iter}
+use Rattle.common.specs.IterLaws.{iter-none}
 use Rattle.tile_order.specs.Search as Search
 use Rattle.tile_order.specs.Inner.{Ready, Stands}
 use Rattle.tile_order.specs.TurnLaws.{turn-spent, turn-dropped, turn-on, visit-none, visit-some}

@@ -1,5 +1,6 @@
 -- `tile_order::table::least` meets its contract: the loop keeps the least of the times passed. Assumes nothing.
-use Rattle.common.specs.Iter.{iter, iter-none, iter-next}
+use Rattle.common.specs.Iter.{iter}
+use Rattle.common.specs.IterLaws.{iter-none, iter-next}
 use Rattle.tile_order.specs.Tables as Tables
 use Prim.Native.Nat.{_-_, _≤_, min}
 use mathlib.Core.Path.{_≡_}

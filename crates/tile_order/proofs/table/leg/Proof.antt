@@ -1,5 +1,5 @@
 -- `tile_order::table::leg` meets its contract: the index of a time lies in its row, and the row in the table. Assumes nothing.
-use Rattle.common.specs.Iter.{row-end}
+use Rattle.common.specs.IterLaws.{row-end}
 use Prim.Native.Nat.{_+_, _*_, _<_}
 use mathlib.Core.Path.{refl}
 use native.Mathlib.Omega.{arith}

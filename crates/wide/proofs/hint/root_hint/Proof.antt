@@ -8,14 +8,8 @@ use Rattle.wide.proofs.hint.root_hint.Tie as tie
 float-from-bits-f : tie.Need-float-from-bits-f
 float-from-bits-f c = no-nan-bits _ (omega arith)
 
-sub-y : tie.Need-sub-y
-sub-y c = search needs
-
 float-from-bits-y : tie.Need-float-from-bits-y
 float-from-bits-y c = no-nan-bits _ (omega arith)
 
-returns : tie.Need-returns
-returns c = search needs
-
 pub root-hint-spec : {M : Type 1} → statement M
-root-hint-spec = tie.close (tie.spec float-from-bits-f sub-y float-from-bits-y returns)
+root-hint-spec = tie.close (tie.spec float-from-bits-f (λ c. search needs) float-from-bits-y (λ c. search needs))

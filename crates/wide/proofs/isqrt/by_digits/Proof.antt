@@ -16,24 +16,12 @@ abbrev μ-loop : tie.MeasureT-loop
 loop-holds : tie.Need-loop-holds Inv-loop μ-loop
 loop-holds c = (omega arith, all-open (c .args .hi) (c .args .lo) (c .fits .hi .fits) (c .fits .lo .fits))
 
-sub-k : tie.Need-sub-k Inv-loop μ-loop
-sub-k c = search needs
-
-cast-digit : tie.Need-cast-digit Inv-loop μ-loop
-cast-digit c = search needs
-
-shl-digit : tie.Need-shl-digit Inv-loop μ-loop
-shl-digit c = search needs
-
 digit-requires : tie.Need-digit-requires Inv-loop μ-loop
 digit-requires c κs =
     let k = c .before .loop .k in
     let e : k - 1 + 1 ≡ k = omega arith in
     let l : k - 1 < 64 = omega arith in
     rw (shifted (k - 1) l) (digit-fits _ _ (k - 1) (rw (← e) at (c .before .loop .inv .1)))
-
-loop-less : tie.Need-loop-less Inv-loop μ-loop
-loop-less c = search needs
 
 loop-again : tie.Need-loop-again Inv-loop μ-loop
 loop-again c =
@@ -54,10 +42,10 @@ by-digits-spec =
     Inv-loop
     μ-loop
     loop-holds
-    sub-k
-    cast-digit
-    shl-digit
+    (λ c. search needs)
+    (λ c. search needs)
+    (λ c. search needs)
     digit-requires
-    loop-less
+    (λ c. search needs)
     loop-again
     returns)

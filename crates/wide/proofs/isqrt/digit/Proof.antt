@@ -3,15 +3,6 @@ use borrow.Author.Needs.{needs}
 use Rattle.wide.proofs.isqrt.digit.Statement.{statement}
 use Rattle.wide.proofs.isqrt.digit.Tie as tie
 
-add-above : tie.Need-add-above
-add-above c = search needs
-
-above-requires : tie.Need-above-requires
-above-requires c κs = search needs
-
-add-result : tie.Need-add-result
-add-result c = search needs
-
 returns : tie.Need-returns
 returns c = rw (← c .before .above .ensures, c .if1 .taken)
 
@@ -19,4 +10,4 @@ returns-2 : tie.Need-returns-2
 returns-2 c = rw (← c .before .above .ensures, c .if1 .left)
 
 pub digit-spec : {M : Type 1} → statement M
-digit-spec = tie.close (tie.spec add-above above-requires add-result returns returns-2)
+digit-spec = tie.close (tie.spec (λ c. search needs) (λ c κs. search needs) (λ c. search needs) returns returns-2)

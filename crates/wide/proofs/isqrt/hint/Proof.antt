@@ -7,17 +7,5 @@ use Rattle.wide.proofs.isqrt.hint.Tie as tie
 float-to-bits-b : tie.Need-float-to-bits-b
 float-to-bits-b c = above-no-nan _ (c .before .args .x) (c .if1 .taken)
 
-root-hint-requires : tie.Need-root-hint-requires
-root-hint-requires c κs = search needs
-
-returns : tie.Need-returns
-returns c = search needs
-
-returns-2 : tie.Need-returns-2
-returns-2 c = search needs
-
-returns-3 : tie.Need-returns-3
-returns-3 c = search needs
-
 pub hint-spec : {M : Type 1} → statement M
-hint-spec = tie.close (tie.spec float-to-bits-b root-hint-requires returns returns-2 returns-3)
+hint-spec = tie.close (tie.spec float-to-bits-b (λ c κs. search needs) (λ c. search needs) (λ c. search needs) (λ c. search needs))

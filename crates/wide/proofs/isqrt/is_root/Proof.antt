@@ -7,15 +7,6 @@ use borrow.Author.Needs.{needs}
 use Rattle.wide.proofs.isqrt.is_root.Statement.{statement}
 use Rattle.wide.proofs.isqrt.is_root.Tie as tie
 
-above-requires : tie.Need-above-requires
-above-requires c κs = search needs
-
-add-above : tie.Need-add-above
-add-above c = search needs
-
-above-requires-2 : tie.Need-above-requires-2
-above-requires-2 c κs = search needs
-
 returns : tie.Need-returns
 returns c t = absurd (subst T (sym t) tt)
 
@@ -29,4 +20,4 @@ returns-3 c t = between _ _ (not-above _ _ _ (c .before .before .before .above .
 
 pub is-root-spec : {M : Type 1} → statement M
 is-root-spec =
-    tie.close (tie.spec above-requires add-above above-requires-2 returns returns-2 returns-3)
+    tie.close (tie.spec (λ c κs. search needs) (λ c. search needs) (λ c κs. search needs) returns returns-2 returns-3)

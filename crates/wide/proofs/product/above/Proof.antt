@@ -6,12 +6,6 @@ use borrow.Author.Needs.{needs}
 use Rattle.wide.proofs.product.above.Statement.{statement}
 use Rattle.wide.proofs.product.above.Tie as tie
 
-high-product-requires : tie.Need-high-product-requires
-high-product-requires c κs = search needs
-
-low-product-requires : tie.Need-low-product-requires
-low-product-requires c κs = search needs
-
 returns : tie.Need-returns
 returns c = same-high (2 ^ 64) _ _ _ _ _ (omega (arith, c .before .before .high-product .ensures, c .low-product .ensures)) (c .before .if1 .taken)
 
@@ -21,4 +15,4 @@ returns-2 c =
     other-high (2 ^ 64) (a .hi) (a .lo) _ (a .s * a .s % 2 ^ 64) (a .s * a .s) (c .before .before .fits .lo .fits) (omega arith) (omega (arith, c .before .high-product .ensures)) (c .if1 .left)
 
 pub above-spec : {M : Type 1} → statement M
-above-spec = tie.close (tie.spec high-product-requires low-product-requires returns returns-2)
+above-spec = tie.close (tie.spec (λ c κs. search needs) (λ c κs. search needs) returns returns-2)

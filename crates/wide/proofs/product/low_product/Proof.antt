@@ -11,14 +11,8 @@ mul-wrapping-add-u64 c = let h = halves (c .args .u) (c .args .v) (c .fits .u .f
 mul-wrapping-add-u64-2 : tie.Need-mul-wrapping-add-u64-2
 mul-wrapping-add-u64-2 c = let h = halves (c .args .u) (c .args .v) (c .fits .u .fits) (c .fits .v .fits) in omega arith
 
-wrapping-add-u64-requires : tie.Need-wrapping-add-u64-requires
-wrapping-add-u64-requires c κs = search needs
-
 mul-wrapping-add-u64-3 : tie.Need-mul-wrapping-add-u64-3
 mul-wrapping-add-u64-3 c = let h = halves (c .before .args .u) (c .before .args .v) (c .before .fits .u .fits) (c .before .fits .v .fits) in omega arith
-
-wrapping-add-u64-requires-2 : tie.Need-wrapping-add-u64-requires-2
-wrapping-add-u64-requires-2 c κs = search needs
 
 returns : tie.Need-returns
 returns c = omega (arith, word-mul (c .before .before .args .u) (c .before .before .args .v), c .before .wrapping-add-u64 .ensures, c .wrapping-add-u642 .ensures)
@@ -29,7 +23,7 @@ low-product-spec =
     (tie.spec
     mul-wrapping-add-u64
     mul-wrapping-add-u64-2
-    wrapping-add-u64-requires
+    (λ c κs. search needs)
     mul-wrapping-add-u64-3
-    wrapping-add-u64-requires-2
+    (λ c κs. search needs)
     returns)

@@ -4,14 +4,8 @@ use borrow.Author.Needs.{needs}
 use Rattle.wide.proofs.product.product.Statement.{statement}
 use Rattle.wide.proofs.product.product.Tie as tie
 
-high-product-requires : tie.Need-high-product-requires
-high-product-requires c κs = search needs
-
-low-product-requires : tie.Need-low-product-requires
-low-product-requires c κs = search needs
-
 returns : tie.Need-returns
 returns c = omega (arith, c .before .high-product .ensures, c .low-product .ensures)
 
 pub product-spec : {M : Type 1} → statement M
-product-spec = tie.close (tie.spec high-product-requires low-product-requires returns)
+product-spec = tie.close (tie.spec (λ c κs. search needs) (λ c κs. search needs) returns)
