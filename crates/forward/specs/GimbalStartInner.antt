@@ -66,7 +66,7 @@ at : (c : Cmgs) → At c (launchBy c)
 at Without = record { fates = refl; goes = λ h. (tt, refl) }
 at (With p) = at-by p (bothOf (p .«skew_rad»)) refl
 
--- a launch that goes on has what the first step asks for
+-- a start of the gimbals that goes on has what the first step asks for
 pub start-goes : (c : Cmgs) {l : GimbalStart} → l ≡ startGimbals c → l .fate ≡ Going → SkewOf c (l .skew) × Made c level (l .a)
 unfolding startGimbals
 start-goes c e h = rw e (at c .goes (rw e at h))

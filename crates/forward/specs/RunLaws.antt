@@ -29,7 +29,7 @@ pub turn-refused : (b : Body) (n : ℕ) (z : List Float) (k : ℕ) (c : Rollout)
 unfolding rolloutTurn
 turn-refused b n z k c h = ap (λ (e : Fate). rolloutBy e b n z k c) h
 
--- the loop makes a dynamics before it makes a step: where the dynamics from step k up to i are made, i - k - 1 steps are
+-- the loop makes a step's dynamics before it makes the step: where the dynamics from step k up to i are made, i - k - 1 steps are
 pub rollout-none : {A : Type 0} (f : ℕ → A → A) (a : A) (k : ℕ) → a ≡ iter f a (k - k - 1)
 rollout-none f a k = let e : 0 ≡ k - k - 1 = omega arith in rw e at (iter-none f a)
 

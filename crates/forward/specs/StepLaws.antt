@@ -49,7 +49,7 @@ pub rooted-stop : (n i : ℕ) (s : BodyState) → rooted (stop n i s) ≡ stop n
 unfolding sqrt ofBits
 rooted-stop n i s = refl
 
--- ---- the gimbals' swing hands on the matrix at its angles
+-- ---- a step of the gimbals hands on the matrix at its angles
 pub refused-going : {n i : ℕ} → Refused n i ≡ Going → ⊥
 refused-going h = let z : _≡_ {A = ℕ} 0 1 = cc in omega arith
 
@@ -76,7 +76,7 @@ pub gimbals-matrix : (c : Cmgs) (u d : List Float) (dt : Float) (k : ℕ) → st
 unfolding stepGimbals
 gimbals-matrix c u d dt k h = gimbals-matrix-by c u d dt k h
 
--- what the code works out is the swing: the angles e, and the matrix m there from the skew's sine and cosine
+-- what the code works out is the gimbals' step: the angles e, and the matrix m there from the skew's sine and cosine
 pub pyramid-steps : (p : CmgPyramid) (u d : List Float) (dt : Float) (k : ℕ) (skew : Skew) {e : List Float} {m : Jacobian}
     → SkewOf (With p) skew → e ≡ gimbalsNext u d dt → m ≡ pyramidFrom (skew .sine) (skew .cosine) e → gimbalsBy (m .fate) (m .a) p e k ≡ stepGimbals (With p) u d dt k
 unfolding stepGimbals

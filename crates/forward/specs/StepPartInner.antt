@@ -1,4 +1,4 @@
--- A step in two parts: its dynamics, which is all that it gives but for the attitude, and its attitude. Both together are the step law's step. Assumes nothing.
+-- A step in two parts: its dynamics, which are all that it gives but for the attitude, and its attitude. Both together are the step law's step. Assumes nothing.
 use Prim.Native.Nat.{ℕ, _+_, _-_, _<_, _≤_}
 use mathlib.Core.Path.{_≡_, refl, sym, ap, _∙_, subst}
 use mathlib.Core.List.{List}
@@ -63,18 +63,18 @@ joined (Attitude.Is q2) k l s = joinedAt (l .fate) q2 l s
 abbrev pub withAttitude : Quat → BodyState → BodyState
 withAttitude q s = record { q = q; w = s .w; h = s .h; hw = s .hw; delta = s .delta }
 
--- the dynamics x is l with the gimbals, the power and the momenta of the step from s, whatever its attitude
+-- the dynamics x are l with the gimbals, the power and the momenta of the step from s, whatever its attitude
 pub record Finished (b : Body) (u : List Float) (k : ℕ) (s : BodyState) (l x : Dynamics) : Type 0 where
   pub turn : x .turn ≡ l .turn
   pub ends : (q q2 : Quat) → joinedAt (x .fate) q2 x (withAttitude q s) ≡ attitudeStep b u k (withAttitude q s) (l .tau) (sqrt binary64 (l .square)) (l .s .w) q2
   pub hands : x .fate ≡ Going → Made (b .rig .cmgs) (x .s .delta) (x .a)
 
--- the dynamics l is that of the step from s, whatever its attitude
+-- the dynamics l are those of the step from s, whatever its attitude
 pub record DynamicsOf (b : Body) (u : List Float) (k : ℕ) (s : BodyState) (l : Dynamics) : Type 0 where
   pub steps : (q : Quat) → joined (turnedTo (expAt (l .turn) (norm3 (l .turn))) (b .frame .tolerance) q) k l (withAttitude q s) ≡ step b u k (withAttitude q s)
   pub hands : l .fate ≡ Going → Made (b .rig .cmgs) (l .s .delta) (l .a)
 
--- ---- a dynamics whose end is known, and a turn: the stages after the turn
+-- ---- dynamics whose end is known, and a turn: the stages after the turn
 module _ (b : Body) (u : List Float) (k : ℕ) (s : BodyState) (l : Dynamics) (tau : List Float) (defect : Float) (w2 : List Float)
     (ends : (q2 : Quat) → joinedAt (l .fate) q2 l s ≡ attitudeStep b u k s tau defect w2 q2) where
   normed-joined : (y : Normal) → joined (normedTo y) k l s ≡ normedStep y b u k s tau defect w2
@@ -109,7 +109,7 @@ dynamics-finished b u k s square {x} {a} {tau} {wd} {w2} {v} e m t d r f g = rec
     same-turn : expAt (x .turn) (norm3 (x .turn)) ≡ expAt v (norm3 v)
     same-turn = rw (e .turn) refl
 
--- ---- where a step goes on, its dynamics did, and its end is the dynamics's but for the attitude
+-- ---- where a step goes on, its dynamics did, and its end is theirs but for the attitude
 pub record Follows (l : Dynamics) (s : BodyState) : Type 0 where
   pub goes : l .fate ≡ Going
   pub same : (q : Quat) → withAttitude q (l .s) ≡ withAttitude q s
@@ -123,19 +123,19 @@ follows Attitude.Outside k l s h o = absurd (refused-going (ap (λ (x : Stepped)
 follows Attitude.Off k l s h o = absurd (refused-going (ap (λ (x : Stepped). x .fate) (sym h) ∙ o))
 follows (Attitude.Is q2) k l s h o = follows-at (l .fate) q2 l s refl h o
 
--- a dynamics is that of every state that differs in the attitude alone
+-- dynamics are those of every state that differs in the attitude alone
 pub dynamics-same : (b : Body) (u : List Float) (k : ℕ) {s s2 : BodyState} {l : Dynamics} → ((q : Quat) → withAttitude q s ≡ withAttitude q s2) → DynamicsOf b u k s l → DynamicsOf b u k s2 l
 dynamics-same b u k {s} {s2} {l} e h = record {
   steps = λ q. subst (λ (x : BodyState). joined (turnedTo (expAt (l .turn) (norm3 (l .turn))) (b .frame .tolerance) q) k l x ≡ step b u k x) (e q) (h .steps q);
   hands = h .hands;
 }
 
--- x is the dynamics of step i from where the dynamics l ends; from step `end` on l stays
+-- x are the dynamics of step i from where l, those of the step before, end; from step `end` on l stays
 pub record Next (b : Body) (n : ℕ) (z : List Float) (i end : ℕ) (l x : Dynamics) : Type 0 where
   pub dynamics : i < end → Made (b .rig .cmgs) (l .s .delta) (l .a) → DynamicsOf b (rowOf n z i) i (l .s) x
   pub stays : end ≤ i → x ≡ l
 
--- ---- the loop of steps k up to `end`, where the dynamics below i are made: at first the dynamics l ends in the start s, then it is that of the step from s, at last it has the matrix in s
+-- ---- the loop of steps k up to `end`, where the dynamics below i are made: at first the dynamics l end in the start s, then they are those of the step from s, at last they have the matrix in s
 pub record Pipelined (b : Body) (n : ℕ) (z : List Float) (k end i : ℕ) (s : BodyState) (l : Dynamics) : Type 0 where
   pub first : i ≡ k → (l .s ≡ s) × Made (b .rig .cmgs) (l .s .delta) (l .a)
   pub later : k < i → i ≤ end → DynamicsOf b (rowOf n z (i - 1)) (i - 1) s l

@@ -112,7 +112,7 @@ pub fn larger_square(a: f64, x: f64) -> f64
     if a < x { x } else { a }
 }
 
-// The dynamics of step i from where the dynamics l ends; from step `end` on there is none, and l stays.
+// The dynamics of step i from where l, those of the step before, end; from step `end` on there are none, and l stays.
 pub fn next_dynamics(
     r: Rig,
     wheels: &[f64; 24],

@@ -1,6 +1,6 @@
 // One step of a forward run, in stages. Carried over from `reconstruct` of quatopsy-plan/src/scvx.rs (Apache-2.0), changed: the actuators' tables are
 // lent, the pyramid's matrix that the singularity test makes is handed to the next step's torque, and a step is worked out in two parts, its dynamics and its
-// attitude: no dynamics waits for an attitude, so the machine works on one step's attitude and the next step's dynamics at once.
+// attitude: dynamics wait for no attitude, so the machine works on one step's attitude and the next step's dynamics at once.
 ghost use mathlib.Core.Path.{_≡_};
 ghost use Prim.Native.Nat.{_+_, _≤_};
 ghost use lib.ListN.{length};
@@ -158,7 +158,7 @@ fn over_power(wheels: &[f64; 24], powers: [Power; 8], n: usize, u: &[f64], w: [f
     control_limits::power_excess(wheels, powers, n, u, w) > 1.0e-9
 }
 
-// A dynamics whose gimbals or power refuse the step.
+// Dynamics whose gimbals or power refuse the step.
 pub fn refuse_dynamics(number: usize, place: usize, l: Dynamics) -> Dynamics
     ensures { λ r. ⌜ r ≡ StepPartInner.refuseDynamics number place l ⌝ }
 {
@@ -176,7 +176,7 @@ pub fn refuse_dynamics(number: usize, place: usize, l: Dynamics) -> Dynamics
     }
 }
 
-// A dynamics of these parts that goes on.
+// Dynamics of these parts, which go on.
 pub fn dynamics_from(
     tau: [f64; 3],
     square: f64,
@@ -196,7 +196,7 @@ pub fn dynamics_from(
     }
 }
 
-// A dynamics with the rate at its end, and the rest of the state as it was.
+// Dynamics with the rate at their end, and the rest of the state as it was.
 pub fn dynamics_at(
     tau: [f64; 3],
     square: f64,
@@ -317,7 +317,7 @@ pub fn attitude(q: Quat, turned: Turned, tolerance: f64) -> Attitude
     Attitude::Is(q2)
 }
 
-// The step from s that a dynamics and the attitude q2 give; its defect stays squared.
+// The step from s that its dynamics and the attitude q2 give; its defect stays squared.
 pub fn joined_at(q2: Quat, l: Dynamics, s: BodyState) -> Stepped
     ensures { λ r. ⌜ rooted r ≡ StepPartInner.joinedAt (l .fate) q2 l s ⌝ }
 {
