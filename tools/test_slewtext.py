@@ -892,7 +892,8 @@ class Built(unittest.TestCase):
     def test_examples_in_decimal(self):
         for name in sorted(os.listdir(os.path.join(slewtext.ROOT, "examples"))):
             if name.endswith(".toml") and os.path.exists(os.path.join(slewtext.ROOT, "examples", name.removesuffix(".toml") + ".answer")):
-                told = self.run_with(os.path.join(slewtext.ROOT, "examples", name))
+                way = ["--eigenaxis"] if name == "star-field.toml" else []
+                told = self.run_with(*way, os.path.join(slewtext.ROOT, "examples", name))
                 self.assertEqual((told.stdout, told.returncode, told.stderr == ""), (stored(name.removesuffix(".toml") + ".answer"), 3 * name.startswith("refused"), not name.startswith("refused")))
 
     def test_standard_input(self):
