@@ -14,16 +14,16 @@
  * - A flag (`bool`) is a byte of 0 or 1, as C and C++ make it of any number. A caller in another language sees to that: nothing is promised for a 2. As compiled the lowest bit counts, so a 2 is
  *   false, and as `limited` it would leave out the slew limit. The flags in `counts` are whole numbers, and there nothing but 1 says yes: a 2 is no pyramid and no power limit.
  * - Floats round to nearest and subnormals are kept, as in every program that has not changed this.
- * - The thread has 256 kB of stack. Measured by painting it, whatever the controls: 123 kB in the functions of mosaics, 112 in slew_sample, 106 in the others that search, 85 in
- *   slew_plan_eigenaxis_numbers, 21 in slew_reconstruct.
+ * - The thread has 256 kB of stack. Measured by painting it, whatever the controls: 164 kB in the functions of mosaics, 144 in slew_sample, 136 in the others that search, 125 in
+ *   slew_plan_eigenaxis_numbers, 19 in slew_reconstruct.
  *
  * How long a plan takes is bounded in forward runs, not in seconds. Measured, the slowest of 300 random slews of a laboratory for each kind of actuators, refused ones too, in ms of an
  * AMD EPYC's time beside other work (`oracle/entries`):
  *
  *   controls in a row                        3      4      8     12
- *   slew_plan_numbers                        7     11     25     60
- *   .. with a pointing weight                9     16     42     97
- *   slew_plan_eigenaxis_numbers            0.4    0.8    0.4    0.4
+ *   slew_plan_numbers                        6      7     22     48
+ *   .. with a pointing weight                5      9     27     59
+ *   slew_plan_eigenaxis_numbers            0.4    0.6    0.4    0.5
  *
  * A refusal is its number of 1 to 28, with a place and the forward runs begun (docs/REFUSALS.md); 0 is no refusal. */
 #ifndef SLEW_H

@@ -22,20 +22,20 @@ fn beyond() -> Jacobian
     }
 }
 
-// The Jacobian from the skew's sine and cosine, already made, and the four gimbal angles.
-pub fn pyramid_from(sin_skew: f64, cos_skew: f64, delta: [f64; 4]) -> Jacobian
-    ensures { λ r. ⌜ r ≡ Pyramid.pyramidFrom «sin_skew» «cos_skew» delta ⌝ }
+// The Jacobian from the skew's sine and cosine, already made, and what sine and cosine say of the four gimbal angles.
+pub fn pyramid_by(sin_skew: f64, cos_skew: f64, b0: Both, b1: Both, b2: Both, b3: Both) -> Jacobian
+    ensures { λ r. ⌜ r ≡ Pyramid.pyramidBy «sin_skew» «cos_skew» b0 b1 b2 b3 ⌝ }
 {
-    let Both::Are(s0, c0) = sin_cos(delta[0]) else {
+    let Both::Are(s0, c0) = b0 else {
         return beyond();
     };
-    let Both::Are(s1, c1) = sin_cos(delta[1]) else {
+    let Both::Are(s1, c1) = b1 else {
         return beyond();
     };
-    let Both::Are(s2, c2) = sin_cos(delta[2]) else {
+    let Both::Are(s2, c2) = b2 else {
         return beyond();
     };
-    let Both::Are(s3, c3) = sin_cos(delta[3]) else {
+    let Both::Are(s3, c3) = b3 else {
         return beyond();
     };
     let a = [
@@ -56,6 +56,17 @@ pub fn pyramid_from(sin_skew: f64, cos_skew: f64, delta: [f64; 4]) -> Jacobian
         fate: Fate::Going,
         a: a,
     }
+}
+
+// The Jacobian from the skew's sine and cosine, already made, and the four gimbal angles.
+pub fn pyramid_from(sin_skew: f64, cos_skew: f64, delta: [f64; 4]) -> Jacobian
+    ensures { λ r. ⌜ r ≡ Pyramid.pyramidFrom «sin_skew» «cos_skew» delta ⌝ }
+{
+    let b0 = sin_cos(delta[0]);
+    let b1 = sin_cos(delta[1]);
+    let b2 = sin_cos(delta[2]);
+    let b3 = sin_cos(delta[3]);
+    pyramid_by(sin_skew, cos_skew, b0, b1, b2, b3)
 }
 
 // The Jacobian `A(δ)` of a pyramid such that the torque is `-h A(δ) δ̇`.

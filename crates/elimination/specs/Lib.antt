@@ -1,4 +1,4 @@
--- Gauss-Jordan elimination, and the step that it finds.
+-- Gauss-Jordan elimination.
 -- ---- meaning
 pub mod Elimination  -- the elimination with partial pivoting, over lists, as `solve_dense` in scvx.rs does it
 -- ---- laws

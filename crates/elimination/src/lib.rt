@@ -1,14 +1,13 @@
-// Gauss-Jordan elimination, and with it the step of a Levenberg-Marquardt iteration.
+// Gauss-Jordan elimination.
 // Carried over from quatopsy-plan/src/scvx.rs (Apache-2.0), changed: parts of a workspace are lent, and two columns are taken at a time.
 ghost use mathlib.Core.Path.{_≡_};
-ghost use Prim.Native.Nat.{_+_, _*_, _≤_};
-ghost use lib.ListN.{length, take};
+ghost use Prim.Native.Nat.{_*_, _≤_};
+ghost use lib.ListN.{length};
 ghost use Rattle.normal_equations.specs.Rows.{rows};
 ghost use Rattle.elimination.specs.Elimination as Elimination;
 use self::columns::column;
 use self::columns::columns;
 use common::DECISION_NUMBERS;
-use normal_equations::equations;
 
 pub mod columns;
 pub mod pivots;
@@ -46,19 +45,4 @@ pub fn solve_dense(a: &mut [f64], b: &mut [f64]) -> bool
         return true;
     }
     column(a, b, &mut top[..n], &mut spare[..n], &mut col[..n], k)
-}
-
-// The step of a Levenberg-Marquardt iteration: v holds g.len() columns of m numbers, which stay, and after them room for the matrix, which is free
-// afterwards; g becomes the step. False where the equations are singular: what g holds then is free.
-pub fn damped_step(v: &mut [f64], m: usize, r: &[f64], lambda: f64, g: &mut [f64]) -> bool
-    requires { ⌜ (length (now g) ≤ 193) × (m ≤ length (now r)) × (length (now v) ≡ length (now g) * m + length (now g) * length (now g)) ⌝ }
-    ensures { λ x. ⌜ (take (length (now (g .entry)) * m) (now (v .exit)) ≡ take (length (now (g .entry)) * m) (now (v .entry)))
-        × (Elimination.told x (now (g .exit))
-        ≡ Elimination.dampedStep (length (now (g .entry))) m (rows (length (now (g .entry))) m (take (length (now (g .entry)) * m) (now (v .entry))))
-        (now (r .entry)) lambda) ⌝ }
-{
-    let n = g.len();
-    let o = n * m;
-    equations(v, m, r, lambda, g);
-    solve_dense(&mut v[o..], g)
 }

@@ -1,4 +1,4 @@
-// elimination: systems of equations, and the step of a Levenberg-Marquardt iteration. Where the lengths do not fit the answer is false, as for a singular
+// elimination, damped_steps: systems of equations, and the step of a Levenberg-Marquardt iteration. Where the lengths do not fit the answer is false, as for a singular
 // system.
 ghost use mathlib.Core.Path.{_≡_};
 ghost use Rattle.elimination.specs.Elimination as Elimination;
@@ -43,5 +43,5 @@ pub extern "C" fn slew_damped_step(
     if v.len() != n * m + n * n {
         return false;
     }
-    elimination::damped_step(v, m, r, lambda, g)
+    damped_steps::damped_step(v, m, r, lambda, g)
 }

@@ -25,7 +25,7 @@ use Rattle.problem.specs.declared.CheckedProblem.{CheckedProblem}
 use Rattle.forward.specs.Decisions.{stepTime}
 use Rattle.forward.specs.DefectLaws.{upright}
 use Rattle.forward.specs.Steps.{Body}
-use Rattle.forward.specs.StepLaws.{SkewOf, Made}
+use Rattle.forward.specs.StepLaws.{AnglesOf, Made}
 use Rattle.forward.specs.Runs.{Rollout, advance, rolloutTurn, startRollout, rollout, onward, endBy, endOf, endedRun, runFrom, refusedRun, nodeOf, noNode, bodyUnder}
 use Rattle.forward.specs.RunLaws.{goingRollout, turn-refused}
 use Rattle.forward.specs.Rows.{torqueIn, nodeFrom, nodesFrom, rowAt, SameBelow}
@@ -49,11 +49,11 @@ pub record Sound (r : Rig) (c : Partway) : Type 0 where
   pub matrix : Made (r .cmgs) (c .s .delta) (c .a)
   pub plus : T (upright (c .square))
 
--- a problem that runs may take, the sine and cosine of its pyramid's skew, and a run of it part of the way
-pub record Fits (law : WheelLaw) (p : CheckedProblem) (skew : Skew) (c : Partway) : Type 0 where
+-- a problem that runs may take, what is known of its pyramid's angles, and a run of it part of the way
+pub record Fits (law : WheelLaw) (p : CheckedProblem) (skew : Skew) (known : List Float) (c : Partway) : Type 0 where
   pub sized : isSized (p .map) ≡ true
   pub narrow : controlDim (p .map) ≤ 12
-  pub skewed : SkewOf (p .map .cmgs) skew
+  pub angles : AnglesOf (p .map .cmgs) skew known
   pub sound : Sound (rigUnder law (p .map)) c
 
 -- x with the rows u is what steps k up to `end` make of c with the rows v

@@ -18,6 +18,7 @@ use Rattle.actuators.specs.declared.Cmgs.{Cmgs}
 use Rattle.actuators.specs.declared.Cmgs.the-variants.{Without, With}
 use Rattle.actuators.specs.declared.Jacobian.{Jacobian}
 use Rattle.actuators.specs.Maps.{gimbals, noCmgs}
+use Rattle.gimbal_angles.specs.Known.{KnownOf}
 use Rattle.common.specs.Lists.{slice}
 use Rattle.geom.specs.Vec as Vec
 use Rattle.geom.specs.Quats.{expSo3}
@@ -36,6 +37,10 @@ use Rattle.forward.specs.declared.Stepped.{Stepped}
 abbrev pub SkewOf : Cmgs → Skew → Type 0
 SkewOf Without k = Unit {0}
 SkewOf (With p) k = bothOf (p .«skew_rad») ≡ Both.Are (k .sine) (k .cosine)
+
+-- what is known of a pyramid's angles: the skew's sine and cosine, and a table of gimbal angles with theirs
+abbrev pub AnglesOf : Cmgs → Skew → List Float → Type 0
+AnglesOf c k t = SkewOf c k × KnownOf c t
 
 -- a pyramid's matrix that is there
 abbrev pub Made : Cmgs → List Float → List Float → Type 0

@@ -13,7 +13,7 @@ ghost use Rattle.float.specs.Ops as Ops;
 ghost use Rattle.float.specs.Sqrt.{sqrt};
 ghost use Rattle.forward.specs.DefectLaws.{upright};
 ghost use Rattle.forward.specs.Steps as Steps;
-ghost use Rattle.forward.specs.StepLaws.{SkewOf, Made};
+ghost use Rattle.forward.specs.StepLaws.{AnglesOf};
 ghost use Rattle.forward.specs.GimbalStartInner as GimbalStartInner;
 ghost use Rattle.forward.specs.StepPartInner as StepPartInner;
 ghost use Rattle.forward.specs.Runs as Runs;
@@ -38,7 +38,6 @@ use actuators::CmgPyramid;
 use actuators::Cmgs;
 use actuators::Power;
 use actuators::control_dim;
-use actuators::pyramid::pyramid_from;
 use angles::Both;
 use angles::sin_cos;
 use common::Decision;
@@ -50,6 +49,7 @@ use control_rows::WheelLaw;
 use control_rows::body_momentum;
 use controls::rig_under;
 use geom::Quat;
+use gimbal_angles::pyramid_known;
 use problem::CheckedProblem;
 
 // The start of a run: at q0, at rest, n wheels with the momenta hw and the body momentum that they make, the gimbals at +0.
@@ -120,13 +120,14 @@ pub fn next_dynamics(
     thrusters: &[f64; 36],
     f: Frame,
     skew: Skew,
+    lut: &[f64],
     n: usize,
     z: &[f64],
     i: usize,
     end: usize,
     l: Dynamics,
 ) -> Dynamics
-    requires { ⌜ (Sized r (gimbals (r .cmgs)) n) × (((n ≤ 12) × (length (now z) ≡ 193)) × ((end ≤ 16) × SkewOf (r .cmgs) skew)) ⌝ }
+    requires { ⌜ (Sized r (gimbals (r .cmgs)) n) × (((n ≤ 12) × (length (now z) ≡ 193)) × ((end ≤ 16) × AnglesOf (r .cmgs) skew (now lut))) ⌝ }
     ensures { λ x. ⌜ StepPartInner.Next (Steps.bodyWith r (now (wheels .entry)) powers (now (thrusters .entry)) f) n (now (z .entry)) i end l x ⌝ }
 {
     if i < end {
@@ -134,7 +135,19 @@ pub fn next_dynamics(
         let past = at + n;
         let s = l.s;
         let a = l.a;
-        return dynamics(r, wheels, powers, thrusters, f, skew, &z[at..past], i, s, a);
+        return dynamics(
+            r,
+            wheels,
+            powers,
+            thrusters,
+            f,
+            skew,
+            lut,
+            &z[at..past],
+            i,
+            s,
+            a,
+        );
     }
     l
 }
@@ -159,6 +172,7 @@ pub fn steps_on(
     thrusters: &[f64; 36],
     f: Frame,
     skew: Skew,
+    lut: &[f64],
     n: usize,
     z: &Decision,
     k: usize,
@@ -166,7 +180,7 @@ pub fn steps_on(
     c: Partway,
     nodes: &mut [[f64; 22]; SOLVER_NODES],
 ) -> Went
-    requires { ⌜ (Sized r (gimbals (r .cmgs)) n) × ((n ≤ 12) × (SkewOf (r .cmgs) skew × (PartLaws.Sound r c × ((k ≤ end) × (end ≤ 16))))) ⌝ }
+    requires { ⌜ (Sized r (gimbals (r .cmgs)) n) × ((n ≤ 12) × (AnglesOf (r .cmgs) skew (now lut) × (PartLaws.Sound r c × ((k ≤ end) × (end ≤ 16))))) ⌝ }
     ensures { λ x. ⌜ PartLaws.Reached (Steps.bodyWith r (now (wheels .entry)) powers (now (thrusters .entry)) f) n (now (z .entry)) k end c
         (now (nodes .entry)) x (now (nodes .exit)) ⌝ }
 {
@@ -178,7 +192,7 @@ pub fn steps_on(
     let mut square = c.square;
     let mut i: usize = k;
     while i <= end {
-        let next = next_dynamics(r, wheels, powers, thrusters, f, skew, n, z, i, end, l);
+        let next = next_dynamics(r, wheels, powers, thrusters, f, skew, lut, n, z, i, end, l);
         let turn = l.turn;
         let turned = geom::exp_at(turn, length);
         let next_turn = next.turn;
@@ -232,7 +246,8 @@ fn start_pyramid(p: CmgPyramid) -> GimbalStart
             }
         }
         Both::Are(s, c) => {
-            let m = pyramid_from(s, c, [0.0; 4]);
+            let none = [0.0; 0];
+            let m = pyramid_known(s, c, [0.0; 4], &none, 0);
             let a = m.a;
             let fate = m.fate;
             GimbalStart {
@@ -278,18 +293,19 @@ pub fn frame_of(p: CheckedProblem, dt: f64) -> Frame
     }
 }
 
-// Steps k up to `end` of a checked problem's run with the decision z, after its first k steps.
+// Steps k up to `end` of a checked problem's run with the decision z, after its first k steps; `lut` holds gimbal angles whose sines are known.
 pub fn steps_under(
     law: WheelLaw,
     p: CheckedProblem,
     z: &Decision,
     skew: Skew,
+    lut: &[f64],
     k: usize,
     end: usize,
     c: Partway,
     nodes: &mut [[f64; 22]; SOLVER_NODES],
 ) -> Went
-    requires { ⌜ PartLaws.Fits law p skew c × ((k ≤ end) × (end ≤ 16)) ⌝ }
+    requires { ⌜ PartLaws.Fits law p skew (now lut) c × ((k ≤ end) × (end ≤ 16)) ⌝ }
     ensures { λ x. ⌜ PartLaws.ReachedUnder law p (now (z .entry)) k end c (now (nodes .entry)) x (now (nodes .exit)) ⌝ }
 {
     let map = p.map;
@@ -306,6 +322,7 @@ pub fn steps_under(
         &thrusters,
         f,
         skew,
+        lut,
         n,
         z,
         k,
@@ -321,14 +338,15 @@ pub fn run_on(
     p: CheckedProblem,
     z: &Decision,
     skew: Skew,
+    lut: &[f64],
     k: usize,
     c: Partway,
     nodes: &mut [[f64; 22]; SOLVER_NODES],
 ) -> Went
-    requires { ⌜ PartLaws.Fits law p skew c × (k ≤ 16) ⌝ }
+    requires { ⌜ PartLaws.Fits law p skew (now lut) c × (k ≤ 16) ⌝ }
     ensures { λ x. ⌜ PartLaws.RanUnder law p (now (z .entry)) k c (now (nodes .entry)) x (now (nodes .exit)) ⌝ }
 {
-    let w = steps_under(law, p, z, skew, k, 16, c, nodes);
+    let w = steps_under(law, p, z, skew, lut, k, 16, c, nodes);
     let fate = w.fate;
     match fate {
         Fate::Refused(_, _) => return w,
@@ -342,7 +360,7 @@ pub fn run_on(
     w
 }
 
-// One forward run of a checked problem and a decision into lent rows, under a law of the wheels' torque.
+// One forward run of a checked problem and a decision into lent rows, under a law of the wheels' torque. No gimbal angle is known beforehand.
 pub fn run_into(
     law: WheelLaw,
     p: CheckedProblem,
@@ -367,7 +385,10 @@ pub fn run_into(
             fate: Fate::Refused(11, 0),
             at: c,
         },
-        Fate::Going => run_on(law, p, z, skew, 0, c, nodes),
+        Fate::Going => {
+            let none = [0.0; 0];
+            run_on(law, p, z, skew, &none, 0, c, nodes)
+        }
     }
 }
 

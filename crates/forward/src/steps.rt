@@ -9,7 +9,7 @@ ghost use Rattle.control_rows.specs.Parts.{Sized};
 ghost use Rattle.control_limits.specs.Limits.{powerExcess};
 ghost use Rattle.actuators.specs.declared.Cmgs.the-variants.{With};
 ghost use Rattle.forward.specs.Steps as Steps;
-ghost use Rattle.forward.specs.StepLaws.{SkewOf, Made, rooted};
+ghost use Rattle.forward.specs.StepLaws.{AnglesOf, Made, rooted};
 ghost use Rattle.forward.specs.StepPartInner as StepPartInner;
 ghost use lib.Ieee.{binary64, lt};
 ghost use Rattle.float.specs.Sqrt.{sqrt};
@@ -98,20 +98,21 @@ pub fn refuse_gimbals(number: usize, k: usize) -> GimbalStep
     }
 }
 
-// The pyramid's gimbals after step k, its matrix there, and whether it is singular.
+// The pyramid's gimbals after step k, its matrix there, and whether it is singular. Angles that stand in the table `lut` are looked up.
 pub fn step_pyramid(
     p: CmgPyramid,
     skew: Skew,
+    lut: &[f64],
     u: &[f64],
     d: [f64; 4],
     dt: f64,
     k: usize,
 ) -> GimbalStep
-    requires { ⌜ (4 ≤ length (now u)) × SkewOf (With p) skew ⌝ }
+    requires { ⌜ (4 ≤ length (now u)) × AnglesOf (With p) skew (now lut) ⌝ }
     ensures { λ r. ⌜ r ≡ Steps.stepGimbals (With p) (now (u .entry)) d dt k ⌝ }
 {
     let e = gimbals_next(u, d, dt);
-    let m = actuators::pyramid::pyramid_from(skew.sine, skew.cosine, e);
+    let m = gimbal_angles::pyramid_known(skew.sine, skew.cosine, e, lut, k);
     let fate = m.fate;
     match fate {
         Fate::Refused(_, _) => refuse_gimbals(11, k),
@@ -130,8 +131,16 @@ pub fn step_pyramid(
 }
 
 // The gimbals after step k; with no pyramid they stay.
-pub fn step_gimbals(c: Cmgs, skew: Skew, u: &[f64], d: [f64; 4], dt: f64, k: usize) -> GimbalStep
-    requires { ⌜ (gimbals c ≤ length (now u)) × SkewOf c skew ⌝ }
+pub fn step_gimbals(
+    c: Cmgs,
+    skew: Skew,
+    lut: &[f64],
+    u: &[f64],
+    d: [f64; 4],
+    dt: f64,
+    k: usize,
+) -> GimbalStep
+    requires { ⌜ (gimbals c ≤ length (now u)) × AnglesOf c skew (now lut) ⌝ }
     ensures { λ r. ⌜ r ≡ Steps.stepGimbals c (now (u .entry)) d dt k ⌝ }
 {
     match c {
@@ -143,7 +152,7 @@ pub fn step_gimbals(c: Cmgs, skew: Skew, u: &[f64], d: [f64; 4], dt: f64, k: usi
                 a: a,
             }
         }
-        Cmgs::With(p) => step_pyramid(p, skew, u, d, dt, k),
+        Cmgs::With(p) => step_pyramid(p, skew, lut, u, d, dt, k),
     }
 }
 
@@ -229,12 +238,13 @@ pub fn finish_dynamics(
     thrusters: &[f64; 36],
     f: Frame,
     skew: Skew,
+    lut: &[f64],
     u: &[f64],
     k: usize,
     s: BodyState,
     l: Dynamics,
 ) -> Dynamics
-    requires { ⌜ (Sized r (gimbals (r .cmgs)) (length (now u))) × SkewOf (r .cmgs) skew ⌝ }
+    requires { ⌜ (Sized r (gimbals (r .cmgs)) (length (now u))) × AnglesOf (r .cmgs) skew (now lut) ⌝ }
     ensures { λ x. ⌜ StepPartInner.Finished (Steps.bodyWith r (now (wheels .entry)) powers (now (thrusters .entry)) f) (now (u .entry)) k s l x ⌝ }
 {
     let dt = f.dt;
@@ -245,7 +255,7 @@ pub fn finish_dynamics(
     let hw = s.hw;
     let w = s.w;
     let d = s.delta;
-    let g = step_gimbals(cmgs, skew, &u[at..end], d, dt, k);
+    let g = step_gimbals(cmgs, skew, lut, &u[at..end], d, dt, k);
     let fate = g.fate;
     match fate {
         Fate::Refused(number, place) => return refuse_dynamics(number, place, l),
@@ -281,12 +291,13 @@ pub fn dynamics(
     thrusters: &[f64; 36],
     f: Frame,
     skew: Skew,
+    lut: &[f64],
     u: &[f64],
     k: usize,
     s: BodyState,
     a: [f64; 12],
 ) -> Dynamics
-    requires { ⌜ (Sized r (gimbals (r .cmgs)) (length (now u))) × SkewOf (r .cmgs) skew ⌝ }
+    requires { ⌜ (Sized r (gimbals (r .cmgs)) (length (now u))) × AnglesOf (r .cmgs) skew (now lut) ⌝ }
     ensures { λ x. ⌜ (Made (r .cmgs) (s .delta) a → StepPartInner.DynamicsOf (Steps.bodyWith r (now (wheels .entry)) powers (now (thrusters .entry)) f)
         (now (u .entry)) k s x) ⌝ }
 {
@@ -301,7 +312,7 @@ pub fn dynamics(
     let square = defect_square(j, w, h, tau, wd);
     let turn = turn_of(w, w2, dt);
     let l = dynamics_at(tau, square, w2, turn, s, a);
-    finish_dynamics(r, wheels, powers, thrusters, f, skew, u, k, s, l)
+    finish_dynamics(r, wheels, powers, thrusters, f, skew, lut, u, k, s, l)
 }
 
 // The attitude q after a turn, whose quaternion is made.

@@ -19,8 +19,8 @@ use Rattle.normal_equations.specs.Tab.{tab}
 use Rattle.normal_equations.specs.TabLaws.{getD-tab, tab-same}
 use Rattle.normal_equations.specs.Rows.{row, rows}
 use Rattle.normal_equations.specs.RowsLaws.{line-rows}
-use Rattle.normal_equations.specs.Normal.{line, fdEps, slopes, normalMatrix, rightSide, dot}
-use Rattle.normal_equations.specs.NormalLaws.{normal-sums, right-sums}
+use Rattle.normal_equations.specs.Normal.{line, fdEps, slopes, gram, damped, normalMatrix, rightSide, dot}
+use Rattle.normal_equations.specs.NormalLaws.{gram-sums, normal-damped, right-sums}
 use Rattle.kept_rows.specs.Kept.{Laid, beforeBy, before, leftOut, place, kept, Gathered, Zeros, scatter, columns}
 
 -- ---- where a row stands
@@ -143,12 +143,16 @@ module _ (n m : ℕ) (v : List Float) (l : Laid m) where
       rw (line-columns c hc, line-columns d hd, line-rows n (kept m) v c hc, line-rows n (kept m) v d hd)
       (dot-kept m (scatter m a) (scatter m b) a b (scatter-gathered m a) (scatter-gathered m b) (scatter-zeros m a) (scatter-zeros m b) l)
 
-  -- the matrix of the kept rows is that of all rows
+  -- the Gram matrix of the kept rows is that of all rows, and so is the normal matrix
+  pub gram-kept : gram n m (columns n m v) ≡ gram n (kept m) (rows n (kept m) v)
+  gram-kept =
+      gram-sums n m (columns n m v)
+      ∙ tab-same n _ _ (λ c hc. tab-same n _ _ (λ d hd. dot-columns c d hc hd))
+      ∙ sym (gram-sums n (kept m) (rows n (kept m) v))
+
   pub matrix-kept : (lambda : Float) → normalMatrix n m (columns n m v) lambda ≡ normalMatrix n (kept m) (rows n (kept m) v) lambda
   matrix-kept lambda =
-      normal-sums n m (columns n m v) lambda
-      ∙ tab-same n _ _ (λ c hc. tab-same n _ _ (λ d hd. ap (λ s. cond (eqb c d) (add binary64 s lambda) s) (dot-columns c d hc hd)))
-      ∙ sym (normal-sums n (kept m) (rows n (kept m) v) lambda)
+      sym (normal-damped n m (columns n m v) lambda) ∙ ap (λ a. damped n lambda a) gram-kept ∙ normal-damped n (kept m) (rows n (kept m) v) lambda
 
   -- and the right side, x being the kept rows of the residuals r
   pub right-kept : (r x : List Float) → Gathered m r x → Zeros m r → rightSide n m (columns n m v) r ≡ rightSide n (kept m) (rows n (kept m) v) x

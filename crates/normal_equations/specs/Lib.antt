@@ -10,4 +10,5 @@ pub mod TabLaws  -- its length, its places, that its places decide it
 pub mod NormalLaws  -- each cell is one sum over the residual rows, in order from +0
 -- ---- inner words of proofs
 pub mod FilledInner  -- what a storing loop has done so far
+pub mod DampInner  -- what a loop that damps a diagonal has done so far
 pub mod Inner  -- what the functions inside the crate say of the parts lent to them

@@ -35,6 +35,10 @@ rowOnto n j i a = tab n (λ c. tab n (λ d. add binary64 (cell a c d) (mul binar
 unfoldable pub blank : ℕ → List (List Float)
 blank n = tab n (λ c. tab n (λ d. plusZero))
 
+-- the Gram matrix of the columns, each cell the sum of the products of two of them: the m residual rows in order
+unfoldable pub gram : ℕ → ℕ → List (List Float) → List (List Float)
+gram n m j = iter (rowOnto n j) (blank n) m
+
 -- a[k][k] += lambda
 unfoldable pub damped : ℕ → Float → List (List Float) → List (List Float)
 damped n lambda a = tab n (λ c. tab n (λ d. cond (eqb c d) (add binary64 (cell a c d) lambda) (cell a c d)))

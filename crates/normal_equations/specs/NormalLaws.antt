@@ -1,14 +1,13 @@
 -- Each cell of the normal equations is one sum over the residual rows, in order from +0.0. Assumes nothing.
 use Prim.Native.Nat.{ℕ, zero, suc, _+_, _*_, _<_, _≤_}
 use native.Mathlib.Omega.{arith}
-use lib.ListN.{length, take, drop, set, length-set}
-use lib.Seq.{getD-set-same, getD-set-other}
-use borrow.Author.Tests.{le-ltb, ltb-true, ltb-false, eq-eqb, ne-eqb, eqb-true, eqb-false}
+use lib.ListN.{length, take, drop, set}
+use borrow.Author.Tests.{ltb-true, ltb-false}
 use Rattle.common.specs.Floats.{plusZero}
 use Rattle.normal_equations.specs.FilledInner.{Filled, filled-four}
 use native.Mathlib.Nat.{mul-comm, add-mul}
 use mathlib.Core.Bool.{Bool, true, false, cond}
-use mathlib.Core.Path.{_≡_, refl, ap, sym, subst, _∙_}
+use mathlib.Core.Path.{_≡_, refl, ap, sym, _∙_}
 use mathlib.Core.List.{List, []}
 use lib.Dec.{eqb, ltb}
 use lib.Ieee.{Float, nan, inf, fin, Format, binary64, add, mul, neg, unlike, up, down}
@@ -16,8 +15,9 @@ use Rattle.common.specs.Iter.{iter}
 use Rattle.common.specs.Lists.{at, slice}
 use Rattle.normal_equations.specs.Tab.{tab}
 use Rattle.normal_equations.specs.TabLaws.{getD-tab, tab-same, tab-of}
-use Rattle.normal_equations.specs.Normal.{line, cell, rowOnto, blank, damped, normalMatrix, termOnto, rightSide, dot}
-use Rattle.normal_equations.specs.Inner.{cellsOf, Dots, sumsOf, Summed, dampedSum, mirroredAt, mirroredRow}
+use Rattle.normal_equations.specs.Normal.{line, cell, rowOnto, blank, gram, damped, normalMatrix, termOnto, rightSide, dot}
+use Rattle.normal_equations.specs.Inner.{cellsOf, Dots, sumsOf, Summed, mirroredAt, mirroredRow, Completed}
+use Rattle.normal_equations.specs.Placed.{Equations}
 use Rattle.normal_equations.specs.Rows.{row, rows}
 use Rattle.normal_equations.specs.RowsLaws.{length-row, part-row, line-rows, at-row}
 
@@ -41,12 +41,17 @@ normal-cell n m j lambda c d hc hd =
     cell-tab n (λ x y. cond (eqb x y) (add binary64 (cell (iter (rowOnto n j) (blank n) m) x y) lambda) (cell (iter (rowOnto n j) (blank n) m) x y)) c d hc hd
     ∙ ap (λ s. cond (eqb c d) (add binary64 s lambda) s) (sum-cell n m j c d hc hd)
 
--- the matrix, sum by sum
-pub normal-sums : (n m : ℕ) (j : List (List Float)) (lambda : Float)
-    → normalMatrix n m j lambda ≡ tab n (λ c. tab n (λ d. cond (eqb c d) (add binary64 (dot m (line j c) (line j d)) lambda) (dot m (line j c) (line j d))))
-unfolding normalMatrix damped
-normal-sums n m j lambda =
-    tab-same n _ _ (λ c hc. tab-same n _ _ (λ d hd. ap (λ s. cond (eqb c d) (add binary64 s lambda) s) (sum-cell n m j c d hc hd)))
+-- the matrix is the Gram matrix, damped
+pub normal-damped : (n m : ℕ) (j : List (List Float)) (lambda : Float) → damped n lambda (gram n m j) ≡ normalMatrix n m j lambda
+unfolding normalMatrix gram
+normal-damped n m j lambda = refl
+
+-- the Gram matrix, sum by sum
+pub gram-sums : (n m : ℕ) (j : List (List Float)) → gram n m j ≡ tab n (λ c. tab n (λ d. dot m (line j c) (line j d)))
+unfolding gram iter rowOnto blank
+gram-sums n zero j = refl
+gram-sums n (suc m) j =
+    tab-same n _ _ (λ c hc. tab-same n _ _ (λ d hd. ap (λ s. add binary64 s (mul binary64 (cell j c m) (cell j d m))) (sum-cell n m j c d hc hd)))
 
 -- the sums of the right side
 pub right-sum : (n m : ℕ) (j : List (List Float)) (r : List Float) (c : ℕ) → c < n → at (iter (termOnto n j r) (tab n (λ k. plusZero)) m) c ≡ dot m (line j c) r
@@ -86,9 +91,9 @@ dot-comm zero p q = refl
 dot-comm (suc m) p q = rw (dot-comm m p q, float-mul-comm binary64 (at p m) (at q m))
 
 -- the same for columns and rows that lie one after the other
-pub normal-rows : (n m : ℕ) (j : List Float) (lambda : Float) → normalMatrix n m (rows n m j) lambda ≡ tab n (λ c. tab n (dampedSum m j lambda c))
-normal-rows n m j lambda =
-    normal-sums n m (rows n m j) lambda
+pub gram-rows : (n m : ℕ) (j : List Float) → gram n m (rows n m j) ≡ tab n (λ c. tab n (sumsOf m j c))
+gram-rows n m j =
+    gram-sums n m (rows n m j)
     ∙ tab-same n _ _ (λ c hc. tab-same n _ _ (λ d hd. rw (line-rows n m j c hc, line-rows n m j d hd)))
 
 pub right-rows : (n m : ℕ) (j r : List Float) → rightSide n m (rows n m j) r ≡ tab n (λ c. neg (dot m (row m j c) r))
@@ -121,41 +126,36 @@ pub summed : (m : ℕ) (j p : List Float) (c a n : ℕ) (g : ℕ → Float) (r :
 summed m j p c a n g r e h f x l b =
     f .done x l b ∙ ap (λ q. cellsOf q j x) e ∙ ap (λ k. dot k (row m j c) (row k j x)) (length-row m j c h)
 
--- a row whose cells from the diagonal on are summed, whose cells before it are taken from the rows above, and whose diagonal is damped
-pub row-mirrored : (n m : ℕ) (v : List Float) (lambda : Float) (c : ℕ) (p q : List Float) → c < n → length q ≡ n
+-- a row whose cells from the diagonal on are summed, and whose cells before it are taken from the rows above
+pub row-mirrored : (n m : ℕ) (v : List Float) (c : ℕ) (p q : List Float) → length q ≡ n
     → Summed m (take (n * m) v) c c n p → Filled (λ d. at (drop (n * m) v) (d * n + c)) 0 c (at p) (at q)
-    → set q c (add binary64 (at q c) lambda) ≡ mirroredRow n m v lambda c
+    → q ≡ mirroredRow n m v c
 unfolding mirroredRow
-row-mirrored n m v lambda c p q hc lq f h =
-    tab-of n (mirroredAt n m v lambda c) nan (set q c y) (length-set q c y ∙ lq) (λ x l. by x l (eqb x c) refl (ltb x c) refl)
+row-mirrored n m v c p q lq f h = tab-of n (mirroredAt n m v c) nan q lq (λ x l. by x l (ltb x c) refl)
   where
-    y : Float
-    y = add binary64 (at q c) lambda
+    by : (x : ℕ) → x < n → (t : Bool) → ltb x c ≡ t → at q x ≡ mirroredAt n m v c x
+    by x l true d = h .done x (omega arith) (ltb-true x c d) ∙ rw d
+    by x l false d = h .above x (ltb-false x c d) ∙ f x (ltb-false x c d) l ∙ rw d
 
-    own : add binary64 (sumsOf m (take (n * m) v) c c) lambda ≡ mirroredAt n m v lambda c c
-    own = rw (le-ltb c c (omega arith), eq-eqb c c refl)
-
-    by : (x : ℕ) → x < n → (s : Bool) → eqb x c ≡ s → (t : Bool) → ltb x c ≡ t → at (set q c y) x ≡ mirroredAt n m v lambda c x
-    by x l true e t _ =
-        subst (λ z. at (set q c y) z ≡ mirroredAt n m v lambda c z) (sym (eqb-true x c e))
-        (getD-set-same q c y nan (omega arith) ∙ ap (λ s. add binary64 s lambda) (h .above c (omega arith) ∙ f c (omega arith) hc) ∙ own)
-    by x l false e true d = getD-set-other q c x y nan (eqb-false x c e) ∙ h .done x (omega arith) (ltb-true x c d) ∙ rw d
-    by x l false e false d =
-        getD-set-other q c x y nan (eqb-false x c e) ∙ h .above x (ltb-false x c d) ∙ f x (ltb-false x c d) l
-        ∙ rw (d, ne-eqb c x (λ z. eqb-false x c e (sym z)))
-
--- such a row is the matrix's own, since the matrix is its own mirror image
-pub row-right : (n m : ℕ) (v w : List Float) (lambda : Float) (c : ℕ) → c < n → take (n * m) v ≡ w
-    → ((x : ℕ) → x < c → row n (drop (n * m) v) x ≡ tab n (dampedSum m w lambda x)) → mirroredRow n m v lambda c ≡ tab n (dampedSum m w lambda c)
+-- such a row is the Gram matrix's own, since that is its own mirror image
+pub row-right : (n m : ℕ) (v w : List Float) (c : ℕ) → c < n → take (n * m) v ≡ w
+    → ((x : ℕ) → x < c → row n (drop (n * m) v) x ≡ tab n (sumsOf m w x)) → mirroredRow n m v c ≡ tab n (sumsOf m w c)
 unfolding mirroredRow
-row-right n m v w lambda c hc same done = tab-same n (mirroredAt n m v lambda c) (dampedSum m w lambda c) (λ d l. by d l (ltb d c) refl)
+row-right n m v w c hc same done = tab-same n (mirroredAt n m v c) (sumsOf m w c) (λ d l. by d l (ltb d c) refl)
   where
-    across : (d : ℕ) → d < c → dampedSum m w lambda d c ≡ dampedSum m w lambda c d
-    across d l = rw (ne-eqb d c (λ e. omega arith), ne-eqb c d (λ e. omega arith)) (dot-comm m (row m w d) (row m w c))
-
-    by : (d : ℕ) → d < n → (t : Bool) → ltb d c ≡ t → mirroredAt n m v lambda c d ≡ dampedSum m w lambda c d
+    by : (d : ℕ) → d < n → (t : Bool) → ltb d c ≡ t → mirroredAt n m v c d ≡ sumsOf m w c d
     by d l true e =
         rw e
-        (sym (at-row n (drop (n * m) v) d c hc) ∙ ap (λ r. at r c) (done d (ltb-true d c e)) ∙ getD-tab n (dampedSum m w lambda d) nan c hc
-        ∙ across d (ltb-true d c e))
-    by d l false e = rw e (ap (λ j. dampedSum m j lambda c d) same)
+        (sym (at-row n (drop (n * m) v) d c hc) ∙ ap (λ r. at r c) (done d (ltb-true d c e)) ∙ getD-tab n (sumsOf m w d) nan c hc
+        ∙ dot-comm m (row m w d) (row m w c))
+    by d l false e = rw e (ap (λ j. sumsOf m j c d) same)
+
+-- u has the columns that begin v, and behind them their Gram matrix: damped, it is the matrix of the normal equations of v
+pub gram-equations : (n m : ℕ) (v u r : List Float) (lambda : Float) (w g : List Float) → take (n * m) u ≡ take (n * m) v
+    → rows n n (drop (n * m) u) ≡ gram n m (rows n m (take (n * m) v)) → Completed n m u r lambda w g → Equations n m v r lambda w g
+gram-equations n m v u r lambda w g e h t =
+    record {
+      columns = t .columns ∙ e;
+      matrix = t .matrix ∙ ap (λ a. damped n lambda a) h ∙ normal-damped n m (rows n m (take (n * m) v)) lambda;
+      right = t .right ∙ ap (λ j. rightSide n m (rows n m j) r) e;
+    }

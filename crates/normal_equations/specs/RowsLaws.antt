@@ -14,7 +14,7 @@ use borrow.Author.Tests.{ltb-true, ltb-false}
 use Rattle.common.specs.IterLaws.{row-end}
 use Rattle.common.specs.Lists.{at, slice, pasted}
 use Rattle.normal_equations.specs.Tab.{tab}
-use Rattle.normal_equations.specs.TabLaws.{getD-tab}
+use Rattle.normal_equations.specs.TabLaws.{getD-tab, tab-same}
 use Rattle.normal_equations.specs.Rows.{row, rows}
 
 pub length-row : (w : ℕ) (v : List Float) (i : ℕ) → i * w + w ≤ length v → length (row w v i) ≡ w
@@ -114,3 +114,7 @@ row-take n w v i h room =
     let l : length (row w (take (n * w) v) i) ≡ w = length-row w (take (n * w) v) i (omega arith) in
     ext-getD nan (row w (take (n * w) v) i) (row w v i) (l ∙ sym (length-row w v i (omega arith)))
     (λ j b. at-row w (take (n * w) v) i j (omega arith) ∙ getD-take (n * w) v (i * w + j) nan (omega arith) ∙ sym (at-row w v i j (omega arith)))
+
+-- all of them
+pub rows-take : (n w : ℕ) (v : List Float) → n * w ≤ length v → rows n w (take (n * w) v) ≡ rows n w v
+rows-take n w v room = tab-same n _ _ (λ i h. row-take n w v i h room)

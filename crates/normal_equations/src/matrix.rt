@@ -1,4 +1,4 @@
-// Rows of the normal matrix: half of it is summed, the rest mirrored.
+// Rows of the Gram matrix: half of it is summed, the rest mirrored.
 ghost use mathlib.Core.Path.{_≡_};
 ghost use Prim.Native.Nat.{_+_, _*_, _<_};
 ghost use lib.ListN.{length, take};
@@ -23,44 +23,36 @@ fn mirror(a: &[f64], c: usize, row: &mut [f64])
 }
 
 // Row c of the matrix is filled in, the rows above it being filled in: v holds the columns of the Jacobian, then the matrix; row holds the sums from the diagonal on.
-fn put_sums(v: &mut [f64], m: usize, lambda: f64, c: usize, row: &mut [f64])
+fn put_sums(v: &mut [f64], m: usize, c: usize, row: &mut [f64])
     requires { ⌜ (c < length (now row))
         × (length (now v) ≡ length (now row) * m + length (now row) * length (now row))
         × (Inner.Summed m (take (length (now row) * m) (now v)) c c (length (now row)) (now row)) ⌝ }
-    ensures { λ _. ⌜ Inner.RowFilled (length (now (row .entry))) m (now (v .entry)) lambda c (now (v .exit)) ⌝ }
+    ensures { λ _. ⌜ Inner.RowFilled (length (now (row .entry))) m (now (v .entry)) c (now (v .exit)) ⌝ }
 {
     let o = row.len() * m;
     mirror(&v[o..], c, row);
-    row[c] = row[c] + lambda;
     put_row(&mut v[o..], c, row);
 }
 
 // Row c alone; row is scratch.
-pub fn matrix_row(v: &mut [f64], m: usize, lambda: f64, c: usize, row: &mut [f64])
+pub fn matrix_row(v: &mut [f64], m: usize, c: usize, row: &mut [f64])
     requires { ⌜ (c < length (now row)) × (length (now v) ≡ length (now row) * m + length (now row) * length (now row)) ⌝ }
-    ensures { λ _. ⌜ Inner.RowFilled (length (now (row .entry))) m (now (v .entry)) lambda c (now (v .exit)) ⌝ }
+    ensures { λ _. ⌜ Inner.RowFilled (length (now (row .entry))) m (now (v .entry)) c (now (v .exit)) ⌝ }
 {
     let o = row.len() * m;
     sum_row(&v[..o], m, c, row);
-    put_sums(v, m, lambda, c, row);
+    put_sums(v, m, c, row);
 }
 
 // Rows c and c + 1; row and next are scratch.
-pub fn matrix_rows(
-    v: &mut [f64],
-    m: usize,
-    lambda: f64,
-    c: usize,
-    row: &mut [f64],
-    next: &mut [f64],
-)
+pub fn matrix_rows(v: &mut [f64], m: usize, c: usize, row: &mut [f64], next: &mut [f64])
     requires { ⌜ (c + 1 < length (now row))
         × (length (now next) ≡ length (now row))
         × (length (now v) ≡ length (now row) * m + length (now row) * length (now row)) ⌝ }
-    ensures { λ _. ⌜ Inner.RowsFilled (length (now (row .entry))) m (now (v .entry)) lambda c (now (v .exit)) ⌝ }
+    ensures { λ _. ⌜ Inner.RowsFilled (length (now (row .entry))) m (now (v .entry)) c (now (v .exit)) ⌝ }
 {
     let o = row.len() * m;
     sums(&v[..o], m, c, row, next);
-    put_sums(v, m, lambda, c, row);
-    put_sums(v, m, lambda, c + 1, next);
+    put_sums(v, m, c, row);
+    put_sums(v, m, c + 1, next);
 }

@@ -36,7 +36,7 @@ pub record SearchEquations (p : CheckedProblem) (z r0 : List Float) (lambda : Fl
   pub sides : (c : ℕ) → c < numbers p → at g c ≡ neg (dot (width p) (line columns c) r0)
 
 -- THE CHAIN: with the kept rows of the columns of `jacobian p z r0` in the front of the workspace v, and those of the residuals r0 in x, the matrix and the right side that
--- `normal_equations::equations` forms are those that the search names
+-- `normal_equations::equations` and `kept_equations` form are those that the search names
 pub formed-equations-are-the-searchs : (p : CheckedProblem) (z r0 x v u g : List Float) (lambda : Float) {n m : ℕ} → n ≡ numbers p → m ≡ width p
     → jacobian p z r0 ≡ Formed (columnsIn n m v) → Gathered m r0 x → Zeros m r0 → Equations n (kept m) v x lambda u g
     → SearchEquations p z r0 lambda (rows n n (drop (n * kept m) u)) g

@@ -2,7 +2,7 @@
 use Prim.Native.Nat.{ℕ, _+_, _*_, _≤_}
 use mathlib.Core.Path.{_≡_, refl, ap, sym, subst, _∙_}
 use mathlib.Core.Logic.{inl, inr}
-use mathlib.Core.Bool.{Bool, true, false, cond}
+use mathlib.Core.Bool.{Bool, true, false, cond, true≢false}
 use mathlib.Core.List.{List}
 use native.Mathlib.Nat.{mul-add, mul-le-mul, le-refl}
 use native.Mathlib.Omega.{arith}
@@ -20,6 +20,7 @@ use Rattle.residuals.specs.Residuals.{residualsOf}
 use Rattle.normal_equations.specs.Normal.{slopes}
 use Rattle.normal_equations.specs.Rows.{row}
 use Rattle.normal_equations.specs.Placed.{ColumnPut}
+use Rattle.damped_steps.specs.Gram.{GramKept}
 use Rattle.kept_rows.specs.Kept.{Laid, kept, Gathered, Zeros, scatter, columns}
 use Rattle.kept_rows.specs.KeptLaws.{kept-most}
 use Rattle.kept_rows.specs.ZeroLaws.{residuals-zeros}
@@ -125,21 +126,36 @@ pub record Known (p : CheckedProblem) (c : Candidate) (r : List Float) : Type 0 
   pub are : residualsOf p (c .z) .r ≡ r
   pub long : c .residual ≡ normSlice r (width p)
 
--- of a candidate with its residuals; where the columns are told to be there, j is its Jacobian
-pub record Standing (p : CheckedProblem) (c : Candidate) (r : List Float) (columns : Bool) (j : List (List Float)) : Type 0 where
+-- r is the residuals of the decision z, whose run goes on
+pub record Answers (p : CheckedProblem) (z r : List Float) : Type 0 where
+  pub goes : residualsOf p z .fate ≡ Fate.Going
+  pub are : residualsOf p z .r ≡ r
+
+-- x has the kept rows of its m residuals
+pub record AnswersKept (p : CheckedProblem) (m : ℕ) (z x : List Float) : Type 0 where
+  pub goes : residualsOf p z .fate ≡ Fate.Going
+  pub rows : Gathered m (residualsOf p z .r) x
+
+-- of a candidate with its residuals; where the columns are told to be there, j is its Jacobian, and its Gram matrix is kept in a
+pub record Standing (p : CheckedProblem) (c : Candidate) (r : List Float) (columns : Bool) (j : List (List Float)) (a : List Float) : Type 0 where
   pub known : Known p c r
   pub formed : columns ≡ true → jacobian p (c .z) r ≡ Formed j
+  pub summed : columns ≡ true → GramKept (numbers p) (width p) j a
 
-abbrev pub Holds : CheckedProblem → List (List Float) → Progress → Type 0
-Holds p j g = Standing p (g .state .candidate) (g .r) (g .columns) j
+abbrev pub Holds : CheckedProblem → List (List Float) → List Float → Progress → Type 0
+Holds p j a g = Standing p (g .state .candidate) (g .r) (g .columns) j a
 
--- what holds of g holds of x, whatever columns the workspace has
+-- what holds of g holds of x, whatever columns the workspace has and whatever is kept of them
 abbrev pub Keeps : CheckedProblem → Progress → Progress → Type 0
-Keeps p g x = (j : List (List Float)) → Holds p j g → Holds p j x
+Keeps p g x = (j : List (List Float)) (a : List Float) → Holds p j a g → Holds p j a x
 
 -- the same residuals and columns beside another state
 abbrev pub withState : Progress → SearchState → Progress
 withState g s = record { state = s; r = g .r; columns = g .columns }
+
+-- a state with so many runs more, after so many iterations
+abbrev pub counted : SearchState → ℕ → ℕ → SearchState
+counted s more iterations = record { candidate = s .candidate; lambda = s .lambda; iterations = iterations; runs = s .runs + more; status = s .status }
 
 -- the seed, whose residuals are r, of which m count
 abbrev pub start : ℕ → List Float → List Float → Progress
@@ -149,6 +165,9 @@ start m seed r = record { state = record { candidate = seedCandidate seed r m; l
 
 pub known-of : {p : CheckedProblem} (c : Candidate) {e : ResidualVector} {m : ℕ} → e ≡ residualsOf p (c .z) → e .fate ≡ Fate.Going → m ≡ width p → c .residual ≡ normSlice (e .r) m → Known p c (e .r)
 known-of {p} c {e} q g em l = record { goes = rw (← q) g; are = rw (← q) refl; long = l ∙ ap (λ x. normSlice (e .r) x) em }
+
+pub answers-kept : {p : CheckedProblem} {m : ℕ} {z r x : List Float} → Answers p z r → Gathered m r x → AnswersKept p m z x
+answers-kept {p} {m} {z} {r} {x} a g = record { goes = a .goes; rows = subst (λ y. Gathered m y x) (sym (a .are)) g }
 
 -- a column whose kept rows were put
 pub column-stands : {m c : ℕ} {x y v u : List Float} → ColumnPut (kept m) c y v u → scatter m y ≡ x → ColumnStands m c x v u
@@ -164,12 +183,16 @@ pub known-zeros : {p : CheckedProblem} {c : Candidate} {r : List Float} {m : ℕ
 known-zeros {p} {c} k e = rw (← k .are) (width-zeros p (c .z) e)
 
 -- a decision that was let in: its columns are not there
-pub stands-new : {p : CheckedProblem} {c : Candidate} {r : List Float} {j : List (List Float)} → Known p c r → Standing p c r false j
-stands-new k = record { known = k; formed = λ e. let z : _≡_ {A = ℕ} 0 1 = cc in absurd (omega arith) }
+pub stands-new : {p : CheckedProblem} {c : Candidate} {r : List Float} {j : List (List Float)} {a : List Float} → Known p c r → Standing p c r false j a
+stands-new k = record { known = k; formed = λ e. absurd (true≢false (sym e)); summed = λ e. absurd (true≢false (sym e)) }
 
--- its columns are formed, or a refusal left something else in their place
-pub stands-formed : {p : CheckedProblem} {c : Candidate} {r : List Float} {columns : Bool} {j i : List (List Float)} → Standing p c r columns j → jacobian p (c .z) r ≡ Formed i → Standing p c r true i
-stands-formed h e = record { known = h .known; formed = λ b. e }
+-- its columns are formed and summed, or a refusal left something else in their place
+pub stands-formed : {p : CheckedProblem} {c : Candidate} {r : List Float} {columns : Bool} {j i : List (List Float)} {a b : List Float} {n m : ℕ} → Standing p c r columns j a → n ≡ numbers p → m ≡ width p
+    → jacobian p (c .z) r ≡ Formed i → GramKept n m i b → Standing p c r true i b
+stands-formed h en em e s = record { known = h .known; formed = λ _. e; summed = λ _. rw (← en, ← em) s }
 
-pub stands-broken : {p : CheckedProblem} {c : Candidate} {r : List Float} {columns : Bool} {j i : List (List Float)} → Standing p c r columns j → Standing p c r false i
+pub stands-summed : {p : CheckedProblem} {c : Candidate} {r : List Float} {columns : Bool} {j : List (List Float)} {a : List Float} {n m : ℕ} → Standing p c r columns j a → n ≡ numbers p → m ≡ width p → columns ≡ true → GramKept n m j a
+stands-summed h en em e = rw (en, em) (h .summed e)
+
+pub stands-broken : {p : CheckedProblem} {c : Candidate} {r : List Float} {columns : Bool} {j i : List (List Float)} {a b : List Float} → Standing p c r columns j a → Standing p c r false i b
 stands-broken h = stands-new (h .known)

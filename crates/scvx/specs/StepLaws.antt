@@ -18,8 +18,9 @@ use Rattle.residuals.specs.Residuals.{residualsOf}
 use Rattle.residuals.specs.declared.ResidualVector.{ResidualVector}
 use Rattle.normal_equations.specs.Rows.{rows}
 use Rattle.elimination.specs.Elimination.{Solution, told, dampedStep}
+use Rattle.damped_steps.specs.Gram.{GramKept}
 use Rattle.kept_rows.specs.Kept.{Laid, kept, Gathered, Zeros}
-use Rattle.kept_rows.specs.KeptLaws.{matrix-kept, right-kept}
+use Rattle.kept_rows.specs.KeptLaws.{gram-kept, matrix-kept, right-kept}
 use Rattle.scvx.specs.declared.Status.{Status}
 use Rattle.scvx.specs.declared.Status.the-variants.{Going, Ended, Refused}
 use Rattle.scvx.specs.declared.Candidate.{Candidate}
@@ -42,6 +43,21 @@ module _ (w n m : ℕ) (v : List Float) (e : w ≡ n) (fits : n * m + n * n ≤ 
       take-append-le (n * m) u (drop (n * m + n * n) v) (omega (arith, length-take-le (n * m + n * n) v fits))
       ∙ subst (λ k. take (k * m) u ≡ take (k * m) (take (n * m + n * n) v)) e h
       ∙ inside
+
+  -- a Gram matrix that is kept
+  pub gram-front : (a : List Float) → GramKept n m (rows n m (take (n * m) v)) a → GramKept w m (rows w m (take (w * m) (take (n * m + n * n) v))) a
+  gram-front a h = subst (λ k. GramKept k m (rows k m (take (k * m) (take (n * m + n * n) v))) a) (sym e) (subst (λ u. GramKept n m (rows n m u) a) (sym inside) h)
+
+  pub gram-whole : (a : List Float) → GramKept n m (rows n m (take (n * m) (take (n * m + n * n) v))) a → GramKept n m (rows n m (take (n * m) v)) a
+  gram-whole a h = subst (λ u. GramKept n m (rows n m u) a) inside h
+
+-- the Gram matrix of the kept rows is that of all rows
+module _ (n m : ℕ) (v a : List Float) (l : Laid m) where
+  pub gram-of-kept : GramKept n m (columnsIn n m v) a → GramKept n (kept m) (rows n (kept m) (take (n * kept m) v)) a
+  gram-of-kept h room = h room ∙ gram-kept n m (take (n * kept m) v) l
+
+  pub gram-of-all : GramKept n (kept m) (rows n (kept m) (take (n * kept m) v)) a → GramKept n m (columnsIn n m v) a
+  gram-of-all h room = h room ∙ sym (gram-kept n m (take (n * kept m) v) l)
 
 -- the step of the kept rows is that of all rows
 pub step-kept : (n m : ℕ) (v r x : List Float) (lambda : Float) → Laid m → Gathered m r x → Zeros m r
@@ -81,7 +97,7 @@ module _ (p : CheckedProblem) (s : SearchState) (r : List Float) where
   linear-step-broken e = sym (ap (λ (x : Columns). linearStepBy p s r x) e)
 
 -- ---- an iteration whose decision's residuals are known
-module _ (p : CheckedProblem) (k : ℕ) (s : SearchState) {r : List Float} {columns : Bool} {j : List (List Float)} (h : Standing p (s .candidate) r columns j) where
+module _ (p : CheckedProblem) (k : ℕ) (s : SearchState) {r : List Float} {columns : Bool} {j : List (List Float)} {a : List Float} (h : Standing p (s .candidate) r columns j a) where
   by-length : iterate p k s ≡ cond (le (s .candidate .residual) goal) (withStatus (beginIteration k s) Ended) (linearStep p (beginIteration k s) r)
   unfolding iterate improved
   by-length = ap (λ (f : Fate). iterateBy p (beginIteration k s) (residualsOf p (s .candidate .z)) f) (h .known .goes) ∙ rw (h .known .are, ← h .known .long)

@@ -1,18 +1,20 @@
 // The Jacobian by columns, each a forward difference over one run. Carried over from `jacobian` of quatopsy-plan/src/scvx.rs (Apache-2.0), changed: the
 // kept rows of the columns stand one after the other in the front of the workspace, and a column's run begins where it parts from the base run's, on one lent set
-// of nodes.
+// of nodes, and looks up the sines of the gimbal angles that it shares with the decision. A column whose control is held where it stands has no run of its own.
 ghost use mathlib.Core.Path.{_≡_};
 ghost use mathlib.Core.Bool.{true};
 ghost use Prim.Native.Nat.{_+_, _*_, _≤_, _<_};
 ghost use lib.ListN.{length};
 ghost use Rattle.actuators.specs.Maps.{controlDim, isSized};
+ghost use Rattle.gimbal_angles.specs.Known.{KnownOf};
 ghost use Rattle.residuals.specs.Residuals.{residualsOf};
 ghost use Rattle.shared_runs.specs.Shared as Shared;
 ghost use Rattle.kept_rows.specs.Kept.{kept, Zeros};
 ghost use Rattle.scvx.specs.Search as Search;
-ghost use Rattle.scvx.specs.ProgressInner.{Sizes, ColumnMade, SameFrom, columnsIn, columnsOf};
+ghost use Rattle.scvx.specs.ProgressInner.{Sizes, Answers, AnswersKept, ColumnMade, SameFrom, columnsIn, columnsOf};
 use super::Slopes;
 use actuators::control_dim;
+use common::DECISION_NUMBERS;
 use common::Decision;
 use common::Fate;
 use common::ResidualNumbers;
@@ -20,6 +22,7 @@ use common::SOLVER_NODES;
 use common::STEPS;
 use forward::decisions::project_decision;
 use forward::decisions::unpack;
+use gimbal_angles::KNOWN_NUMBERS;
 use kept_rows::gather;
 use kept_rows::kept;
 use normal_equations::FD_EPS;
@@ -28,7 +31,9 @@ use problem::CheckedProblem;
 use shared_runs::Base;
 use shared_runs::base_next;
 use shared_runs::base_start;
+use shared_runs::know_angles;
 use shared_runs::residuals_sharing;
+use shared_runs::same_front;
 
 // The numbers of a decision.
 pub fn numbers(p: CheckedProblem) -> usize
@@ -67,8 +72,16 @@ fn perturb(p: CheckedProblem, z: &Decision, c: usize) -> Decision
     project(p, plus)
 }
 
-// Column c of m numbers at the decision z, whose residuals' kept rows are r0 and whose base run is b: one run. Its kept rows are put; every other column and all
-// past them stays, and all of v where the run is refused; so does what is kept of the base run.
+// Whether the decision y is z, bit for bit.
+fn same_decision(y: &Decision, z: &Decision) -> bool
+    ensures { λ r. ⌜ (r ≡ true → now (y .entry) ≡ now (z .entry)) ⌝ }
+{
+    same_front(y, z, DECISION_NUMBERS)
+}
+
+// Column c of m numbers at the decision z, whose residuals' kept rows are r0, whose base run is b and whose gimbal angles are known: one run, or none where the
+// projection takes the move back and the decision is z again. Its kept rows are put; every other column and all past them stays, and all of v where the run is
+// refused; so does what is kept of the base run.
 fn column(
     p: CheckedProblem,
     controls: usize,
@@ -78,6 +91,7 @@ fn column(
     z: &Decision,
     r0: &ResidualNumbers,
     b: Base,
+    lut: &[f64],
     nodes: &mut [[f64; 22]; SOLVER_NODES],
     errors: &[[f64; 3]; 16],
 ) -> Fate
@@ -87,13 +101,19 @@ fn column(
         × ((c < 193)
         × ((m ≡ Search.width p)
         × ((c * kept m + kept m ≤ length (now v))
-        × Shared.Holds p (now z) b (now nodes) (now errors)))))) ⌝ }
+        × (KnownOf (p .map .cmgs) (now lut)
+        × (AnswersKept p m (now z) (now r0)
+        × Shared.Holds p (now z) b (now nodes) (now errors)))))))) ⌝ }
     ensures { λ r. ⌜ (r ≡ residualsOf p (Search.perturb p (now (z .entry)) c) .fate)
         × ColumnMade p m c (now (z .entry)) (now (r0 .entry)) r (now (v .entry)) (now (v .exit)) ⌝ }
     ensures { λ r. ⌜ Shared.Holds p (now (z .entry)) b (now (nodes .exit)) (now (errors .entry)) ⌝ }
 {
     let y = perturb(p, z, c);
-    let e = residuals_sharing(p, controls, z, b, &y, nodes, errors);
+    if same_decision(&y, z) {
+        put_column(v, kept(m), c, r0, r0);
+        return Fate::Going;
+    }
+    let e = residuals_sharing(p, controls, z, b, lut, &y, nodes, errors);
     let fate = e.fate;
     match fate {
         Fate::Refused(number, place) => Fate::Refused(number, place),
@@ -126,7 +146,7 @@ pub fn jacobian(
     z: Decision,
     r0: ResidualNumbers,
 ) -> Slopes
-    requires { ⌜ Sizes p n m (length (now v)) × Zeros m r0 ⌝ }
+    requires { ⌜ Sizes p n m (length (now v)) × (Zeros m r0 × Answers p z r0) ⌝ }
     ensures { λ r. ⌜ (Search.jacobian p z r0 ≡ columnsOf r (columnsIn n m (now (v .exit)))) × SameFrom (n * kept m) (now (v .entry)) (now (v .exit)) ⌝ }
 {
     let map = p.map;
@@ -137,13 +157,27 @@ pub fn jacobian(
     let mut nodes = [row; 17];
     let none = [0.0; 3];
     let mut errors = [none; 16];
+    let mut lut = [0.0; KNOWN_NUMBERS];
+    know_angles(map, &z, &mut lut);
     let mut b = base_start(p);
     let mut c: usize = 0;
     while c < n {
         if past_row(b.steps, controls, c) {
-            b = base_next(p, &z, b, &mut nodes, &mut errors);
+            b = base_next(p, &z, b, &lut, &mut nodes, &mut errors);
         }
-        let fate = column(p, controls, v, m, c, &z, &front, b, &mut nodes, &errors);
+        let fate = column(
+            p,
+            controls,
+            v,
+            m,
+            c,
+            &z,
+            &front,
+            b,
+            &lut,
+            &mut nodes,
+            &errors,
+        );
         match fate {
             Fate::Refused(number, place) => return Slopes::Broken(number, place, c + 1),
             Fate::Going => {}

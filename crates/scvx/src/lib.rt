@@ -1,7 +1,8 @@
 // The search: a seed's decision is bettered by Levenberg-Marquardt steps over forward runs, on one lent workspace.
 // Carried over from `solve` and `jacobian` of quatopsy-plan/src/scvx.rs (Apache-2.0), changed: no heap, runs are counted, a refusal is a number and a place.
 // What the Rust works out again is kept: a decision's residuals and their length are known from the run that let it in, and while a decision stays its
-// Jacobian's columns stay in the front of the workspace. A column's run begins where it parts from the base run's. The counts are the Rust's.
+// Jacobian's columns stay in the front of the workspace, and their Gram matrix beside it. A column's run begins where it parts from the base run's. Iterations that
+// would repeat the last one to the end are not made. The counts are the Rust's.
 ghost use mathlib.Core.Path.{_≡_};
 ghost use mathlib.Core.Bool.{true};
 ghost use Prim.Native.Nat.{_≤_};
@@ -25,6 +26,11 @@ pub mod columns;
 pub mod states;
 pub mod steps;
 pub mod turns;
+
+// The most iterations of a search, and the most of its damping factor.
+pub const MAX_ITERS: usize = 40;
+
+pub const LM_LAMBDA_MAX: f64 = 1.0e6;
 
 // How the search stands: on its way, ended at a length of at most 0.005, or refused with a number and a place.
 pub enum Status {
@@ -51,7 +57,8 @@ pub struct SearchState {
     pub status: Status,
 }
 
-// A state with what is kept beside it: the residuals of its decision, and whether the columns of its Jacobian stand in the front of the workspace.
+// A state with what is kept beside it: the residuals of its decision, and whether the columns of its Jacobian stand in the front of the workspace, with their Gram
+// matrix beside it.
 pub struct Progress {
     pub state: SearchState,
     pub r: ResidualNumbers,

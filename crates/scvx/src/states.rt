@@ -1,9 +1,10 @@
 // A candidate made, and the parts of an iteration that only change a state.
 ghost use mathlib.Core.Path.{_≡_};
-ghost use Prim.Native.Nat.{_+_, _≤_, _<_};
+ghost use Prim.Native.Nat.{_+_, _-_, _*_, _≤_, _<_};
 ghost use Rattle.scvx.specs.Search as Search;
 ghost use Rattle.scvx.specs.ProgressInner as ProgressInner;
 use super::Candidate;
+use super::MAX_ITERS;
 use super::Progress;
 use super::SearchState;
 use super::Status;
@@ -112,6 +113,22 @@ pub fn begin_iteration(k: usize, s: SearchState) -> SearchState
         lambda: s.lambda,
         iterations: k + 1,
         runs: s.runs + 1,
+        status: status,
+    }
+}
+
+// The state after 40 iterations, of which each after the k-th changes the counts alone and begins so many runs.
+pub fn repeat_last(s: SearchState, k: usize, more: usize) -> SearchState
+    requires { ⌜ (k ≤ 40) × (s .runs + (40 - k) * more ≤ 9000) ⌝ }
+    ensures { λ r. ⌜ r ≡ ProgressInner.counted s ((40 - k) * more) 40 ⌝ }
+{
+    let candidate = s.candidate;
+    let status = s.status;
+    SearchState {
+        candidate: candidate,
+        lambda: s.lambda,
+        iterations: MAX_ITERS,
+        runs: s.runs + (MAX_ITERS - k) * more,
         status: status,
     }
 }

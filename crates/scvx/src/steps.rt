@@ -1,5 +1,5 @@
 // The step of an iteration: normal equations, a trial, and the verdict on it. Carried over from `solve` and `apply_step` of quatopsy-plan/src/scvx.rs
-// (Apache-2.0), changed: a trial's residuals are kept where it is taken, and the columns are formed once a decision.
+// (Apache-2.0), changed: a trial's residuals are kept where it is taken, and the columns are formed and summed once a decision.
 ghost use mathlib.Core.Path.{_≡_};
 ghost use Prim.Native.Nat.{_+_, _*_, _≤_, _<_};
 ghost use lib.ListN.{length, take};
@@ -7,10 +7,12 @@ ghost use Rattle.common.specs.Iter.{iter};
 ghost use Rattle.actuators.specs.Maps.{controlDim};
 ghost use Rattle.problem.specs.declared.CheckedProblem.{CheckedProblem};
 ghost use Rattle.elimination.specs.Elimination.{told, dampedStep};
+ghost use Rattle.damped_steps.specs.Gram.{GramKept};
 ghost use Rattle.kept_rows.specs.Kept.{Laid, kept, Zeros};
 ghost use Rattle.scvx.specs.Search as Search;
 ghost use Rattle.scvx.specs.ProgressInner.{Sizes, Known, Keeps, Holds, columnsIn};
 use super::Candidate;
+use super::LM_LAMBDA_MAX;
 use super::Progress;
 use super::Slopes;
 use super::Status;
@@ -30,7 +32,8 @@ use common::DEFECT_TOL;
 use common::Decision;
 use common::Fate;
 use common::ResidualNumbers;
-use elimination::damped_step;
+use damped_steps::keep_gram;
+use damped_steps::kept_step;
 use float::max;
 use float::min;
 use held_counts::held_counts;
@@ -83,7 +86,7 @@ fn judge(g: Progress, t: Candidate, r: ResidualNumbers) -> Progress
             columns: false,
         };
     }
-    with_state(g, with_damping(s, min(s.lambda * 4.0, 1.0e6)))
+    with_state(g, with_damping(s, min(s.lambda * 4.0, LM_LAMBDA_MAX)))
 }
 
 // The trial of a step d: one run.
@@ -111,9 +114,28 @@ fn try_step(p: CheckedProblem, g: Progress, d: &[f64], m: usize) -> Progress
     }
 }
 
-// The step of the equations whose n columns of m numbers have their kept rows in the front of ws, where they stay.
-fn step_of(ws: &mut [f64], n: usize, m: usize, r: ResidualNumbers, lambda: f64) -> Step
-    requires { ⌜ (n ≤ 193) × (Laid m × ((n * kept m + n * n ≤ length (now ws)) × Zeros m r)) ⌝ }
+// The Gram matrix of the n columns of m numbers that have their kept rows in the front of ws, kept if gram has room for it. The columns stay.
+fn sum_columns(ws: &mut [f64], gram: &mut [f64], n: usize, m: usize)
+    requires { ⌜ (n ≤ 193) × (Laid m × (n * kept m + n * n ≤ length (now ws))) ⌝ }
+    ensures { λ _. ⌜ (columnsIn n m (now (ws .exit)) ≡ columnsIn n m (now (ws .entry)))
+        × GramKept n m (columnsIn n m (now (ws .entry))) (now (gram .exit)) ⌝ }
+{
+    let w = kept(m);
+    let end = n * w + n * n;
+    keep_gram(&mut ws[..end], n, w, gram);
+}
+
+// The step of the equations whose n columns of m numbers have their kept rows in the front of ws, where they stay, and their Gram matrix in gram.
+fn step_of(
+    ws: &mut [f64],
+    gram: &[f64],
+    n: usize,
+    m: usize,
+    r: ResidualNumbers,
+    lambda: f64,
+) -> Step
+    requires { ⌜ (n ≤ 193)
+        × (Laid m × ((n * kept m + n * n ≤ length (now ws)) × (Zeros m r × GramKept n m (columnsIn n m (now ws)) (now gram)))) ⌝ }
     ensures { λ x. ⌜ (told (x .solved) (take n (x .d)) ≡ dampedStep n m (columnsIn n m (now (ws .entry))) r lambda)
         × ((length (x .d) ≡ 193)
         × (columnsIn n m (now (ws .exit)) ≡ columnsIn n m (now (ws .entry)))) ⌝ }
@@ -123,7 +145,7 @@ fn step_of(ws: &mut [f64], n: usize, m: usize, r: ResidualNumbers, lambda: f64) 
     gather(m, &mut front[..]);
     let end = n * w + n * n;
     let mut d = [0.0; DECISION_NUMBERS];
-    let solved = damped_step(&mut ws[..end], w, &front, lambda, &mut d[..n]);
+    let solved = kept_step(&mut ws[..end], w, &front, lambda, gram, &mut d[..n]);
     Step {
         solved: solved,
         d: d,
@@ -131,26 +153,40 @@ fn step_of(ws: &mut [f64], n: usize, m: usize, r: ResidualNumbers, lambda: f64) 
 }
 
 // The step of an iteration whose columns stand there: its trial, or a stronger damping where the equations are singular.
-fn take_step(p: CheckedProblem, ws: &mut [f64], n: usize, m: usize, g: Progress) -> Progress
-    requires { ⌜ Sizes p n m (length (now ws)) × ((g .state .runs ≤ 8400) × Zeros m (g .r)) ⌝ }
+fn take_step(
+    p: CheckedProblem,
+    ws: &mut [f64],
+    gram: &[f64],
+    n: usize,
+    m: usize,
+    g: Progress,
+) -> Progress
+    requires { ⌜ Sizes p n m (length (now ws)) × ((g .state .runs ≤ 8400) × (Zeros m (g .r) × GramKept n m (columnsIn n m (now ws)) (now gram))) ⌝ }
     ensures { λ x. ⌜ (x .state ≡ Search.takeStep p (g .state) (columnsIn n m (now (ws .entry))) (g .r))
         × (Keeps p g x
         × (columnsIn n m (now (ws .exit)) ≡ columnsIn n m (now (ws .entry)))) ⌝ }
 {
     let s = g.state;
     let r = g.r;
-    let step = step_of(ws, n, m, r, s.lambda);
+    let step = step_of(ws, gram, n, m, r, s.lambda);
     if !step.solved {
-        return with_state(g, with_damping(s, min(s.lambda * 8.0, 1.0e6)));
+        return with_state(g, with_damping(s, min(s.lambda * 8.0, LM_LAMBDA_MAX)));
     }
     let d = step.d;
     try_step(p, g, &d[..n], m)
 }
 
-// The columns of the decision are formed, then the step.
-fn form_columns(p: CheckedProblem, ws: &mut [f64], n: usize, m: usize, g: Progress) -> Progress
-    requires { ⌜ Sizes p n m (length (now ws)) × ((g .state .runs ≤ 8200) × Holds p (columnsIn n m (now ws)) g) ⌝ }
-    ensures { λ x. ⌜ (x .state ≡ Search.linearStep p (g .state) (g .r)) × Holds p (columnsIn n m (now (ws .exit))) x ⌝ }
+// The columns of the decision are formed and summed, then the step.
+fn form_columns(
+    p: CheckedProblem,
+    ws: &mut [f64],
+    gram: &mut [f64],
+    n: usize,
+    m: usize,
+    g: Progress,
+) -> Progress
+    requires { ⌜ Sizes p n m (length (now ws)) × ((g .state .runs ≤ 8200) × Holds p (columnsIn n m (now ws)) (now gram) g) ⌝ }
+    ensures { λ x. ⌜ (x .state ≡ Search.linearStep p (g .state) (g .r)) × Holds p (columnsIn n m (now (ws .exit))) (now (gram .exit)) x ⌝ }
 {
     let s = g.state;
     let c = s.candidate;
@@ -173,34 +209,43 @@ fn form_columns(p: CheckedProblem, ws: &mut [f64], n: usize, m: usize, g: Progre
                 r: r,
                 columns: true,
             };
-            take_step(p, ws, n, m, whole)
+            sum_columns(ws, gram, n, m);
+            take_step(p, ws, gram, n, m, whole)
         }
     }
 }
 
-// The step of an iteration. Columns that stand there already are counted as runs, and not formed again.
-fn linear_step(p: CheckedProblem, ws: &mut [f64], n: usize, m: usize, g: Progress) -> Progress
-    requires { ⌜ Sizes p n m (length (now ws)) × ((g .state .runs ≤ 8200) × Holds p (columnsIn n m (now ws)) g) ⌝ }
-    ensures { λ x. ⌜ (x .state ≡ Search.linearStep p (g .state) (g .r)) × Holds p (columnsIn n m (now (ws .exit))) x ⌝ }
+// The step of an iteration. Columns that stand there already are counted as runs, and neither formed nor summed again.
+fn linear_step(
+    p: CheckedProblem,
+    ws: &mut [f64],
+    gram: &mut [f64],
+    n: usize,
+    m: usize,
+    g: Progress,
+) -> Progress
+    requires { ⌜ Sizes p n m (length (now ws)) × ((g .state .runs ≤ 8200) × Holds p (columnsIn n m (now ws)) (now gram) g) ⌝ }
+    ensures { λ x. ⌜ (x .state ≡ Search.linearStep p (g .state) (g .r)) × Holds p (columnsIn n m (now (ws .exit))) (now (gram .exit)) x ⌝ }
 {
     if g.columns {
         let s = g.state;
-        return take_step(p, ws, n, m, with_state(g, count_runs(s, n)));
+        return take_step(p, ws, gram, n, m, with_state(g, count_runs(s, n)));
     }
-    form_columns(p, ws, n, m, g)
+    form_columns(p, ws, gram, n, m, g)
 }
 
 // Iteration k + 1 of a search that goes on. Its run of the decision is counted, and not made: the residuals are known, and the candidate has their length.
 pub fn iterate(
     p: CheckedProblem,
     ws: &mut [f64],
+    gram: &mut [f64],
     n: usize,
     m: usize,
     k: usize,
     g: Progress,
 ) -> Progress
-    requires { ⌜ Sizes p n m (length (now ws)) × ((k < 40) × ((g .state .runs ≤ 8000) × Holds p (columnsIn n m (now ws)) g)) ⌝ }
-    ensures { λ x. ⌜ (x .state ≡ Search.iterate p k (g .state)) × Holds p (columnsIn n m (now (ws .exit))) x ⌝ }
+    requires { ⌜ Sizes p n m (length (now ws)) × ((k < 40) × ((g .state .runs ≤ 8000) × Holds p (columnsIn n m (now ws)) (now gram) g)) ⌝ }
+    ensures { λ x. ⌜ (x .state ≡ Search.iterate p k (g .state)) × Holds p (columnsIn n m (now (ws .exit))) (now (gram .exit)) x ⌝ }
 {
     let before = g.state;
     let s = begin_iteration(k, before);
@@ -208,5 +253,5 @@ pub fn iterate(
     if c.residual <= DEFECT_TOL {
         return with_state(g, with_status(s, Status::Ended));
     }
-    linear_step(p, ws, n, m, with_state(g, s))
+    linear_step(p, ws, gram, n, m, with_state(g, s))
 }

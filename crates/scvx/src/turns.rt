@@ -1,7 +1,7 @@
 // The whole search: its start, at most 40 iterations, and the run of the decision that is handed out. Carried over from `solve` of
-// quatopsy-plan/src/scvx.rs (Apache-2.0), changed: runs are counted, a refusal is a number and a place.
+// quatopsy-plan/src/scvx.rs (Apache-2.0), changed: runs are counted, a refusal is a number and a place, iterations that would repeat the last one are counted alone.
 ghost use mathlib.Core.Path.{_≡_};
-ghost use mathlib.Core.Bool.{true};
+ghost use mathlib.Core.Bool.{true, false};
 ghost use Prim.Native.Nat.{_≤_};
 ghost use lib.ListN.{length};
 ghost use Rattle.common.specs.Iter.{iter};
@@ -9,25 +9,30 @@ ghost use Rattle.actuators.specs.Maps.{controlDim, isSized};
 ghost use Rattle.scvx.specs.declared.Status.the-variants.{Going};
 ghost use Rattle.scvx.specs.Search as Search;
 ghost use Rattle.scvx.specs.ProgressInner as ProgressInner;
-ghost use Rattle.scvx.specs.ProgressInner.{Sizes, Holds, columnsIn};
+ghost use Rattle.scvx.specs.ProgressInner.{Sizes, Known};
 use super::Found;
+use super::LM_LAMBDA_MAX;
+use super::MAX_ITERS;
 use super::Progress;
 use super::SearchState;
 use super::Status;
+use super::states::repeat_last;
 use super::states::seed_candidate;
 use super::steps::iterate;
 use common::DECISION_NUMBERS;
 use common::Decision;
 use common::Fate;
 use common::ResidualNumbers;
+use float_bits::same_bits;
 use forward::runs::refused_run;
 use forward::runs::run_of;
 use problem::CheckedProblem;
 
-// The most iterations of a search, and its damping factor at the start.
-const MAX_ITERS: usize = 40;
-
+// The damping factor at the start.
 const LM_LAMBDA0: f64 = 1.0e-2;
+
+// The numbers of the Gram matrix that is kept: of 65 columns, those of 4 controls.
+const GRAM_NUMBERS: usize = 4225;
 
 // The seed's decision, whose residuals r are known: one run.
 pub fn start(m: usize, seed: Decision, r: ResidualNumbers) -> Progress
@@ -49,15 +54,26 @@ pub fn start(m: usize, seed: Decision, r: ResidualNumbers) -> Progress
     }
 }
 
-// At most 40 iterations, left where the search no longer goes on.
+// Whether the damping was the strongest before an iteration and after it: then its trial was not taken, and every iteration after it is the same.
+fn is_settled(before: f64, after: f64) -> bool
+    ensures { λ r. ⌜ (r ≡ true → (before ≡ Search.strongest) × (after ≡ Search.strongest)) ⌝ }
+{
+    same_bits(before, LM_LAMBDA_MAX) & same_bits(after, LM_LAMBDA_MAX)
+}
+
+// At most 40 iterations, left where the search no longer goes on, or where those that are left would repeat the last one: their runs are counted, and not made.
+// While a decision stays, so does the Gram matrix of its columns, if they are at most 65; more are summed in each iteration.
 pub fn turns(p: CheckedProblem, ws: &mut [f64], n: usize, m: usize, first: Progress) -> SearchState
-    requires { ⌜ Sizes p n m (length (now ws)) × ((first .state .runs ≡ 1) × ((first .state .status ≡ Going) × Holds p (columnsIn n m (now ws)) first)) ⌝ }
+    requires { ⌜ Sizes p n m (length (now ws))
+        × ((first .state .runs ≡ 1) × ((first .state .status ≡ Going) × ((first .columns ≡ false) × Known p (first .state .candidate) (first .r)))) ⌝ }
     ensures { λ s. ⌜ s ≡ iter (Search.turn p) (first .state) 40 ⌝ }
 {
+    let mut gram = [0.0; GRAM_NUMBERS];
     let mut g = first;
     let mut k: usize = 0;
     while k < MAX_ITERS {
-        g = iterate(p, ws, n, m, k, g);
+        let before = g.state;
+        g = iterate(p, ws, &mut gram, n, m, k, g);
         k += 1;
         let s = g.state;
         let status = s.status;
@@ -65,6 +81,9 @@ pub fn turns(p: CheckedProblem, ws: &mut [f64], n: usize, m: usize, first: Progr
             Status::Ended => return s,
             Status::Refused(_, _) => return s,
             Status::Going => {}
+        }
+        if is_settled(before.lambda, s.lambda) {
+            return repeat_last(s, k, s.runs - before.runs);
         }
     }
     g.state

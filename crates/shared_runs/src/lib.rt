@@ -8,6 +8,7 @@ ghost use lib.ListN.{length};
 ghost use lib.Ieee.{Float};
 ghost use Rattle.common.specs.declared.Fate.the-variants.{Going};
 ghost use Rattle.actuators.specs.Maps.{controlDim, isSized};
+ghost use Rattle.gimbal_angles.specs.Known.{KnownOf};
 ghost use Rattle.residuals.specs.Residuals.{residualsOf};
 ghost use Rattle.shared_runs.specs.Shared.{Agree, Same, Keeps, Holds};
 use common::Decision;
@@ -32,6 +33,10 @@ use residuals::terms::of_rows;
 use residuals::terms::refused_residuals;
 use residuals::terms::residuals_of;
 use residuals::terms::target_of;
+
+mod known;
+
+pub use known::know_angles;
 
 // The base run after its first steps, where it is on its way, and the sums of its residuals over them; where not, the rest is free.
 pub struct Base {
@@ -79,15 +84,18 @@ pub fn base_start(p: CheckedProblem) -> Base
     }
 }
 
-// The base run of the decision z, one step further where there is one: its node goes into the lent rows, its pointing error beside them.
+// The base run of the decision z, one step further where there is one: its node goes into the lent rows, its pointing error beside them. Gimbal angles in the
+// table `lut` are known.
 pub fn base_next(
     p: CheckedProblem,
     z: &Decision,
     b: Base,
+    lut: &[f64],
     nodes: &mut [[f64; 22]; SOLVER_NODES],
     errors: &mut [[f64; 3]; 16],
 ) -> Base
-    requires { ⌜ (isSized (p .map) ≡ true) × ((controlDim (p .map) ≤ 12) × Holds p (now z) b (now nodes) (now errors)) ⌝ }
+    requires { ⌜ (isSized (p .map) ≡ true)
+        × ((controlDim (p .map) ≤ 12) × (KnownOf (p .map .cmgs) (now lut) × Holds p (now z) b (now nodes) (now errors))) ⌝ }
     ensures { λ x. ⌜ Holds p (now (z .entry)) x (now (nodes .exit)) (now (errors .exit)) ⌝ }
 {
     let k = b.steps;
@@ -100,7 +108,7 @@ pub fn base_next(
     if STEPS <= k {
         return b;
     }
-    let w = steps_under(WheelLaw::Once, p, z, skew, k, k + 1, c, nodes);
+    let w = steps_under(WheelLaw::Once, p, z, skew, lut, k, k + 1, c, nodes);
     let sums = sums_next(nodes, z[0] / 16.0, k, s);
     let known = keep_error(target_of(p), nodes, k, errors);
     let fate = w.fate;
@@ -115,7 +123,7 @@ pub fn base_next(
 }
 
 // Whether the first e numbers of y and z are the same, bit for bit.
-fn same_front(y: &[f64], z: &[f64], e: usize) -> bool
+pub fn same_front(y: &[f64], z: &[f64], e: usize) -> bool
     requires { ⌜ (e ≤ length (now y)) × (e ≤ length (now z)) ⌝ }
     ensures { λ r. ⌜ (r ≡ true → Agree e (now (y .entry)) (now (z .entry))) ⌝ }
 {
@@ -146,11 +154,13 @@ pub fn residuals_sharing(
     n: usize,
     z: &Decision,
     b: Base,
+    lut: &[f64],
     y: &Decision,
     nodes: &mut [[f64; 22]; SOLVER_NODES],
     errors: &[[f64; 3]; 16],
 ) -> ResidualVector
-    requires { ⌜ (isSized (p .map) ≡ true) × ((controlDim (p .map) ≤ 12) × ((n ≡ controlDim (p .map)) × Holds p (now z) b (now nodes) (now errors))) ⌝ }
+    requires { ⌜ (isSized (p .map) ≡ true)
+        × ((controlDim (p .map) ≤ 12) × ((n ≡ controlDim (p .map)) × (KnownOf (p .map .cmgs) (now lut) × Holds p (now z) b (now nodes) (now errors)))) ⌝ }
     ensures { λ x. ⌜ (x ≡ residualsOf p (now (y .entry))) × Holds p (now (z .entry)) b (now (nodes .exit)) (now (errors .entry)) ⌝ }
 {
     let k = b.steps;
@@ -159,7 +169,7 @@ pub fn residuals_sharing(
     }
     let skew = b.skew;
     let c = b.at;
-    let w = run_on(WheelLaw::Once, p, y, skew, k, c, nodes);
+    let w = run_on(WheelLaw::Once, p, y, skew, lut, k, c, nodes);
     let fate = w.fate;
     match fate {
         Fate::Refused(number, place) => refused_residuals(number, place),

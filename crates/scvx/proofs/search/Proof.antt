@@ -5,7 +5,7 @@ use Rattle.scvx.specs.declared.SearchState.{SearchState}
 use Rattle.scvx.specs.declared.Progress.{Progress}
 use Rattle.scvx.specs.Search as Search
 use Rattle.scvx.specs.CountLaws.{turns-le}
-use Rattle.scvx.specs.ProgressInner.{numbers-most, width-most, sizes-of, known-of, stands-new}
+use Rattle.scvx.specs.ProgressInner.{numbers-most, width-most, sizes-of, known-of}
 use Rattle.scvx.specs.StepLaws.{start-going, search-refused}
 use native.Mathlib.Omega.{arith}
 use borrow.Author.Needs.{needs}
@@ -24,7 +24,7 @@ turns-requires c κs =
     let enum-told = c .before .before .before .before .before .enum-told in
     let numbers = c .before .before .before .before .numbers in (
       sizes-of (entry .args .p) _ _ _ (entry .pre .0) (entry .pre .1) (numbers .ensures) (c .before .before .before .width .ensures) (entry .pre .2),
-      (rw (c .start .ensures) refl, (rw (c .start .ensures) refl, rw (c .start .ensures) (stands-new (known-of _ (residuals-of .ensures) (enum-told .given .1) (c .before .before .before .width .ensures) refl)))),
+      (rw (c .start .ensures) refl, (rw (c .start .ensures) refl, (rw (c .start .ensures) refl, rw (c .start .ensures) (known-of _ (residuals-of .ensures) (enum-told .given .1) (c .before .before .before .width .ensures) refl)))),
     )
 
 conclude-requires : tie.Need-conclude-requires

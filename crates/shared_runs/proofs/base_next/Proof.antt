@@ -12,32 +12,32 @@ use Rattle.shared_runs.proofs.base_next.Tie as tie
 steps-under-requires : tie.Need-steps-under-requires
 steps-under-requires c κs =
     let e = c .before .before in
-    let pre = e .before .before .before .before .before .pre in
-    let k = pre .1 .1 .1 (not-false _ (e .if1 .left)) in
-    (record { sized = pre .0; narrow = pre .1 .0; skewed = k .skew; sound = k .sound }, (omega arith, omega arith))
+    let pre = e .before .before .before .before .before .before .pre in
+    let k = pre .1 .1 .1 .1 (not-false _ (e .if1 .left)) in
+    (record { sized = pre .0; narrow = pre .1 .0; angles = (k .skew, pre .1 .1 .0); sound = k .sound }, (omega arith, omega arith))
 
 sums-next-requires : tie.Need-sums-next-requires
 unfolding Ieee.ofBits
 sums-next-requires c κs =
     let t = c .before .before in
     let e = t .before .before .before in
-    let start = e .before .before .before .before .before in
+    let start = e .before .before .before .before .before .before in
     let a = start .args in
     let r = t .steps-under .ensures in
-    let k = start .pre .1 .1 .1 (not-false _ (e .if1 .left)) in
-    (omega arith, kept-same (a .p) (a .z .now) (a .b) (a .nodes .now) (t .steps-under .last .1 .1 .1 .1 .1 .1 .1 .0) (a .errors .now) (r .size) (r .below) k .begins .sums)
+    let k = start .pre .1 .1 .1 .1 (not-false _ (e .if1 .left)) in
+    (omega arith, kept-same (a .p) (a .z .now) (a .b) (a .nodes .now) (t .steps-under .last .1 .1 .1 .1 .1 .1 .1 .1 .0) (a .errors .now) (r .size) (r .below) k .begins .sums)
 
 keep-error-requires : tie.Need-keep-error-requires
 keep-error-requires c κs =
     let t = c .before .before .before .before .before .before in
     let e = t .before .before .before in
-    let start = e .before .before .before .before .before in
+    let start = e .before .before .before .before .before .before in
     let a = start .args in
     let r = t .steps-under .ensures in
-    let held = start .pre .1 .1 in
+    let held = start .pre .1 .1 .1 in
     let k = held .1 (not-false _ (e .if1 .left)) in
     rw (c .before .before .target-of .ensures)
-    (omega arith, (r .size ∙ held .0 .nodes, (held .0 .errors, kept-same (a .p) (a .z .now) (a .b) (a .nodes .now) (t .steps-under .last .1 .1 .1 .1 .1 .1 .1 .0) (a .errors .now) (r .size) (r .below) k .begins .kept)))
+    (omega arith, (r .size ∙ held .0 .nodes, (held .0 .errors, kept-same (a .p) (a .z .now) (a .b) (a .nodes .now) (t .steps-under .last .1 .1 .1 .1 .1 .1 .1 .1 .0) (a .errors .now) (r .size) (r .below) k .begins .kept)))
 
 returns-3 : tie.Need-returns-3
 unfolding Ieee.ofBits
@@ -47,7 +47,7 @@ returns-3 c =
     let sums = target .before in
     let t = sums .before .before .before in
     let e = t .before .before .before in
-    let held = e .before .before .before .before .before .pre .1 .1 in
+    let held = e .before .before .before .before .before .before .pre .1 .1 .1 in
     let r = t .steps-under .ensures in
     let k = held .1 (not-false _ (e .if1 .left)) in (
       record { nodes = r .size ∙ held .0 .nodes; errors = kept .keep-error .ensures .1 },
@@ -65,8 +65,8 @@ pub base-next-spec : {M : Type 1} → statement M
 base-next-spec =
     tie.close
     (tie.spec
-    (λ c. c .before .before .before .before .before .pre .1 .1)
-    (λ c. c .before .before .before .before .before .before .pre .1 .1)
+    (λ c. c .before .before .before .before .before .before .pre .1 .1 .1)
+    (λ c. c .before .before .before .before .before .before .before .pre .1 .1 .1)
     (λ c. search needs)
     steps-under-requires
     (λ c. search needs)

@@ -1,3 +1,4 @@
+-- `forward::runs::next_dynamics` meets its contract: below `end` the row of step i stands in the decision, and its dynamics have their own contract; then they stay.
 use Rattle.common.specs.IterLaws.{row-end}
 use mathlib.Core.Path.{refl}
 use native.Mathlib.Omega.{arith}
@@ -6,22 +7,22 @@ use Rattle.forward.proofs.runs.next_dynamics.Statement.{statement}
 use Rattle.forward.proofs.runs.next_dynamics.Tie as tie
 
 mul-at : tie.Need-mul-at
-mul-at c = omega (arith, row-end (c .before .before .args .i) 16 (c .before .before .args .n) (omega (arith, c .before .before .pre .1 .1 .0)), c .before .before .pre .1 .0 .0)
+mul-at c = omega (arith, row-end (c .before .before .before .args .i) 16 (c .before .before .before .args .n) (omega (arith, c .before .before .before .pre .1 .1 .0)), c .before .before .before .pre .1 .0 .0)
 
 add-at : tie.Need-add-at
-add-at c = omega (arith, row-end (c .before .before .args .i) 16 (c .before .before .args .n) (omega (arith, c .before .before .pre .1 .1 .0)), c .before .before .pre .1 .0 .0)
+add-at c = omega (arith, row-end (c .before .before .before .args .i) 16 (c .before .before .before .args .n) (omega (arith, c .before .before .before .pre .1 .1 .0)), c .before .before .before .pre .1 .0 .0)
 
 add-past : tie.Need-add-past
-add-past c = omega (arith, row-end (c .before .before .args .i) 16 (c .before .before .args .n) (omega (arith, c .before .before .pre .1 .1 .0)), c .before .before .pre .1 .0 .0)
+add-past c = omega (arith, row-end (c .before .before .before .args .i) 16 (c .before .before .before .args .n) (omega (arith, c .before .before .before .pre .1 .1 .0)), c .before .before .before .pre .1 .0 .0)
 
 mul-dynamics : tie.Need-mul-dynamics
 mul-dynamics c =
-    let entry = c .before .before .before .before in
+    let entry = c .before .before .before .before .before in
     omega (arith, row-end (entry .args .i) 16 (entry .args .n) (omega (arith, entry .pre .1 .1 .0)), entry .pre .1 .0 .0)
 
 part-dynamics-end : tie.Need-part-dynamics-end
 part-dynamics-end c =
-    let entry = c .before .before .before .before in
+    let entry = c .before .before .before .before .before in
     omega (arith, row-end (entry .args .i) 16 (entry .args .n) (omega (arith, entry .pre .1 .1 .0)), entry .pre .1 .0 .0, entry .pre .1 .0 .1)
 
 returns : tie.Need-returns

@@ -4,6 +4,7 @@ use native.Mathlib.Omega.{arith}
 use lib.ListN.{length}
 use lib.Ieee as Ieee
 use Rattle.controls.specs.SizeLaws.{dim-sized}
+use Rattle.gimbal_angles.specs.KnownLaws.{none-known}
 use Rattle.control_rows.specs.declared.WheelLaw.the-variants.{Once}
 use Rattle.forward.specs.Runs as Runs
 use Rattle.forward.specs.GimbalStartInner.{start-goes, start-refused}
@@ -20,12 +21,13 @@ start-requires c κs =
 run-on-requires : tie.Need-run-on-requires
 unfolding Runs.start Ieee.ofBits
 run-on-requires c κs =
-    let u = c .before .before .before in
+    let u = c .before .before .before .before in
     let l = u .before .before .before in
     let s = l .before in
-    let pre = s .before .before .before .before .before .pre in
-    let made = start-goes _ (l .start-gimbals .ensures) (c .before .enum-told2 .given .1) in
-    (record { sized = pre .0; narrow = pre .1 .0; skewed = made .0; sound = rw (u .unbegun .ensures, s .start .ensures) (record { matrix = made .1; plus = tt }) }, omega arith)
+    let start = s .before .before .before .before .before in
+    let pre = start .pre in
+    let made = start-goes _ (l .start-gimbals .ensures) (c .before .before .enum-told2 .given .1) in
+    (record { sized = pre .0; narrow = pre .1 .0; angles = (made .0, none-known (start .args .p .map .cmgs)); sound = rw (u .unbegun .ensures, s .start .ensures) (record { matrix = made .1; plus = tt }) }, omega arith)
 
 returns : tie.Need-returns
 unfolding told Runs.runUnder Runs.start
@@ -37,7 +39,7 @@ returns c =
 returns-2 : tie.Need-returns-2
 unfolding Runs.runUnder Ieee.ofBits
 returns-2 c =
-    let u = c .before .before .before .before in
+    let u = c .before .before .before .before .before in
     let l = u .before .before .before in
     let s = l .before in
     let nodes = s .before .before .before .before .before .args .nodes .now in
@@ -52,6 +54,7 @@ run-into-spec =
     start-requires
     (λ c κs. search needs)
     (λ c κs. search needs)
+    (λ c. search needs)
     (λ c. search needs)
     (λ c. search needs)
     run-on-requires

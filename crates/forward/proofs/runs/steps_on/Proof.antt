@@ -24,15 +24,15 @@ use Rattle.forward.proofs.runs.steps_on.Statement.{statement}
 use Rattle.forward.proofs.runs.steps_on.Tie as tie
 
 abbrev Inv-loop : tie.InvT-loop
-Inv-loop r wheels powers thrusters f skew n z k end c nodes₀ dt s₀ l₀ length₀ square₀ i₀ nodes s l long square i =
+Inv-loop r wheels powers thrusters f skew lut n z k end c nodes₀ dt s₀ l₀ length₀ square₀ i₀ nodes s l long square i =
     ((k ≤ i) × (i ≤ end + 1)) × ((SameBelow k nodes₀ nodes × (length nodes ≡ length nodes₀)) × ((goingRollout s (Sqrt.sqrt Ieee.binary64 square) (nodesFrom nodes) ≡ iter (λ (d : ℕ). Runs.rolloutTurn (Steps.bodyWith r wheels powers thrusters f) n z (d + k)) (rolloutOf c nodes₀) (i - k - 1)) × (T (upright square) × (Pipelined (Steps.bodyWith r wheels powers thrusters f) n z k end i s l × (k < i → long ≡ norm3 (l .turn))))))
 
 abbrev μ-loop : tie.MeasureT-loop
-μ-loop r wheels powers thrusters f skew n z k end c nodes₀ dt s₀ l₀ length₀ square₀ i₀ nodes s l long square i = end + 1 - i
+μ-loop r wheels powers thrusters f skew lut n z k end c nodes₀ dt s₀ l₀ length₀ square₀ i₀ nodes s l long square i = end + 1 - i
 
 loop-holds : tie.Need-loop-holds Inv-loop μ-loop
 loop-holds c =
-    let pre = c .before .before .before .pre in
+    let pre = c .before .before .before .before .pre in
     let sound = pre .1 .1 .1 .0 in (
       (omega arith, omega (arith, pre .1 .1 .1 .1 .0)),
       (
@@ -56,7 +56,7 @@ loop-holds c =
 
 next-dynamics-requires : tie.Need-next-dynamics-requires Inv-loop μ-loop
 next-dynamics-requires c κs =
-    let pre = c .before .before .before .before .before .before .pre in
+    let pre = c .before .before .before .before .before .before .before .pre in
     (pre .0, ((pre .1 .0, search needs), (pre .1 .1 .1 .1 .1, pre .1 .1 .0)))
 
 returns : tie.Need-returns Inv-loop μ-loop
@@ -73,19 +73,19 @@ returns c =
 
 node-row-requires : tie.Need-node-row-requires Inv-loop μ-loop
 node-row-requires c κs =
-    let entry = c .before .before .before .before .before .before .before .before .before .before .before .before .before .before .before .before .before .before .before in
+    let entry = c .before .before .before .before .before .before .before .before .before .before .before .before .before .before .before .before .before .before .before .before in
     let loop-test = c .before .before .before .before .before .before .before .before .before .before .before .before .before .before .loop-test in
     omega (arith, loop-test .taken, entry .pre .1 .1 .1 .1 .1)
 
 mul-row : tie.Need-mul-row Inv-loop μ-loop
 mul-row c =
-    let entry = c .before .before .before .before .before .before .before .before .before .before .before .before .before .before .before .before .before .before .before .before in
+    let entry = c .before .before .before .before .before .before .before .before .before .before .before .before .before .before .before .before .before .before .before .before .before in
     let loop-test = c .before .before .before .before .before .before .before .before .before .before .before .before .before .before .before .loop-test in
     omega (arith, loop-test .taken, entry .pre .1 .1 .1 .1 .1)
 
 element-set-from-row : tie.Need-element-set-from-row Inv-loop μ-loop
 element-set-from-row c =
-    let entry = c .before .before .before .before .before .before .before .before .before .before .before .before .before .before .before .before .before .before .before .before in
+    let entry = c .before .before .before .before .before .before .before .before .before .before .before .before .before .before .before .before .before .before .before .before .before in
     let loop-test = c .before .before .before .before .before .before .before .before .before .before .before .before .before .before .before .loop-test in
     omega (arith, loop-test .taken, entry .pre .1 .1 .1 .1 .1)
 
@@ -96,7 +96,7 @@ larger-square-requires c κs =
 
 add-i : tie.Need-add-i Inv-loop μ-loop
 add-i c =
-    let entry = c .before .before .before .before .before .before .before .before .before .before .before .before in
+    let entry = c .before .before .before .before .before .before .before .before .before .before .before .before .before in
     let loop-test = c .before .before .before .before .before .before .before .loop-test in
     omega (arith, loop-test .taken, entry .pre .1 .1 .1 .1 .1)
 
@@ -110,7 +110,7 @@ loop-again c =
     let loop-test = c .before .before .before .before .before .before .before .loop-test in
     let next-dynamics = c .before .before .before .before .before .next-dynamics in
     let lp = c .before .before .before .before .before .before .before .before .loop in
-    let start = c .before .before .before .before .before .before .before .before .before .before .before .before in
+    let start = c .before .before .before .before .before .before .before .before .before .before .before .before .before in
     let o = lp .inv in
     let h = loop-test .taken in
     let v = o .1 .1 in
@@ -136,7 +136,7 @@ returns-2 : tie.Need-returns-2 Inv-loop μ-loop
 returns-2 c =
     let l = c .before .before in
     let v = l .loop .inv in
-    let a = l .before .before .before .before .args in
+    let a = l .before .before .before .before .before .args in
     let e : l .loop .i - a .k - 1 ≡ a .end - a .k = omega (arith, v .0) in
     reached-going _ _ _ _ _ _ _ refl (rw e at (v .1 .1 .0)) (record { matrix = v .1 .1 .1 .1 .0 .past (omega (arith, v .0)); plus = v .1 .1 .1 .0 }) (v .1 .0 .0) (v .1 .0 .1)
 

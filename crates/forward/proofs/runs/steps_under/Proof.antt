@@ -9,9 +9,9 @@ steps-on-requires : tie.Need-steps-on-requires
 steps-on-requires c κs =
     let g = c .before .before .before .before .before .before .before .before in
     let d = g .before in
-    let pre = d .before .before .pre in (
+    let pre = d .before .before .before .pre in (
       rw (g .rig-under .ensures, d .control-dim .ensures) (dim-sized _ _ (pre .0 .sized)),
-      (rw (d .control-dim .ensures) (pre .0 .narrow), (rw (g .rig-under .ensures) (pre .0 .skewed), (rw (g .rig-under .ensures) (pre .0 .sound), pre .1))),
+      (rw (d .control-dim .ensures) (pre .0 .narrow), (rw (g .rig-under .ensures) (pre .0 .angles), (rw (g .rig-under .ensures) (pre .0 .sound), pre .1))),
     )
 
 returns : tie.Need-returns

@@ -6,7 +6,7 @@ use Rattle.forward.proofs.steps.dynamics.Tie as tie
 
 finish-dynamics-requires : tie.Need-finish-dynamics-requires
 finish-dynamics-requires c κs =
-    let entry = c .before .before .before .before .before .before .before .before .before .before .before in
+    let entry = c .before .before .before .before .before .before .before .before .before .before .before .before in
     (entry .pre .0, entry .pre .1)
 
 returns : tie.Need-returns

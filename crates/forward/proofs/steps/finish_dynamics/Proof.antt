@@ -10,22 +10,22 @@ use Rattle.forward.proofs.steps.finish_dynamics.Tie as tie
 
 sub-step-gimbals : tie.Need-sub-step-gimbals
 sub-step-gimbals c =
-    let entry = c .before .before .before .before .before in
+    let entry = c .before .before .before .before .before .before in
     omega (arith, row-room _ _ (entry .pre .0))
 
 part-step-gimbals-start : tie.Need-part-step-gimbals-start
 part-step-gimbals-start c =
-    let entry = c .before .before .before .before .before in
+    let entry = c .before .before .before .before .before .before in
     omega (arith, row-room _ _ (entry .pre .0))
 
 step-gimbals-requires : tie.Need-step-gimbals-requires
 step-gimbals-requires c κs =
-    let entry = c .before .before .before .before .before .before in
+    let entry = c .before .before .before .before .before .before .before in
     (omega (arith, row-room _ _ (entry .pre .0)), entry .pre .1)
 
 returns : tie.Need-returns
 returns c =
-    let entry = c .before .before .before .before .before .before .before .before .before .before .before in
+    let entry = c .before .before .before .before .before .before .before .before .before .before .before .before in
     let step-gimbals = c .before .before .before .before .step-gimbals in
     finished-refused _ _ _ _ _ (c .refuse-dynamics .ensures) (λ q q2. ends-gimbals _ _ _ (withAttitude q (entry .args .s)) _ _ _ q2 (step-gimbals .ensures) (c .before .before .fate .given .1))
 
@@ -34,26 +34,26 @@ enum-told c = search needs
 
 part-over-power-end : tie.Need-part-over-power-end
 part-over-power-end c =
-    let entry = c .before .before .before .before .before .before .before .before .before in
+    let entry = c .before .before .before .before .before .before .before .before .before .before in
     omega (arith, row-room _ _ (entry .pre .0))
 
 returns-2 : tie.Need-returns-2
 unfolding Ieee.ofBits
 returns-2 c =
-    let entry = c .before .before .before .before .before .before .before .before .before .before .before .before .before in
+    let entry = c .before .before .before .before .before .before .before .before .before .before .before .before .before .before in
     let step-gimbals = c .before .before .before .before .before .before .step-gimbals in
     let enum-told = c .before .before .before .before .enum-told in
     finished-refused _ _ _ _ _ (c .refuse-dynamics2 .ensures) (λ q q2. ends-powered _ _ _ (withAttitude q (entry .args .s)) _ _ _ q2 (step-gimbals .ensures) (enum-told .given .1) refl (sym (c .before .before .over-power .ensures) ∙ c .before .if1 .taken))
 
 part-momenta-next-end : tie.Need-part-momenta-next-end
 part-momenta-next-end c =
-    let entry = c .before .before .before .before .before .before .before .before .before .before .before .before in
+    let entry = c .before .before .before .before .before .before .before .before .before .before .before .before .before in
     omega (arith, row-room _ _ (entry .pre .0))
 
 returns-3 : tie.Need-returns-3
 unfolding Ieee.ofBits
 returns-3 c =
-    let entry = c .before .before .before .before .before .before .before .before .before .before .before .before .before .before .before .before .before .before .before .before .before .before .before .before in
+    let entry = c .before .before .before .before .before .before .before .before .before .before .before .before .before .before .before .before .before .before .before .before .before .before .before .before .before in
     let step-gimbals = c .before .before .before .before .before .before .before .before .before .before .before .before .before .before .before .before .before .step-gimbals in
     let enum-told = c .before .before .before .before .before .before .before .before .before .before .before .before .before .before .before .enum-told in
     let over-power = c .before .before .before .before .before .before .before .before .before .before .before .before .before .over-power in

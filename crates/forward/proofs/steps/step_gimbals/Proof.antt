@@ -9,7 +9,7 @@ use Rattle.forward.proofs.steps.step_gimbals.Tie as tie
 
 step-pyramid-requires : tie.Need-step-pyramid-requires
 step-pyramid-requires c κs =
-    let entry = c .before .before .before .before in
+    let entry = c .before .before .before .before .before in
     rw (c .before .c .given .1) at (entry .pre)
 
 returns : tie.Need-returns

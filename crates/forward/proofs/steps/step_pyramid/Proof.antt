@@ -11,25 +11,25 @@ use Rattle.forward.proofs.steps.step_pyramid.Tie as tie
 returns : tie.Need-returns
 unfolding Ieee.ofBits
 returns c =
-    let entry = c .before .before .before .before .before .before .before .before .before .before in
+    let entry = c .before .before .before .before .before .before .before .before .before .before .before in
     let gimbals-next = c .before .before .before .before .before .before .before .before .gimbals-next in
-    let pyramid-from = c .before .before .before .before .before .before .before .pyramid-from in
+    let pyramid-known = c .before .before .before .before .before .before .before .pyramid-known in
     let enum-told2 = c .before .before .before .before .before .enum-told2 in
-    rw (← pyramid-steps (entry .args .p) (entry .args .u .now) (entry .args .d) (entry .args .dt) (entry .args .k) (entry .args .skew) (entry .pre .1) (gimbals-next .ensures) (pyramid-from .ensures), enum-told2 .given .1, ← c .before .before .before .singularity-of .ensures, c .before .if1 .taken) (c .refuse-gimbals2 .ensures)
+    rw (← pyramid-steps (entry .args .p) (entry .args .u .now) (entry .args .d) (entry .args .dt) (entry .args .k) (entry .args .skew) (entry .pre .1 .0) (gimbals-next .ensures) (pyramid-known .ensures), enum-told2 .given .1, ← c .before .before .before .singularity-of .ensures, c .before .if1 .taken) (c .refuse-gimbals2 .ensures)
 
 returns-2 : tie.Need-returns-2
 returns-2 c =
-    let entry = c .before .before .before .before .before .before in
+    let entry = c .before .before .before .before .before .before .before in
     let gimbals-next = c .before .before .before .before .gimbals-next in
-    rw (← pyramid-steps (entry .args .p) (entry .args .u .now) (entry .args .d) (entry .args .dt) (entry .args .k) (entry .args .skew) (entry .pre .1) (gimbals-next .ensures) (c .before .before .before .pyramid-from .ensures), c .before .enum-told .given .1) (c .refuse-gimbals .ensures)
+    rw (← pyramid-steps (entry .args .p) (entry .args .u .now) (entry .args .d) (entry .args .dt) (entry .args .k) (entry .args .skew) (entry .pre .1 .0) (gimbals-next .ensures) (c .before .before .before .pyramid-known .ensures), c .before .enum-told .given .1) (c .refuse-gimbals .ensures)
 
 returns-3 : tie.Need-returns-3
 returns-3 c =
-    let entry = c .before .before .before .before .before .before .before .before .before in
+    let entry = c .before .before .before .before .before .before .before .before .before .before in
     let gimbals-next = c .before .before .before .before .before .before .before .gimbals-next in
-    let pyramid-from = c .before .before .before .before .before .before .pyramid-from in
+    let pyramid-known = c .before .before .before .before .before .before .pyramid-known in
     let enum-told2 = c .before .before .before .before .enum-told2 in
-    rw (← pyramid-steps (entry .args .p) (entry .args .u .now) (entry .args .d) (entry .args .dt) (entry .args .k) (entry .args .skew) (entry .pre .1) (gimbals-next .ensures) (pyramid-from .ensures), enum-told2 .given .1, ← c .before .before .singularity-of .ensures, c .if1 .left)
+    rw (← pyramid-steps (entry .args .p) (entry .args .u .now) (entry .args .d) (entry .args .dt) (entry .args .k) (entry .args .skew) (entry .pre .1 .0) (gimbals-next .ensures) (pyramid-known .ensures), enum-told2 .given .1, ← c .before .before .singularity-of .ensures, c .if1 .left)
 
 pub step-pyramid-spec : {M : Type 1} → statement M
 step-pyramid-spec =

@@ -24,7 +24,7 @@ returns c =
     let sum-row = c .before .before .before .before .before .before .before .before .before .sum-row in
     let a = c .before .before .before .before .before .before .before .before .before .before .before .before .before .before .args in
     let g = c .before .before .before .before .put-sums in
-    subst (λ w. Inner.RowFilled w (a .m) (a .v .now) (a .lambda) (a .c) (g .last .0)) (sum-row .kept .1 .1 .1 .0) (g .ensures)
+    subst (λ w. Inner.RowFilled w (a .m) (a .v .now) (a .c) (g .last .0)) (sum-row .kept .1 .1 .1 .0) (g .ensures)
 
 pub matrix-row-spec : {M : Type 1} → statement M
 matrix-row-spec =

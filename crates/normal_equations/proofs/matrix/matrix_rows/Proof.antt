@@ -28,7 +28,7 @@ put-sums-requires-2 c κs = let s = c .before .before .before .before .before .b
     let r : List Float = f .last .1 .1 .1 .1 .0 in
     let u : List Float = g .last .0 in
     let e : n ≡ length r = sym (f .kept .1 .1 .1 .1 .0 ∙ s .pre .1) in
-    let one : Inner.RowFilled n (a .m) (a .v .now) (a .lambda) (a .c) u = subst (λ w. Inner.RowFilled w (a .m) (a .v .now) (a .lambda) (a .c) u) (f .kept .1 .1 .1 .0) (g .ensures) in (
+    let one : Inner.RowFilled n (a .m) (a .v .now) (a .c) u = subst (λ w. Inner.RowFilled w (a .m) (a .v .now) (a .c) u) (f .kept .1 .1 .1 .0) (g .ensures) in (
       omega arith,
       one .size ∙ s .pre .2 ∙ ap (λ k. k * a .m + k * k) e,
       subst (λ w. Inner.Summed (a .m) (take (w * a .m) u) (a .c + 1) (a .c + 1) w r) e
@@ -44,8 +44,8 @@ returns c = let s = c .before .before .before .before .before .before .before .b
     let u : List Float = g .last .0 in
     record {
       middle = u;
-      first = subst (λ w. Inner.RowFilled w (a .m) (a .v .now) (a .lambda) (a .c) u) (f .kept .1 .1 .1 .0) (g .ensures);
-      second = subst (λ w. Inner.RowFilled w (a .m) u (a .lambda) (a .c + 1) (h .last .0)) (f .kept .1 .1 .1 .1 .0 ∙ s .pre .1) (h .ensures);
+      first = subst (λ w. Inner.RowFilled w (a .m) (a .v .now) (a .c) u) (f .kept .1 .1 .1 .0) (g .ensures);
+      second = subst (λ w. Inner.RowFilled w (a .m) u (a .c + 1) (h .last .0)) (f .kept .1 .1 .1 .1 .0 ∙ s .pre .1) (h .ensures);
     }
 
 pub matrix-rows-spec : {M : Type 1} → statement M

@@ -11,7 +11,7 @@ unfolding Ieee.ofBits
 returns c =
     let entry = c .before .before .before .before .before .before .before .before in (
       rw (c .move-to .ensures, c .before .max .ensures) (judge-taken (entry .args .g .state) (entry .args .t) (c .before .before .before .if1 .taken)),
-      λ p k j h. rw (c .move-to .ensures) (stands-new k),
+      λ p k j a h. rw (c .move-to .ensures) (stands-new k),
     )
 
 returns-2 : tie.Need-returns-2
@@ -20,7 +20,7 @@ returns-2 c =
     let entry = c .before .before .before .before .before .before .before .before .before in
     let if1 = c .before .before .before .before .if1 in (
       rw (c .with-state .ensures, c .before .with-damping .ensures, c .before .before .min .ensures) (judge-left (entry .args .g .state) (entry .args .t) (if1 .left)),
-      λ p k j h. rw (c .with-state .ensures, c .before .with-damping .ensures) h,
+      λ p k j a h. rw (c .with-state .ensures, c .before .with-damping .ensures) h,
     )
 
 pub judge-spec : {M : Type 1} → statement M

@@ -18,7 +18,7 @@ returns c =
     let residuals-of = c .before .before .before .before .before .before .residuals-of in
     let count-runs = c .before .before .before .before .before .count-runs in (
       rw (← trial-of .ensures .0, ← trial-of .ensures .1, ← residuals-of .ensures, c .before .before .before .fate .given .1, c .with-state .ensures, c .before .with-status .ensures, count-runs .ensures),
-      λ j h. rw (c .with-state .ensures, c .before .with-status .ensures, count-runs .ensures) h,
+      λ j a h. rw (c .with-state .ensures, c .before .with-status .ensures, count-runs .ensures) h,
     )
 
 returns-2 : tie.Need-returns-2
@@ -33,7 +33,7 @@ returns-2 c =
     let goes = enum-told .given .1 in
     let t = c .judge .ensures in (
       rw (← trial-of .ensures .0, ← trial-of .ensures .1, ← residuals-of .ensures, goes) (rw (c .before .before .with-state2 .ensures, count-runs .ensures, c .before .trial-candidate .ensures, sizes .m-is) at (t .0)),
-      λ j h. t .1 (entry .args .p) (rw (c .before .trial-candidate .ensures) (known-of _ (residuals-of .ensures) goes (sizes .m-is) refl)) j (rw (c .before .before .with-state2 .ensures, count-runs .ensures) h),
+      λ j a h. t .1 (entry .args .p) (rw (c .before .trial-candidate .ensures) (known-of _ (residuals-of .ensures) goes (sizes .m-is) refl)) j a (rw (c .before .before .with-state2 .ensures, count-runs .ensures) h),
     )
 
 pub try-step-spec : {M : Type 1} → statement M
