@@ -120,16 +120,15 @@ abbrev pub columnsOf : Slopes → List (List Float) → Columns
 columnsOf Slopes.Filled j = Formed j
 columnsOf (Slopes.Broken number place runs) j = Broken number place runs
 
--- r is the residuals of the candidate's decision, whose run goes on, and its length is theirs
-pub record Known (p : CheckedProblem) (c : Candidate) (r : List Float) : Type 0 where
-  pub goes : residualsOf p (c .z) .fate ≡ Fate.Going
-  pub are : residualsOf p (c .z) .r ≡ r
-  pub long : c .residual ≡ normSlice r (width p)
-
 -- r is the residuals of the decision z, whose run goes on
 pub record Answers (p : CheckedProblem) (z r : List Float) : Type 0 where
   pub goes : residualsOf p z .fate ≡ Fate.Going
   pub are : residualsOf p z .r ≡ r
+
+-- the same of the candidate's decision, and its length is theirs
+pub record Known (p : CheckedProblem) (c : Candidate) (r : List Float) : Type 0 where
+  pub answers : Answers p (c .z) r
+  pub long : c .residual ≡ normSlice r (width p)
 
 -- x has the kept rows of its m residuals
 pub record AnswersKept (p : CheckedProblem) (m : ℕ) (z x : List Float) : Type 0 where
@@ -164,7 +163,7 @@ start m seed r = record { state = record { candidate = seedCandidate seed r m; l
 -- ---- how it comes about and stays
 
 pub known-of : {p : CheckedProblem} (c : Candidate) {e : ResidualVector} {m : ℕ} → e ≡ residualsOf p (c .z) → e .fate ≡ Fate.Going → m ≡ width p → c .residual ≡ normSlice (e .r) m → Known p c (e .r)
-known-of {p} c {e} q g em l = record { goes = rw (← q) g; are = rw (← q) refl; long = l ∙ ap (λ x. normSlice (e .r) x) em }
+known-of {p} c {e} q g em l = record { answers = record { goes = rw (← q) g; are = rw (← q) refl }; long = l ∙ ap (λ x. normSlice (e .r) x) em }
 
 pub answers-kept : {p : CheckedProblem} {m : ℕ} {z r x : List Float} → Answers p z r → Gathered m r x → AnswersKept p m z x
 answers-kept {p} {m} {z} {r} {x} a g = record { goes = a .goes; rows = subst (λ y. Gathered m y x) (sym (a .are)) g }
@@ -180,7 +179,7 @@ unfolding width
 width-zeros p z e = rw e (residuals-zeros p z)
 
 pub known-zeros : {p : CheckedProblem} {c : Candidate} {r : List Float} {m : ℕ} → Known p c r → m ≡ width p → Zeros m r
-known-zeros {p} {c} k e = rw (← k .are) (width-zeros p (c .z) e)
+known-zeros {p} {c} k e = rw (← k .answers .are) (width-zeros p (c .z) e)
 
 -- a decision that was let in: its columns are not there
 pub stands-new : {p : CheckedProblem} {c : Candidate} {r : List Float} {j : List (List Float)} {a : List Float} → Known p c r → Standing p c r false j a

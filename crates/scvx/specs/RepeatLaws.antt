@@ -20,7 +20,7 @@ use Rattle.scvx.specs.declared.Status.{Status}
 use Rattle.scvx.specs.declared.Status.the-variants.{Going, Ended, Refused}
 use Rattle.scvx.specs.declared.Candidate.{Candidate}
 use Rattle.scvx.specs.declared.SearchState.{SearchState}
-use Rattle.scvx.specs.Search.{numbers, width, lengthOf, trialCandidate, Columns, Formed, Broken, jacobian, countRuns, withStatus, withDamping, moveTo, strongest, stiffer, weaker, stronger, judge, tryStepBy, trialOf, trialHeld, tryStep, stepOf, takeStepBy, takeStep, linearStepBy, linearStep, goal, improved, iterateBy, beginIteration, iterate, turn}
+use Rattle.scvx.specs.Search.{numbers, width, lengthOf, trialCandidate, Columns, Formed, Broken, jacobian, countRuns, withStatus, withDamping, moveTo, strongest, weaker, stronger, judge, tryStepBy, trialOf, trialHeld, tryStep, stepOf, takeStepBy, takeStep, linearStepBy, linearStep, goal, improved, iterateBy, beginIteration, iterate, turn}
 use Rattle.scvx.specs.ProgressInner.{counted}
 use Rattle.scvx.specs.StepLaws.{turn-going}
 

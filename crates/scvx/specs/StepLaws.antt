@@ -100,7 +100,7 @@ module _ (p : CheckedProblem) (s : SearchState) (r : List Float) where
 module _ (p : CheckedProblem) (k : ℕ) (s : SearchState) {r : List Float} {columns : Bool} {j : List (List Float)} {a : List Float} (h : Standing p (s .candidate) r columns j a) where
   by-length : iterate p k s ≡ cond (le (s .candidate .residual) goal) (withStatus (beginIteration k s) Ended) (linearStep p (beginIteration k s) r)
   unfolding iterate improved
-  by-length = ap (λ (f : Fate). iterateBy p (beginIteration k s) (residualsOf p (s .candidate .z)) f) (h .known .goes) ∙ rw (h .known .are, ← h .known .long)
+  by-length = ap (λ (f : Fate). iterateBy p (beginIteration k s) (residualsOf p (s .candidate .z)) f) (h .known .answers .goes) ∙ rw (h .known .answers .are, ← h .known .long)
 
   pub iterate-ends : le (s .candidate .residual) goal ≡ true → withStatus (beginIteration k s) Ended ≡ iterate p k s
   iterate-ends e = sym (by-length ∙ ap (λ b. cond b (withStatus (beginIteration k s) Ended) (linearStep p (beginIteration k s) r)) e)

@@ -11,7 +11,7 @@ use Rattle.scvx.proofs.steps.form_columns.Statement.{statement}
 use Rattle.scvx.proofs.steps.form_columns.Tie as tie
 
 jacobian-requires : tie.Need-jacobian-requires
-jacobian-requires c κs = let h = c .before .before .before .before .before .before .before .pre in (h .0, (known-zeros (h .1 .1 .known) (h .0 .m-is), record { goes = h .1 .1 .known .goes; are = h .1 .1 .known .are }))
+jacobian-requires c κs = let h = c .before .before .before .before .before .before .before .pre in (h .0, (known-zeros (h .1 .1 .known) (h .0 .m-is), h .1 .1 .known .answers))
 
 count-runs-requires : tie.Need-count-runs-requires
 count-runs-requires c κs =
