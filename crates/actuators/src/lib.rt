@@ -15,7 +15,7 @@ pub use checks::prepare;
 pub use pyramid::{pyramid_a, singularity};
 
 // A reaction wheel as a user declares it.
-#[derive(Drop)]
+#[derive(Clone, Copy)]
 pub struct Wheel {
     pub axis: [f64; 3],
     pub max_torque_nm: f64,
@@ -24,14 +24,14 @@ pub struct Wheel {
 }
 
 // A torque thruster as a user declares it.
-#[derive(Drop)]
+#[derive(Clone, Copy)]
 pub struct Thruster {
     pub torque_axis: [f64; 3],
     pub max_torque_nm: f64,
 }
 
 // A pyramid of four control moment gyros.
-#[derive(Drop)]
+#[derive(Clone, Copy)]
 pub struct CmgPyramid {
     pub skew_rad: f64,
     pub wheel_momentum_nms: f64,
@@ -40,14 +40,14 @@ pub struct CmgPyramid {
 }
 
 // A pyramid, or none.
-#[derive(Drop)]
+#[derive(Clone, Copy)]
 pub enum Cmgs {
     Without,
     With(CmgPyramid),
 }
 
 // What a user fills: the first `wheel_count` wheels and the first `thruster_count` thrusters count.
-#[derive(Drop)]
+#[derive(Clone, Copy)]
 pub struct Actuators {
     pub wheels: [Wheel; MAX_WHEELS],
     pub wheel_count: usize,
@@ -57,13 +57,13 @@ pub struct Actuators {
 }
 
 // A wheel's power limit, held in a struct so that an array of them can be.
-#[derive(Drop)]
+#[derive(Clone, Copy)]
 pub struct Power {
     pub limit: Limit,
 }
 
 // Prepared actuators: unit axes and limits in flat tables, three numbers an axis.
-#[derive(Drop)]
+#[derive(Clone, Copy)]
 pub struct ActuatorMap {
     pub wheel_count: usize,
     pub thruster_count: usize,
@@ -77,28 +77,28 @@ pub struct ActuatorMap {
 }
 
 // What `prepare` answers: how it ended, and the map (blank where it refused).
-#[derive(Drop)]
+#[derive(Clone, Copy)]
 pub struct Prepared {
     pub fate: Fate,
     pub map: ActuatorMap,
 }
 
 // A pyramid's 3 by 4 matrix by rows, or 11 and zeros.
-#[derive(Drop)]
+#[derive(Clone, Copy)]
 pub struct Jacobian {
     pub fate: Fate,
     pub a: [f64; 12],
 }
 
 // The measure of singularity, or 11.
-#[derive(Drop)]
+#[derive(Clone, Copy)]
 pub enum Measure {
     Is(f64),
     Outside,
 }
 
 // A row of controls, of which the first `control_dim` count, or a refusal and zeros.
-#[derive(Drop)]
+#[derive(Clone, Copy)]
 pub struct Allocated {
     pub fate: Fate,
     pub u: [f64; 20],

@@ -11,7 +11,7 @@ use std::num::truncating_f64_to_u64;
 use wide::product::high_product;
 
 // The sum of the terms so far, and the next p.
-#[derive(Drop)]
+#[derive(Clone, Copy)]
 pub struct Arc {
     pub sum: u64,
     pub p: u64,
@@ -30,7 +30,7 @@ fn arc_term(a: Arc, h: u64, n: u64) -> Arc
 }
 
 // The terms so far, and how many were formed where the series has ended, else 0.
-#[derive(Drop)]
+#[derive(Clone, Copy)]
 pub struct Part {
     pub sum: u64,
     pub p: u64,

@@ -9,14 +9,14 @@ use super::turn::reduced;
 use super::{Zone, region};
 
 // How one series ended: its sum's size, its count. There is none where the argument is outside the range or tiny.
-#[derive(Drop)]
+#[derive(Clone, Copy)]
 pub enum Series {
     Ends(u64, u64),
     None,
 }
 
 // How both ended, the sine's first.
-#[derive(Drop)]
+#[derive(Clone, Copy)]
 pub enum Pair {
     End(u64, u64, u64, u64),
     None,

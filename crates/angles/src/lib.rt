@@ -17,21 +17,21 @@ pub mod series;
 pub mod turn;
 
 // What sin, cos and acos answer.
-#[derive(Drop)]
+#[derive(Clone, Copy)]
 pub enum Angle {
     Is(f64),
     Outside,
 }
 
 // What sin_cos answers: the sine, then the cosine.
-#[derive(Drop)]
+#[derive(Clone, Copy)]
 pub enum Both {
     Are(f64, f64),
     Outside,
 }
 
 // Where an argument of sin or cos lies: over 1,024 in size or a NaN, below 2^-26 in size, or between.
-#[derive(Drop)]
+#[derive(Clone, Copy)]
 pub enum Zone {
     Outside,
     Tiny,

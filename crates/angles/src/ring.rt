@@ -46,7 +46,7 @@ fn size_of(q: u64, sine: u64, cosine: u64) -> u64
 }
 
 // A place of the ring and the next.
-#[derive(Drop)]
+#[derive(Clone, Copy)]
 pub struct Places {
     pub sine: f64,
     pub cosine: f64,

@@ -75,7 +75,7 @@ fn term_after(t: u64, j: u64, u: u64, square: u64, d: u64) -> u64
 }
 
 // A series so far: its sum, its last term, and how many of its terms are not zero.
-#[derive(Drop)]
+#[derive(Clone, Copy)]
 pub struct Stage {
     pub sum: u64,
     pub term: u64,
@@ -83,7 +83,7 @@ pub struct Stage {
 }
 
 // How a series ended: its sum, and how many terms it has up to its end, a zero one, which ends it, counted.
-#[derive(Drop)]
+#[derive(Clone, Copy)]
 pub struct Ended {
     pub sum: u64,
     pub terms: u64,
@@ -262,7 +262,7 @@ pub fn cosine_size(u: u64) -> Ended
 }
 
 // How both series ended.
-#[derive(Drop)]
+#[derive(Clone, Copy)]
 pub struct Sums {
     pub sine: Ended,
     pub cosine: Ended,

@@ -12,7 +12,7 @@ const QUARTER: u64 = 0x1921_FB54_442D_1847;
 const EIGHTH: u64 = 0xC90_FDAA_2216_8C23;
 
 // A size as quarters and a rest.
-#[derive(Drop)]
+#[derive(Clone, Copy)]
 pub struct Shares {
     pub quarters: u64,
     pub rest: u64,
@@ -61,7 +61,7 @@ pub fn split(a: f64) -> Shares
 }
 
 // Quarter turns and a rest of at most an eighth turn, which is taken off where `below`.
-#[derive(Drop)]
+#[derive(Clone, Copy)]
 pub struct Turn {
     pub quarter: u64,
     pub size: u64,

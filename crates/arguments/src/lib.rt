@@ -3,7 +3,7 @@ ghost use Rattle.std.specs.Prelude.{◌≡◌};
 ghost use Rattle.arguments.specs.Requests as Requests;
 
 // What a word asks for: a number, or it is none.
-#[derive(Drop)]
+#[derive(Clone, Copy)]
 pub enum Requested {
     Of(usize),
     Not,

@@ -11,7 +11,7 @@ use sample_text::{Course, sample_course};
 use text_writer::put::{put_byte, put_less};
 
 // A sample of a text's plan as the drive board takes it, or the refusal of either, and the runs of a refused plan.
-#[derive(Drop)]
+#[derive(Clone, Copy)]
 pub struct Board {
     pub runs: usize,
     pub driven: Driven,

@@ -6,7 +6,7 @@ ghost use Rattle.byte_planes.specs.Planes.{deltas, plane, word_at, restored};
 ghost use Rattle.byte_planes.specs.Calls.{encoded, encoded_out, decoded, decoded_out};
 
 // How a call ended: the count of what was written, or refusal 28, with the output untouched.
-#[derive(Drop)]
+#[derive(Clone, Copy)]
 pub enum Stored {
     Written(usize),
     Refused,

@@ -12,7 +12,7 @@ pub mod writing;
 use writing::write_problem;
 
 // How a text was taken, and how many bytes of its canonical text were written.
-#[derive(Drop)]
+#[derive(Clone, Copy)]
 pub struct Told {
     pub fate: Fate,
     pub bytes: usize,

@@ -6,7 +6,7 @@ use common::ResidualNumbers;
 use text::hex::{byte, real_of};
 
 // A word and where the next one starts; `going` while its digits go on.
-#[derive(Drop)]
+#[derive(Clone, Copy)]
 pub struct Word {
     pub value: u64,
     pub next: usize,
@@ -14,7 +14,7 @@ pub struct Word {
 }
 
 // A line's head: the function's number, how many words follow, and where they start.
-#[derive(Drop)]
+#[derive(Clone, Copy)]
 pub struct Case {
     pub number: u64,
     pub count: u64,

@@ -11,7 +11,7 @@ use common::{Limit, MAX_WHEELS};
 use control_rows::{Rig, is_bare};
 
 // A control held to its limit: the number, and whether holding changed it.
-#[derive(Drop)]
+#[derive(Clone, Copy)]
 pub struct Held {
     pub x: f64,
     pub changed: bool,

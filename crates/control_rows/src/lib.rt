@@ -8,7 +8,7 @@ use actuators::Cmgs;
 
 // How the wheels' stored momentum enters a step: its cross product with the rate stands once, in Euler's equations; or, as in the published Rust, in the
 // wheels' torque too.
-#[derive(Drop)]
+#[derive(Clone, Copy)]
 pub enum WheelLaw {
     Once,
     Published,
@@ -16,7 +16,7 @@ pub enum WheelLaw {
 
 // Which actuators there are, counts of wheels and thrusters and the pyramid, and the law of the wheels' torque. A map has the same counts and pyramid
 // beside its tables; a step is handed these four fields by value and lends the tables, so that no table is copied.
-#[derive(Drop)]
+#[derive(Clone, Copy)]
 pub struct Rig {
     pub wheel_count: usize,
     pub thruster_count: usize,

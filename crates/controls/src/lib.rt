@@ -9,7 +9,7 @@ use common::{Fate, MAX_THRUSTERS, MAX_WHEELS};
 use control_rows::{Rig, WheelLaw};
 
 // The torque of a row, or the refusal of the pyramid's matrix and zeros.
-#[derive(Drop)]
+#[derive(Clone, Copy)]
 pub struct Torque {
     pub fate: Fate,
     pub tau: [f64; 3],

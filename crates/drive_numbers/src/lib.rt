@@ -11,14 +11,14 @@ use samples::{PathSample, Sampled};
 pub mod lists;
 
 // The size of one: 2^-30 (attitude), 2^-20 (rate, torque, momentum).
-#[derive(Drop)]
+#[derive(Clone, Copy)]
 pub enum Unit {
     Fine,
     Coarse,
 }
 
 // A part's number, or none in 32 bits.
-#[derive(Drop)]
+#[derive(Clone, Copy)]
 pub enum Whole {
     Is(i32),
     Outside,
@@ -88,7 +88,7 @@ pub fn read_back(n: i32, unit: Unit) -> f64
 }
 
 // What `drive_sample` answers: a sample's 13 numbers, or a refusal and zeros.
-#[derive(Drop)]
+#[derive(Clone, Copy)]
 pub struct Driven {
     pub fate: Fate,
     pub numbers: [i32; 13],
@@ -131,7 +131,7 @@ fn number(w: Whole) -> i32
 }
 
 // An attitude's numbers, and whether all are inside.
-#[derive(Drop)]
+#[derive(Clone, Copy)]
 struct AttitudeRow {
     ok: bool,
     w: i32,
@@ -157,7 +157,7 @@ fn attitude(q: Quat) -> AttitudeRow
 }
 
 // A vector's.
-#[derive(Drop)]
+#[derive(Clone, Copy)]
 struct VectorRow {
     ok: bool,
     x: i32,

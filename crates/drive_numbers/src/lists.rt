@@ -8,7 +8,7 @@ use common::{Fate, SOLVER_NODES};
 use samples::{Count, sample_count};
 
 // How a list ended, and how many rows it has.
-#[derive(Drop)]
+#[derive(Clone, Copy)]
 pub struct Listed {
     pub fate: Fate,
     pub rows: usize,

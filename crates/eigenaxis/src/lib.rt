@@ -15,7 +15,7 @@ use problem::{Problem, Weights, check};
 
 // The ladder on its way: whether the climb goes on, the longest duration below that was passed over or refused, the next one of the climb, the duration of the answer
 // that stands, the runs of every try so far, and that answer.
-#[derive(Drop)]
+#[derive(Clone, Copy)]
 pub struct Ladder {
     pub climbing: bool,
     pub low: f64,
@@ -26,7 +26,7 @@ pub struct Ladder {
 }
 
 // What `plan_eigenaxis` answers: the seed's duration, the runs of every try, the planner's answer at that duration.
-#[derive(Drop)]
+#[derive(Clone, Copy)]
 pub struct Eigenaxis {
     pub at: f64,
     pub runs: usize,

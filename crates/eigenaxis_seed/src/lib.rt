@@ -12,14 +12,14 @@ use geom::Rotation;
 use problem::CheckedProblem;
 
 // How the rate goes about the axis: up, level and down, in the shortest duration that the search over durations finds; or in one smooth wave, for sensors that shake.
-#[derive(Drop)]
+#[derive(Clone, Copy)]
 pub enum Shape {
     Fastest,
     Gentle,
 }
 
 // What the next step reads of a run: rate, body momentum, the wheels' momenta, the gimbals' angles.
-#[derive(Drop)]
+#[derive(Clone, Copy)]
 pub struct Motion {
     pub w: [f64; 3],
     pub h: [f64; 3],
@@ -28,7 +28,7 @@ pub struct Motion {
 }
 
 // A seed on its way: whether no control so far was held to its limit, the rates and torques of the nodes, three numbers a node, and the motion reached.
-#[derive(Drop)]
+#[derive(Clone, Copy)]
 pub struct Seeding {
     pub fits: bool,
     pub rates: [f64; 51],

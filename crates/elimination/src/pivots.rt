@@ -7,7 +7,7 @@ ghost use Rattle.elimination.specs.Elimination as Elimination;
 ghost use Rattle.float.specs.Ops as Ops;
 
 // A row, and the size of its number in the pivot's column.
-#[derive(Drop)]
+#[derive(Clone, Copy)]
 pub struct Best {
     pub at: usize,
     pub size: f64,

@@ -21,7 +21,7 @@ use problem_numbers::problem_of;
 use whole_mosaic::{plan_mosaic, quat_of};
 
 // The way that a caller's number asks for, if any.
-#[derive(Drop)]
+#[derive(Clone, Copy)]
 pub enum Asked {
     By(PlanMethod),
     Unknown,

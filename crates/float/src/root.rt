@@ -29,7 +29,7 @@ fn argument(g: u64) -> u64
 }
 
 // What a guess leaves: d is e * 2^52 + 3 * s - 3 less s * s, where that is near.
-#[derive(Drop)]
+#[derive(Clone, Copy)]
 struct Left {
     near: bool,
     d: u64,
@@ -106,7 +106,7 @@ fn norm_shift(v: u64) -> u32
 }
 
 // A number as a square times a number from 1 up to 4: that one's pattern less that of 1, and the exponent of the square's root.
-#[derive(Drop)]
+#[derive(Clone, Copy)]
 pub struct Norm {
     pub g: u64,
     pub k: u64,

@@ -15,7 +15,7 @@ pub mod runs;
 pub mod steps;
 
 // A run's state: attitude, rate, body momentum, the wheels' momenta, the gimbals' angles.
-#[derive(Drop)]
+#[derive(Clone, Copy)]
 pub struct BodyState {
     pub q: Quat,
     pub w: [f64; 3],
@@ -25,7 +25,7 @@ pub struct BodyState {
 }
 
 // What no step changes, apart from the actuators: inertia, its inverse, the norm tolerance, the time of a step.
-#[derive(Drop)]
+#[derive(Clone, Copy)]
 pub struct Frame {
     pub j: [f64; 9],
     pub jinv: [f64; 9],
@@ -34,7 +34,7 @@ pub struct Frame {
 }
 
 // The gimbals after a step, with the pyramid's matrix there; blank where the step is refused.
-#[derive(Drop)]
+#[derive(Clone, Copy)]
 pub struct GimbalStep {
     pub fate: Fate,
     pub delta: [f64; 4],
@@ -42,7 +42,7 @@ pub struct GimbalStep {
 }
 
 // One step: how it ended, the state after it, the torque over it, its defect.
-#[derive(Drop)]
+#[derive(Clone, Copy)]
 pub struct Stepped {
     pub fate: Fate,
     pub s: BodyState,
@@ -52,7 +52,7 @@ pub struct Stepped {
 
 // What a step gives but for the attitude, on which no rate waits: how it ends where the attitude is not refused, the torque, the defect squared, the turn,
 // the state at its end (with any attitude), the pyramid's matrix there.
-#[derive(Drop)]
+#[derive(Clone, Copy)]
 pub struct Dynamics {
     pub fate: Fate,
     pub tau: [f64; 3],
@@ -63,7 +63,7 @@ pub struct Dynamics {
 }
 
 // The attitude at a step's end, or refusal 11, or refusal 5.
-#[derive(Drop)]
+#[derive(Clone, Copy)]
 pub enum Attitude {
     Is(Quat),
     Outside,
@@ -71,14 +71,14 @@ pub enum Attitude {
 }
 
 // The sine and the cosine of a pyramid's skew, made once a run; zeros with no pyramid.
-#[derive(Drop)]
+#[derive(Clone, Copy)]
 pub struct Skew {
     pub sine: f64,
     pub cosine: f64,
 }
 
 // What a run makes once: the skew's sine and cosine, and the pyramid's matrix at the start.
-#[derive(Drop)]
+#[derive(Clone, Copy)]
 pub struct GimbalStart {
     pub fate: Fate,
     pub skew: Skew,
@@ -86,7 +86,7 @@ pub struct GimbalStart {
 }
 
 // A node of a path: time, attitude, rate, torque, body momentum, the wheels' momenta.
-#[derive(Drop)]
+#[derive(Clone, Copy)]
 pub struct Node {
     pub t: f64,
     pub q: Quat,
@@ -97,7 +97,7 @@ pub struct Node {
 }
 
 // A forward run: how it ended, the largest defect, the 17 nodes (blank where it was refused).
-#[derive(Drop)]
+#[derive(Clone, Copy)]
 pub struct Run {
     pub fate: Fate,
     pub defect: f64,
@@ -105,7 +105,7 @@ pub struct Run {
 }
 
 // A run after some of its steps, all of which went on: the state, the pyramid's matrix there, the largest defect squared. Its nodes are lent beside it.
-#[derive(Drop)]
+#[derive(Clone, Copy)]
 pub struct Partway {
     pub s: BodyState,
     pub a: [f64; 12],
@@ -113,14 +113,14 @@ pub struct Partway {
 }
 
 // Some steps of a run: how they ended, and the run after them where they went on.
-#[derive(Drop)]
+#[derive(Clone, Copy)]
 pub struct Went {
     pub fate: Fate,
     pub at: Partway,
 }
 
 // What `reconstruct` answers: the forward runs begun, 0 or 1, and the run.
-#[derive(Drop)]
+#[derive(Clone, Copy)]
 pub struct Reconstructed {
     pub runs: usize,
     pub run: Run,

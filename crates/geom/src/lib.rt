@@ -10,7 +10,7 @@ use angles::{Angle, Both};
 use common::Fate;
 
 // Four numbers, the scalar part first.
-#[derive(Drop)]
+#[derive(Clone, Copy)]
 pub struct Quat {
     pub w: f64,
     pub x: f64,
@@ -19,35 +19,35 @@ pub struct Quat {
 }
 
 // What `normalized` answers: a quaternion of length 1, or refusal 5.
-#[derive(Drop)]
+#[derive(Clone, Copy)]
 pub enum Normal {
     Is(Quat),
     Not,
 }
 
 // What `exp_so3` answers: a quaternion, or refusal 11.
-#[derive(Drop)]
+#[derive(Clone, Copy)]
 pub enum Turned {
     Is(Quat),
     Outside,
 }
 
 // What `log_so3` answers: a rotation vector, or refusal 11.
-#[derive(Drop)]
+#[derive(Clone, Copy)]
 pub enum Rotation {
     By(f64, f64, f64),
     Outside,
 }
 
 // What `unit3` answers: a unit vector, or refusal 3.
-#[derive(Drop)]
+#[derive(Clone, Copy)]
 pub enum Axis {
     Is(f64, f64, f64),
     Not,
 }
 
 // What `invert3` and `invert_spd` answer: the inverse by rows, or refusal 6 and nine zeros.
-#[derive(Drop)]
+#[derive(Clone, Copy)]
 pub struct Inverse {
     pub fate: Fate,
     pub m: [f64; 9],

@@ -14,7 +14,7 @@ use wheel_momenta::{last_momenta, with_momenta};
 
 // How a mosaic stands: the legs answered so far, which is also the index of the leg that comes next or that was refused; the momenta that the next leg starts
 // with; the durations and the runs of the answered legs, summed in order; how it goes on; and the runs of the refused leg, 0 while none is.
-#[derive(Drop)]
+#[derive(Clone, Copy)]
 pub struct Cursor {
     pub index: usize,
     pub momenta: Momenta,
@@ -25,7 +25,7 @@ pub struct Cursor {
 }
 
 // What a turn gives: the cursor after it, and the planner's answer for the leg.
-#[derive(Drop)]
+#[derive(Clone, Copy)]
 pub struct Advanced {
     pub cursor: Cursor,
     pub planned: Planned,

@@ -16,7 +16,7 @@ pub mod lines;
 use lines::{tile_after, tile_at, write_heading};
 
 // A leg that was written: the cursor after it, and how many bytes its heading, its path or refusal, and its sentence have.
-#[derive(Drop)]
+#[derive(Clone, Copy)]
 pub struct Leg {
     pub cursor: Cursor,
     pub heading: usize,

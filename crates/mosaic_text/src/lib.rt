@@ -15,7 +15,7 @@ pub mod tiles;
 use tiles::{Tiles, no_tile, tiles_at};
 
 // What a mosaic's text gives: the problem, how many tiles there are, and the first 64 of them; or refusal 21 with the line, a blank problem and no tiles.
-#[derive(Drop)]
+#[derive(Clone, Copy)]
 pub struct ReadMosaic {
     pub fate: Fate,
     pub problem: Problem,

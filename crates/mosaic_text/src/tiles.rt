@@ -7,7 +7,7 @@ use text::lines::{Row, Words, is_at, line_at};
 
 // The tiles found so far: whether another line may follow, whether the mosaic was closed and the text ends there, the position after them or of the first wrong
 // line, how many they are, and the first 64 of them.
-#[derive(Drop)]
+#[derive(Clone, Copy)]
 pub struct Tiles {
     pub more: bool,
     pub right: bool,

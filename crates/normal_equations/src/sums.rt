@@ -6,7 +6,7 @@ ghost use Rattle.normal_equations.specs.Inner as Inner;
 ghost use Rattle.normal_equations.specs.Normal as Normal;
 
 // Eight sums at once: four of one column, then four of the next.
-#[derive(Drop)]
+#[derive(Clone, Copy)]
 struct Eight {
     a: f64,
     b: f64,

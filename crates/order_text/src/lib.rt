@@ -15,7 +15,7 @@ use reading::{ReadTiles, read_tiles};
 use writing::write_ordered;
 
 // How a text was answered, and how many bytes were written.
-#[derive(Drop)]
+#[derive(Clone, Copy)]
 pub struct Told {
     pub fate: Fate,
     pub bytes: usize,

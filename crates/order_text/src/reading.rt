@@ -9,7 +9,7 @@ use text::hex::{byte, hex_digit};
 use text::lines::is_at;
 
 // A decimal number so far: whether a digit may follow, the position after it, its value.
-#[derive(Drop)]
+#[derive(Clone, Copy)]
 pub struct Number {
     pub going: bool,
     pub at: usize,
@@ -17,7 +17,7 @@ pub struct Number {
 }
 
 // A blank and a number, with the position after it.
-#[derive(Drop)]
+#[derive(Clone, Copy)]
 pub struct Word {
     pub ok: bool,
     pub at: usize,
@@ -25,14 +25,14 @@ pub struct Word {
 }
 
 // How many words a line has, as far as it was looked at.
-#[derive(Drop)]
+#[derive(Clone, Copy)]
 pub struct Width {
     pub going: bool,
     pub count: usize,
 }
 
 // The times read so far, with the position after them.
-#[derive(Drop)]
+#[derive(Clone, Copy)]
 pub struct Row {
     pub ok: bool,
     pub at: usize,
@@ -40,7 +40,7 @@ pub struct Row {
 }
 
 // The rows read so far: the first line that is wrong, or 0; the position after them; the times.
-#[derive(Drop)]
+#[derive(Clone, Copy)]
 pub struct Table {
     pub line: usize,
     pub at: usize,
@@ -48,7 +48,7 @@ pub struct Table {
 }
 
 // What a text says: the tiles, the budget, the first hundred times row after row; or 21 with zeros beside it.
-#[derive(Drop)]
+#[derive(Clone, Copy)]
 pub struct ReadTiles {
     pub fate: Fate,
     pub tiles: usize,

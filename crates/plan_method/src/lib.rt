@@ -12,7 +12,7 @@ use problem::Problem;
 pub const WORKSPACE_MOST: usize = 53_970;
 
 // The search, or a shape of the rate about one axis.
-#[derive(Drop)]
+#[derive(Clone, Copy)]
 pub enum PlanMethod {
     Search,
     Eigenaxis(Shape),

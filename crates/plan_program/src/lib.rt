@@ -8,7 +8,7 @@ use program_output::show;
 use refusal_text::explain_plan;
 
 // How many bytes are for standard output, and how many for standard error.
-#[derive(Drop)]
+#[derive(Clone, Copy)]
 pub struct Answered {
     pub bytes: usize,
     pub said: usize,

@@ -13,7 +13,7 @@ use problem_text::Read;
 use text_writer::{write_path, write_refused};
 
 // How a text's plan ended, the forward runs begun, and how many bytes were written.
-#[derive(Drop)]
+#[derive(Clone, Copy)]
 pub struct Told {
     pub fate: Fate,
     pub runs: usize,

@@ -26,7 +26,7 @@ use seeds::{seed_decision, served};
 // An answered path: its duration, controls of a row, wheels, iterations, the largest defect of its run, the decision (past its numbers stands +0), the 17
 // nodes, and for each place of a row how many of its 16 controls were held to their limit in the projection that made the decision (0 past the controls). All
 // zeros beside a refusal.
-#[derive(Drop)]
+#[derive(Clone, Copy)]
 pub struct Path {
     pub duration: f64,
     pub controls: usize,
@@ -39,7 +39,7 @@ pub struct Path {
 }
 
 // What an entry answers: how it ended, the forward runs begun, the path.
-#[derive(Drop)]
+#[derive(Clone, Copy)]
 pub struct Planned {
     pub fate: Fate,
     pub runs: usize,

@@ -13,7 +13,7 @@ use wheel_momenta::{last_momenta, with_momenta};
 use wheel_record::{Started, commit};
 
 // What a preview answers: the momenta that it began from, and the plan.
-#[derive(Drop)]
+#[derive(Clone, Copy)]
 pub struct Previewed {
     pub began: Momenta,
     pub planned: Planned,

@@ -12,7 +12,7 @@ use geom::{Normal, Quat, invert_spd, is_positive, tensor};
 pub mod starts;
 
 // The six weights of the search's residuals.
-#[derive(Drop)]
+#[derive(Clone, Copy)]
 pub struct Weights {
     pub time: f64,
     pub control: f64,
@@ -23,14 +23,14 @@ pub struct Weights {
 }
 
 // The momenta of `count` wheels, in N m s, in the order in which the wheels are declared.
-#[derive(Drop)]
+#[derive(Clone, Copy)]
 pub struct Momenta {
     pub count: usize,
     pub at: [f64; 8],
 }
 
 // A rest-to-rest slew: from q0 to qf, with the body, its limits, the weights, the two tolerances, the actuators and the momenta that the wheels start with.
-#[derive(Drop)]
+#[derive(Clone, Copy)]
 pub struct Problem {
     pub q0: Quat,
     pub qf: Quat,
@@ -45,7 +45,7 @@ pub struct Problem {
 }
 
 // A problem that passed the checks: both attitudes normalized once, the inertia's inverse, the actuators' tables, the wheels' start momenta with +0 past them.
-#[derive(Drop)]
+#[derive(Clone, Copy)]
 pub struct CheckedProblem {
     pub q0: Quat,
     pub qf: Quat,
@@ -61,7 +61,7 @@ pub struct CheckedProblem {
 }
 
 // What the checks answer; the problem is blank where one refuses.
-#[derive(Drop)]
+#[derive(Clone, Copy)]
 pub struct Checked {
     pub fate: Fate,
     pub problem: CheckedProblem,

@@ -16,7 +16,7 @@ use text::lines::{Row, Words, line_at, wrong_row};
 
 // What was found in a text so far: how the reading goes, the position after it, the rows of the first nine lines, the actuators. Beside a refusal there is
 // nothing.
-#[derive(Drop)]
+#[derive(Clone, Copy)]
 pub struct Found {
     pub fate: Fate,
     pub at: usize,
@@ -25,7 +25,7 @@ pub struct Found {
 }
 
 // What a text gives: the problem, or refusal 21 with the line and a blank problem.
-#[derive(Drop)]
+#[derive(Clone, Copy)]
 pub struct Read {
     pub fate: Fate,
     pub problem: Problem,

@@ -8,7 +8,7 @@ use common::Fate;
 use text::lines::{Row, Words, is_at, line_at, wrong_row};
 
 // One actuator up to its bracket: a wheel's kind is 1, a thruster's 2, a pyramid's 3, and 0 is none of them. `next` is the least kind that may follow.
-#[derive(Drop)]
+#[derive(Clone, Copy)]
 pub struct Item {
     pub kind: usize,
     pub next: usize,
@@ -16,7 +16,7 @@ pub struct Item {
 }
 
 // How far the list is read: whether a line of it follows, that line's number and position, the least kind that may stand there, what was read.
-#[derive(Drop)]
+#[derive(Clone, Copy)]
 pub struct Listing {
     pub fate: Fate,
     pub unclosed: bool,

@@ -10,7 +10,7 @@ use common::{Fate, Limit, SOLVER_NODES};
 use geom::{Quat, Turned};
 
 // A turn by theta about an axis: acceleration for t_acc, a coast for t_coast, deceleration for t_acc. The inertia is nine numbers, by rows.
-#[derive(Drop)]
+#[derive(Clone, Copy)]
 pub struct Profile {
     pub theta: f64,
     pub alpha: f64,
@@ -24,21 +24,21 @@ pub struct Profile {
 }
 
 // What `bang_coast_bang` answers: a profile, or a refusal beside a profile of zeros.
-#[derive(Drop)]
+#[derive(Clone, Copy)]
 pub struct Profiled {
     pub fate: Fate,
     pub profile: Profile,
 }
 
 // What `alpha_from_box` answers: an acceleration, or refusal 7 at place 2.
-#[derive(Drop)]
+#[derive(Clone, Copy)]
 pub enum Acceleration {
     Is(f64),
     Not,
 }
 
 // What `switch_times` answers: the lengths of acceleration and coast and the top rate, or a refusal's number and place.
-#[derive(Drop)]
+#[derive(Clone, Copy)]
 pub enum Switches {
     Are(f64, f64, f64),
     Refused(usize, usize),
@@ -350,7 +350,7 @@ pub fn bang_coast_bang(
 }
 
 // A seed of 17 nodes, three numbers a node.
-#[derive(Drop)]
+#[derive(Clone, Copy)]
 pub struct Seed {
     pub duration: f64,
     pub rates: [f64; 51],

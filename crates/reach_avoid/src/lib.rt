@@ -14,7 +14,7 @@ ghost use Rattle.reach_avoid.specs.Promises.{OutcomePromise, ReplyPromise};
 ghost use Rattle.reach_avoid.specs.TableInner.{entry_of, below, stepped, Holds, Start, turns_at_value};
 
 // What is told of a start: it is home, or forced home (the fewest turns, the lowest first choice), or held off for 64 turns, or outside the ranges.
-#[derive(Drop)]
+#[derive(Clone, Copy)]
 pub enum StartOutcome {
     Home,
     Forced(usize, i64),
@@ -23,7 +23,7 @@ pub enum StartOutcome {
 }
 
 // What the draught replies: what it adds, or there is no reply that holds off, or what was asked is outside the ranges.
-#[derive(Drop)]
+#[derive(Clone, Copy)]
 pub enum DraughtReply {
     With(i64),
     Without,

@@ -6,7 +6,7 @@ use actuators::{ActuatorMap, Cmgs, Power};
 use common::{Fate, Limit, MAX_WHEELS};
 
 // The actuators in one table. Without any they are three thrusters along the body's axes, with the torque box as their limits.
-#[derive(Drop)]
+#[derive(Clone, Copy)]
 pub struct Layout {
     pub fate: Fate,
     pub wheels: bool,

@@ -17,7 +17,7 @@ use reference_motion::Reference;
 const COARSE: usize = 64;
 
 // A reference that was verified, or a refusal beside one without meaning; and how many trials and samples were evaluated.
-#[derive(Drop)]
+#[derive(Clone, Copy)]
 pub struct Planned {
     pub fate: Fate,
     pub trials: usize,

@@ -12,7 +12,7 @@ use reference_motion::{
 };
 
 // A reference, or a refusal beside one without meaning.
-#[derive(Drop)]
+#[derive(Clone, Copy)]
 pub struct Prepared {
     pub fate: Fate,
     pub reference: Reference,

@@ -13,7 +13,7 @@ use reference_motion::Reference;
 
 // The state of a search: whether a duration was verified, the longest one below it that was refused, the next one to try, the best one so far, how the last trial ended,
 // and how many trials and samples were evaluated.
-#[derive(Drop)]
+#[derive(Clone, Copy)]
 pub struct Trials {
     pub found: bool,
     pub low: f64,
@@ -25,7 +25,7 @@ pub struct Trials {
 }
 
 // What a search answers: the duration, or the last trial's refusal; and how many trials and samples were evaluated.
-#[derive(Drop)]
+#[derive(Clone, Copy)]
 pub struct SearchResult {
     pub fate: Fate,
     pub duration: f64,

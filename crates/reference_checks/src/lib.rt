@@ -16,7 +16,7 @@ use reference_motion::{
 const TOLERANCE: f64 = 1.0e-9;
 
 // How the checks ended, and how many samples they evaluated.
-#[derive(Drop)]
+#[derive(Clone, Copy)]
 pub struct Verdict {
     pub fate: Fate,
     pub samples: usize,

@@ -12,7 +12,7 @@ use geom::{Quat, Rotation, Turned, add3, apply_tensor, cross, scale3, sub3, tens
 // A rotation from q0 to qf by the rotation vector phi in a duration, sampled at `steps` equal steps, with the body and its actuators: `count` axes A, three numbers an axis, the
 // inverse of A Aᵀ, the limits of the controls, and of the wheels the limits of momentum and power, the start momenta h₀, their body momentum A h₀ = H₀, and the part of them
 // that exerts no momentum on the body, h₀ - A⁺ H₀. Without actuators the axes are the body's.
-#[derive(Drop)]
+#[derive(Clone, Copy)]
 pub struct Reference {
     pub q0: Quat,
     pub qf: Quat,
@@ -35,7 +35,7 @@ pub struct Reference {
 }
 
 // A sample: whether its sine and cosine are in range, the attitude, the rotation from q0, the rate, its derivative, the wheels' momenta.
-#[derive(Drop)]
+#[derive(Clone, Copy)]
 pub struct Sample {
     pub fate: Fate,
     pub q: Quat,

@@ -16,7 +16,7 @@ use text_writer::write_refused;
 pub mod words;
 
 // How many bytes go to standard output, and how many to standard error.
-#[derive(Drop)]
+#[derive(Clone, Copy)]
 pub struct Printed {
     pub bytes: usize,
     pub said: usize,

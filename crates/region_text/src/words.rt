@@ -5,7 +5,7 @@ ghost use Rattle.region_text.specs.Words as Words;
 use arguments::{Requested, read_requested};
 
 // What a word says: a number, or it is none.
-#[derive(Drop)]
+#[derive(Clone, Copy)]
 pub enum Whole {
     Is(i64),
     Not,

@@ -4,7 +4,7 @@ ghost use Rattle.replay_texts.specs.Heads as Heads;
 
 use cases::read::{Word, stands_before, word_at, words};
 
-#[derive(Drop)]
+#[derive(Clone, Copy)]
 pub struct Head {
     pub kind: u64,
     pub words: usize,

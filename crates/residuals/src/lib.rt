@@ -12,7 +12,7 @@ pub mod sums;
 pub mod terms;
 
 // What the residuals read of a problem: the final attitude, the weights, the controls of a row, the wheels.
-#[derive(Drop)]
+#[derive(Clone, Copy)]
 pub struct Target {
     pub qf: Quat,
     pub weights: Weights,
@@ -21,7 +21,7 @@ pub struct Target {
 }
 
 // Residuals: the first `count` numbers of r; none where the run or a logarithm is refused.
-#[derive(Drop)]
+#[derive(Clone, Copy)]
 pub struct ResidualVector {
     pub fate: Fate,
     pub count: usize,
@@ -29,14 +29,14 @@ pub struct ResidualVector {
 }
 
 // Sums of a run's first steps: energy over these steps, smoothness over the changes between their nodes.
-#[derive(Drop)]
+#[derive(Clone, Copy)]
 pub struct Begun {
     pub energy: f64,
     pub smooth: f64,
 }
 
 // What `residuals` answers: the forward runs begun, 0 or 1, and the residuals.
-#[derive(Drop)]
+#[derive(Clone, Copy)]
 pub struct Measured {
     pub runs: usize,
     pub residuals: ResidualVector,

@@ -13,7 +13,7 @@ pub mod stages;
 pub mod steps;
 
 // How a list ended, and how many rows it has.
-#[derive(Drop)]
+#[derive(Clone, Copy)]
 pub struct Listed {
     pub fate: Fate,
     pub rows: usize,

@@ -12,7 +12,7 @@ use samples::nodes::{at_node, attitude, mean, momentum, rate, rotation, time, ti
 use samples::{PathSample, Sampled};
 
 // A sample's time, the node before it, the time since that node, the rotation since then and its angle.
-#[derive(Drop)]
+#[derive(Clone, Copy)]
 pub struct Placed {
     pub t: f64,
     pub i: usize,
@@ -22,7 +22,7 @@ pub struct Placed {
 }
 
 // A sample's time, the node before it, the time since that node, and the turn since then.
-#[derive(Drop)]
+#[derive(Clone, Copy)]
 pub struct Turning {
     pub t: f64,
     pub i: usize,

@@ -21,7 +21,7 @@ use sample_text::{Course, plan_course};
 
 // What is asked for behind the number of samples: the drive board's numbers or not, the method that the slew is planned by, and the number of the argument behind
 // these words.
-#[derive(Drop)]
+#[derive(Clone, Copy)]
 pub struct Wanted {
     pub board: bool,
     pub method: PlanMethod,

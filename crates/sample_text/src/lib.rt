@@ -18,7 +18,7 @@ use text_writer::forms::state_of;
 pub mod lines;
 
 // A text's plan: how it ended, the forward runs begun, and what dense samples are taken of and with. A refused plan has no nodes but blank ones.
-#[derive(Drop)]
+#[derive(Clone, Copy)]
 pub struct Course {
     pub fate: Fate,
     pub runs: usize,
@@ -30,7 +30,7 @@ pub struct Course {
 }
 
 // A dense sample of a text's plan, or the refusal of either, and the runs of a refused plan.
-#[derive(Drop)]
+#[derive(Clone, Copy)]
 pub struct Dense {
     pub runs: usize,
     pub sampled: Sampled,

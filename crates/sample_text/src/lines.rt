@@ -12,7 +12,7 @@ use text_writer::put::{put_all, put_words};
 use text_writer::write_refused;
 
 // A step: the bytes for standard output, those for standard error, and whether another step follows.
-#[derive(Drop)]
+#[derive(Clone, Copy)]
 pub struct Line {
     pub bytes: usize,
     pub said: usize,

@@ -17,7 +17,7 @@ pub mod nodes;
 pub mod rows;
 
 // A sample: time, attitude, rate, torque, body momentum.
-#[derive(Drop)]
+#[derive(Clone, Copy)]
 pub struct PathSample {
     pub t: f64,
     pub q: Quat,
@@ -27,14 +27,14 @@ pub struct PathSample {
 }
 
 // What `sample` answers: a sample, or a refusal and zeros.
-#[derive(Drop)]
+#[derive(Clone, Copy)]
 pub struct Sampled {
     pub fate: Fate,
     pub sample: PathSample,
 }
 
 // What `sample_count` answers: a number of samples, or refusal 20.
-#[derive(Drop)]
+#[derive(Clone, Copy)]
 pub enum Count {
     Of(usize),
     TooMany,

@@ -25,7 +25,7 @@ pub const MAX_ITERS: usize = 40;
 pub const LM_LAMBDA_MAX: f64 = 1.0e6;
 
 // How the search stands: on its way, ended at a length of at most 0.005, or refused with a number and a place.
-#[derive(Drop)]
+#[derive(Clone, Copy)]
 pub enum Status {
     Going,
     Ended,
@@ -34,7 +34,7 @@ pub enum Status {
 
 // A decision with its residual length, and the projection that made it: the seed's, or a trial's with how many of its 16 controls it held at each place of a row
 // (zeros for the seed's, whose counts stand beside it).
-#[derive(Drop)]
+#[derive(Clone, Copy)]
 pub struct Candidate {
     pub z: Decision,
     pub residual: f64,
@@ -43,7 +43,7 @@ pub struct Candidate {
 }
 
 // The search after some iterations: the decision that it stands at, the damping factor, the iterations and the forward runs begun.
-#[derive(Drop)]
+#[derive(Clone, Copy)]
 pub struct SearchState {
     pub candidate: Candidate,
     pub lambda: f64,
@@ -54,7 +54,7 @@ pub struct SearchState {
 
 // A state with what is kept beside it: the residuals of its decision, and whether the columns of its Jacobian stand in the front of the workspace, with their Gram
 // matrix beside it.
-#[derive(Drop)]
+#[derive(Clone, Copy)]
 pub struct Progress {
     pub state: SearchState,
     pub r: ResidualNumbers,
@@ -62,21 +62,21 @@ pub struct Progress {
 }
 
 // A Jacobian's columns: all formed, or the refusal of a column's run: its number, its place and the columns' runs begun.
-#[derive(Drop)]
+#[derive(Clone, Copy)]
 pub enum Slopes {
     Filled,
     Broken(usize, usize, usize),
 }
 
 // A trial's decision, and how many of its 16 controls at each place of a row were held to their limits.
-#[derive(Drop)]
+#[derive(Clone, Copy)]
 pub struct Trial {
     pub z: Decision,
     pub held: [usize; 12],
 }
 
 // A step of the normal equations: the first numbers of d, where they could be solved.
-#[derive(Drop)]
+#[derive(Clone, Copy)]
 pub struct Step {
     pub solved: bool,
     pub d: Decision,
@@ -84,7 +84,7 @@ pub struct Step {
 
 // What the search answers: how it ended, the forward runs begun, and of a decision that was found its iterations, the decision and its run (blank where refused),
 // whether a trial made it, and then that trial's counts of held controls.
-#[derive(Drop)]
+#[derive(Clone, Copy)]
 pub struct Found {
     pub fate: Fate,
     pub runs: usize,

@@ -11,7 +11,7 @@ use forward::decisions::project_rows;
 use held_counts::held_counts;
 
 // The seed's decision, and how many of its 16 controls at each place of a row were held to their limits.
-#[derive(Drop)]
+#[derive(Clone, Copy)]
 pub struct SeedDecision {
     pub z: Decision,
     pub held: [usize; 12],

@@ -22,7 +22,7 @@ mod known;
 pub use known::know_angles;
 
 // The base run after its first steps, where it is on its way, and the sums of its residuals over them; where not, the rest is free.
-#[derive(Drop)]
+#[derive(Clone, Copy)]
 pub struct Base {
     pub on: bool,
     pub steps: usize,

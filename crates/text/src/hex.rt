@@ -4,14 +4,14 @@ ghost use Rattle.text.specs.Forms as Forms;
 ghost use Rattle.text.specs.Hex as Hexes;
 
 // A pattern of 64 bits with the position after its digits, or none.
-#[derive(Drop)]
+#[derive(Clone, Copy)]
 pub enum Hex {
     Bits(u64, usize),
     Wrong,
 }
 
 // A float with the position after its digits, or none.
-#[derive(Drop)]
+#[derive(Clone, Copy)]
 pub enum Real {
     Is(f64, usize),
     Wrong,

@@ -7,7 +7,7 @@ use crate::hex::{Real, byte, past_blanks, real_at};
 use common::Limit;
 
 // What stands between a line's head and its tail: so many floats; or so many, and then a limit or `none`; or any number of floats.
-#[derive(Drop)]
+#[derive(Clone, Copy)]
 pub enum Words {
     Floats(usize),
     Limited(usize),
@@ -15,7 +15,7 @@ pub enum Words {
 }
 
 // The floats of a line: how many they are, the first nine of them, the last as a limit, and the position after them.
-#[derive(Drop)]
+#[derive(Clone, Copy)]
 pub struct Row {
     pub ok: bool,
     pub at: usize,

@@ -15,7 +15,7 @@ use table::{cost_of, floor, refused};
 
 // What is found: the order in the first places, 0 in those past the tiles; its cost; how many tiles were placed; whether one more was wanted than the budget
 // has; the floor, which no order goes below.
-#[derive(Drop)]
+#[derive(Clone, Copy)]
 pub struct Found {
     pub order: [usize; 10],
     pub cost: u64,
@@ -25,7 +25,7 @@ pub struct Found {
 }
 
 // The answer; beside a refusal everything found is 0.
-#[derive(Drop)]
+#[derive(Clone, Copy)]
 pub struct Ordered {
     pub fate: Fate,
     pub found: Found,

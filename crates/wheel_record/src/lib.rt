@@ -7,7 +7,7 @@ use float_bits::same_bits;
 use problem::Momenta;
 
 // What a start answers: whether it was started, else 26 and its place; and the momenta on record after it.
-#[derive(Drop)]
+#[derive(Clone, Copy)]
 pub struct Started {
     pub fate: Fate,
     pub on_record: Momenta,
