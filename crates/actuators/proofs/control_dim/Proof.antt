@@ -8,46 +8,46 @@ use Rattle.actuators.specs.MapLaws.{sized_counts, gimbals_most}
 use Rattle.actuators.proofs.control_dim.Statement.{statement}
 use Rattle.actuators.proofs.control_dim.Tie as tie
 
-returns : tie.Need-returns
+returns : tie.Need-returns-then-not-is_sized
 unfolding control_dim
-returns c = rw (← c.before.is-sized.ensures, not-true c.before.is-sized.result c.if1.true)
+returns c = rw (← c.before.is_sized.ensures, not-true c.before.is_sized.result c.if-not-is_sized.true)
 
-returns_2 : tie.Need-returns-2
+returns_2 : tie.Need-returns-then-is_empty
 unfolding control_dim
 returns_2 c =
     rw (
-      ← c.before.before.before.is-sized.ensures,
-      not-false c.before.before.before.is-sized.result c.before.before.if1.false,
-      ← c.before.is-empty.ensures,
-      c.if2.true,
+      ← c.before.before.before.is_sized.ensures,
+      not-false c.before.before.before.is_sized.result c.before.before.if-not-is_sized.false,
+      ← c.before.is_empty.ensures,
+      c.if-is_empty.true,
     )
 
-add-result : tie.Need-overflow-add-result
+add-result : tie.Need-overflow_add-result
 add-result c =
     let branch1 = c.before.before.before in
     let after-is-sized = branch1.before in
-    let s = sized_counts _ (sym after-is-sized.is-sized.ensures ∙ not-false after-is-sized.is-sized.result branch1.if1.false) in
+    let s = sized_counts _ (sym after-is-sized.is_sized.ensures ∙ not-false after-is-sized.is_sized.result branch1.if-not-is_sized.false) in
     omega arith
 
-add-result-2 : tie.Need-overflow-add-result-2
+add-result-2 : tie.Need-overflow_add-result-2
 add-result-2 c =
     let branch1 = c.before.before.before.before in
     let after-is-sized = branch1.before in
     let start = after-is-sized.before in
-    let s = sized_counts _ (sym after-is-sized.is-sized.ensures ∙ not-false after-is-sized.is-sized.result branch1.if1.false) in
+    let s = sized_counts _ (sym after-is-sized.is_sized.ensures ∙ not-false after-is-sized.is_sized.result branch1.if-not-is_sized.false) in
     omega (arith, c.gimbals.ensures, gimbals_most start.args.map.cmgs)
 
-returns_3 : tie.Need-returns-3
+returns_3 : tie.Need-returns
 unfolding control_dim
 returns_3 c =
     let after-is-empty = c.before.before.before in
     let branch1 = after-is-empty.before in
     let after-is-sized = branch1.before in
     rw (
-      ← after-is-sized.is-sized.ensures,
-      not-false after-is-sized.is-sized.result branch1.if1.false,
-      ← after-is-empty.is-empty.ensures,
-      c.before.before.if2.false,
+      ← after-is-sized.is_sized.ensures,
+      not-false after-is-sized.is_sized.result branch1.if-not-is_sized.false,
+      ← after-is-empty.is_empty.ensures,
+      c.before.before.if-is_empty.false,
       c.gimbals.ensures,
     )
 

@@ -6,7 +6,7 @@ use Rattle.actuators.proofs.is_empty.Tie as tie
 
 returns : tie.Need-returns
 unfolding is_empty
-returns c = rw c.no-cmgs.ensures
+returns c = rw c.no_cmgs.ensures
 
 pub is_empty_spec : {M : Type 1} → statement M
 is_empty_spec = tie.close (tie.spec (λ c κs. search rules) returns)

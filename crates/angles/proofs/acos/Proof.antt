@@ -13,23 +13,23 @@ by : (w : Float) (b : Bool) → in_unit w ≡ b → cond b (Angle.Is (arc_of w))
 unfolding acos_of
 by w b e = ap (λ (b : Bool). cond b (Angle.Is (arc_of w)) Angle.Outside) (sym e)
 
-arc-cosine-requires : tie.Need-arc-cosine-requires
+arc-cosine-requires : tie.Need-arc_cosine-requires
 unfolding in_unit
-arc-cosine-requires c κs = sym (and_yes _ _ c.before.if1.true) ∙ c.if2.true
+arc-cosine-requires c κs = sym (and_yes _ _ c.before.if-w.true) ∙ c.if-w-2.true
 
-returns : tie.Need-returns
+returns : tie.Need-returns-then-w-2
 unfolding in_unit
 returns c =
     let t = c.before in
-    ap Angle.Is c.arc-cosine.ensures ∙ by _ true (sym (and_yes _ _ t.before.if1.true) ∙ t.if2.true)
+    ap Angle.Is c.arc_cosine.ensures ∙ by _ true (sym (and_yes _ _ t.before.if-w.true) ∙ t.if-w-2.true)
 
-returns_2 : tie.Need-returns-2
+returns_2 : tie.Need-returns-else-w-2
 unfolding in_unit
-returns_2 c = by _ false (sym (and_yes _ _ c.before.if1.true) ∙ c.if2.false)
+returns_2 c = by _ false (sym (and_yes _ _ c.before.if-w.true) ∙ c.if-w-2.false)
 
-returns_3 : tie.Need-returns-3
+returns_3 : tie.Need-returns-else-w
 unfolding in_unit
-returns_3 c = by _ false (sym (and_no _ _ c.if1.false))
+returns_3 c = by _ false (sym (and_no _ _ c.if-w.false))
 
 pub acos_spec : {M : Type 1} → statement M
 acos_spec = tie.close (tie.spec arc-cosine-requires returns returns_2 returns_3)

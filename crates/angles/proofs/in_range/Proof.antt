@@ -4,13 +4,13 @@ use Rattle.angles.proofs.Tests.{and_yes, and_no}
 use Rattle.angles.proofs.in_range.Statement.{statement}
 use Rattle.angles.proofs.in_range.Tie as tie
 
-returns : tie.Need-returns
+returns : tie.Need-returns-then-x
 unfolding in_range
-returns c = and_yes _ _ c.if1.true
+returns c = and_yes _ _ c.if-x.true
 
-returns_2 : tie.Need-returns-2
+returns_2 : tie.Need-returns-else-x
 unfolding in_range
-returns_2 c = and_no _ _ c.if1.false
+returns_2 c = and_no _ _ c.if-x.false
 
 pub in_range_spec : {M : Type 1} → statement M
 in_range_spec = tie.close (tie.spec returns returns_2)

@@ -6,28 +6,28 @@ use Rattle.angles.proofs.Answered.{sin_by_law, sine_at_law}
 use Rattle.angles.proofs.sin.Statement.{statement}
 use Rattle.angles.proofs.sin.Tie as tie
 
-returns : tie.Need-returns
+returns : tie.Need-returns-then-is_tiny
 returns c =
     let t = c.before in
     let r = t.before.before in
-    sin_by_law _ (is_tiny _ _ _ r.in_range_law.ensures t.is_tiny.ensures t.before.if1.true c.if2.true) refl
+    sin_by_law _ (is_tiny _ _ _ r.in_range_law.ensures t.is_tiny.ensures t.before.if-in_range.true c.if-is_tiny.true) refl
 
-reduced-requires : tie.Need-reduced-requires
+reduced-requires : tie.Need-reduced-t-requires
 reduced-requires c κs =
     let t = c.before in
     let r = t.before.before in
-    sym (is_inside _ _ _ r.in_range_law.ensures t.is_tiny.ensures t.before.if1.true c.if2.false)
+    sym (is_inside _ _ _ r.in_range_law.ensures t.is_tiny.ensures t.before.if-in_range.true c.if-is_tiny.false)
 
-returns_2 : tie.Need-returns-2
+returns_2 : tie.Need-returns-else-is_tiny
 returns_2 c =
     let d = c.before in
     let m = d.before in
     let t = m.before in
     let r = t.before.before in
-    ap Angle.Is (sine_at_law d.reduced.ensures c.ring-at.ensures) ∙ sin_by_law _ (is_inside _ _ _ r.in_range_law.ensures t.is_tiny.ensures t.before.if1.true m.if2.false) refl
+    ap Angle.Is (sine_at_law d.reduced-t.ensures c.ring_at.ensures) ∙ sin_by_law _ (is_inside _ _ _ r.in_range_law.ensures t.is_tiny.ensures t.before.if-in_range.true m.if-is_tiny.false) refl
 
-returns_3 : tie.Need-returns-3
-returns_3 c = sin_by_law _ (is_outside _ _ true c.before.in_range_law.ensures c.if1.false) refl
+returns_3 : tie.Need-returns-else-in_range
+returns_3 c = sin_by_law _ (is_outside _ _ true c.before.in_range_law.ensures c.if-in_range.false) refl
 
 pub sin_spec : {M : Type 1} → statement M
 sin_spec =

@@ -4,13 +4,13 @@ use borrow.Author.Rules.{rules}
 use Rattle.arguments.proofs.next.Statement.{statement}
 use Rattle.arguments.proofs.next.Tie as tie
 
-returns : tie.Need-returns
+returns : tie.Need-returns-in-Not
 unfolding next
-returns c = rw c.enum_told.given.1
+returns c = rw c.enum_told-1.given.1
 
-returns_2 : tie.Need-returns-2
+returns_2 : tie.Need-returns-in-Of
 unfolding next
-returns_2 c = rw (c.with-digit.ensures, c.before.before.r.given.1)
+returns_2 c = rw (c.with_digit.ensures, c.before.before.r-1.given.1)
 
 pub next_spec : {M : Type 1} → statement M
 next_spec = tie.close (tie.spec (search rules) (search rules) (search rules) returns returns_2)

@@ -9,16 +9,16 @@ use borrow.Author.Rules.{rules}
 use Rattle.board_text.proofs.put_number.Statement.{statement}
 use Rattle.board_text.proofs.put_number.Tie as tie
 
-abbrev start : tie.After-put-less-arg → tie.Start
+abbrev start : tie.After-put_less-arg-1 → tie.Start
 start c = c.before.before.before.before.before.before
 
-cast-put-less : tie.Need-overflow-cast-put-less
+cast-put-less : tie.Need-overflow_cast-n
 cast-put-less c = let h = (start c).ranges.n in rw (to_z-of_z h) (widened _ h)
 
-add-put-less : tie.Need-overflow-add-put-less
+add-put-less : tie.Need-overflow_add-n
 add-put-less c = let h = (start c).ranges.n in rw (to_z-of_z h, to_z-of_z (widened _ h)) (sum_fits _ h)
 
-cast-put-less-2 : tie.Need-overflow-cast-put-less-2
+cast-put-less-2 : tie.Need-overflow_cast-n-2
 cast-put-less-2 c =
     let n = (start c).args.n in
     let h = (start c).ranges.n in
@@ -29,8 +29,8 @@ returns c =
     let less = c.before.before in
     let n = (start less.before).args.n in
     let h = (start less.before).ranges.n in
-    let e = rw (to_z-of_z h, to_z-of_z (widened n h), to_z-of_z (sum_fits n h), ← sum_back n h) at less.put-less.ensures in
-    puts_join less.before.before.before.before.put_byte.ensures e
+    let e = rw (to_z-of_z h, to_z-of_z (widened n h), to_z-of_z (sum_fits n h), ← sum_back n h) at less.put_less.ensures in
+    puts_join less.before.before.before.before.put_byte-i.ensures e
 
 pub put_number_spec : {M : Type 1} → statement M
 put_number_spec = tie.close (tie.spec (search rules) cast-put-less add-put-less cast-put-less-2 (search rules) (search rules) returns)

@@ -12,25 +12,25 @@ use borrow.Author.Rules.{rules}
 use Rattle.board_text.proofs.put_row.Statement.{statement}
 use Rattle.board_text.proofs.put_row.Tie as tie
 
-abbrev invariant_loop : tie.invariant_loop
+abbrev invariant_loop : tie.invariant-loop-k
 invariant_loop b₀ at v i₀ k₀ b i k = PutsFirst (number_at v) 22 13 b₀ at k b i
 
-abbrev decreases_loop : tie.decreases_loop
+abbrev decreases_loop : tie.decreases-loop-k
 decreases_loop b₀ at v i₀ k₀ b i k = 13 - k
 
-loop-again : tie.Need-loop-preserved invariant_loop decreases_loop
+loop-again : tie.Need-loop-k-preserved invariant_loop decreases_loop
 loop-again c =
     let put = c.before.before in
-    let l = put.before.before.before.before.loop in
+    let l = put.before.before.before.before.loop-k in
     let a = put.before.before.before.before.before.before.args in
     let e : to_z w32 (of_z w32 (get_or a.v.now l.k (pos 0))) ≡ get_or a.v.now l.k (pos 0) = search rules in
-    first_next l.invariant (omega arith) (rw e at put.put-number.ensures) put.put-number.auto.0
+    first_next l.invariant (omega arith) (rw e at put.put_number-i.ensures) put.put-number.auto.0
 
 returns : tie.Need-returns invariant_loop decreases_loop
 unfolding row
-returns c = first_all c.before.loop.invariant (omega arith)
+returns c = first_all c.before.loop-k.invariant (omega arith)
 
 pub put_row_spec : {M : Type 1} → statement M
 put_row_spec =
     tie.close
-    (tie.spec invariant_loop decreases_loop (λ c. first_none) (search rules) (search rules) (search rules) (search rules) (search rules) loop-again (λ c. c.before.loop.invariant.same) returns)
+    (tie.spec invariant_loop decreases_loop (λ c. first_none) (search rules) (search rules) (search rules) (search rules) (search rules) loop-again (λ c. c.before.loop-k.invariant.same) returns)

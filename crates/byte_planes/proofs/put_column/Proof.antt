@@ -13,40 +13,40 @@ use Rattle.byte_planes.proofs.Turns.{column_at, front_next}
 use Rattle.byte_planes.proofs.put_column.Statement.{statement}
 use Rattle.byte_planes.proofs.put_column.Tie as tie
 
-abbrev invariant_loop : tie.invariant_loop
+abbrev invariant_loop : tie.invariant-loop-i
 invariant_loop bytes n out₀ previous₀ i₀ out previous i =
     (i ≤ n) × (previous ≡ get_or (0 ∷ restored bytes n) i 0) × (out ≡ take i (restored bytes n) ++ drop i out₀) × (length out ≡ length out₀)
 
-abbrev decreases_loop : tie.decreases_loop
+abbrev decreases_loop : tie.decreases-loop-i
 decreases_loop bytes n out₀ previous₀ i₀ out previous i = n - i
 
-loop-holds : tie.Need-loop-init invariant_loop decreases_loop
+loop-holds : tie.Need-loop-i-init invariant_loop decreases_loop
 loop-holds c = (omega arith, refl, refl, refl)
 
-read-word-requires : tie.Need-read-word-requires invariant_loop decreases_loop
+read-word-requires : tie.Need-read_word-previous-requires invariant_loop decreases_loop
 read-word-requires c κs = (omega arith, omega arith)
 
-mul-out : tie.Need-overflow-mul-out invariant_loop decreases_loop
+mul-out : tie.Need-offset_bounds-out-i invariant_loop decreases_loop
 mul-out c =
-    let good = c.before.before.before.before.before.well-formed in
+    let good = c.before.before.before.before.before.well_formed in
     omega (arith, good.1.1.0.1)
 
-loop-again : tie.Need-loop-preserved invariant_loop decreases_loop
+loop-again : tie.Need-loop-i-preserved invariant_loop decreases_loop
 loop-again c =
-    let l = c.before.before.loop in
+    let l = c.before.before.loop-i in
     let a = c.before.before.before.before.before.args in
     let s = restored a.bytes.now a.n in
-    let e : bit_xor c.read_word.result l.previous ≡ get_or s l.i 0 =
-    ap (λ x. bit_xor x l.previous) c.read_word.ensures ∙ ap (bit_xor (word_at a.bytes.now a.n l.i 8)) l.invariant.1 ∙ column_at a.bytes.now a.n l.i (omega arith) in (
+    let e : bit_xor c.read_word-previous.result l.previous ≡ get_or s l.i 0 =
+    ap (λ x. bit_xor x l.previous) c.read_word-previous.ensures ∙ ap (bit_xor (word_at a.bytes.now a.n l.i 8)) l.invariant.1 ∙ column_at a.bytes.now a.n l.i (omega arith) in (
       omega arith,
       rw (add-one l.i) e,
       front_next s a.out.now l.out l.i _ (omega (arith, length_restored a.bytes.now a.n)) (omega arith) l.invariant.2 e,
-      length-set l.out l.i (bit_xor c.read_word.result l.previous) ∙ l.invariant.3,
+      length-set l.out l.i (bit_xor c.read_word-previous.result l.previous) ∙ l.invariant.3,
     )
 
 returns : tie.Need-returns invariant_loop decreases_loop
 returns c =
-    let l = c.before.loop in
+    let l = c.before.loop-i in
     let a = c.before.before.before.before.args in
     let s = restored a.bytes.now a.n in
     let e : l.i ≡ a.n = omega arith in

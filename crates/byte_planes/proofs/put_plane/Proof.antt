@@ -13,19 +13,19 @@ use Rattle.byte_planes.proofs.Turns.{length_plane, pasted, byte_at}
 use Rattle.byte_planes.proofs.put_plane.Statement.{statement}
 use Rattle.byte_planes.proofs.put_plane.Tie as tie
 
-abbrev invariant_loop : tie.invariant_loop
+abbrev invariant_loop : tie.invariant-loop-i
 invariant_loop column j at out₀ lower shift previous₀ i₀ out previous i =
     (i ≤ length column) × (previous ≡ get_or (0 ∷ column) i 0) × (out ≡ paste out₀ at (plane j (deltas column)) i) × (length out ≡ length out₀)
 
-abbrev decreases_loop : tie.decreases_loop
+abbrev decreases_loop : tie.decreases-loop-i
 decreases_loop column j at out₀ lower shift previous₀ i₀ out previous i = length column - i
 
-loop-holds : tie.Need-loop-init invariant_loop decreases_loop
+loop-holds : tie.Need-loop-i-init invariant_loop decreases_loop
 loop-holds c = (omega arith, refl, paste-zero c.args.out.now c.args.at (plane c.args.j (deltas c.args.column.now)), refl)
 
-loop-again : tie.Need-loop-preserved invariant_loop decreases_loop
+loop-again : tie.Need-loop-i-preserved invariant_loop decreases_loop
 loop-again c =
-    let l = c.before.before.loop in
+    let l = c.before.before.loop-i in
     let a = c.before.before.before.args in
     let w = a.column.now in (
       omega arith,
@@ -37,7 +37,7 @@ loop-again c =
 
 returns : tie.Need-returns invariant_loop decreases_loop
 returns c =
-    let l = c.before.loop in
+    let l = c.before.loop-i in
     let a = c.before.before.args in
     let e : l.i ≡ length a.column.now = omega arith in
     rw e at l.invariant.2

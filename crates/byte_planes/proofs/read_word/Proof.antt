@@ -10,50 +10,50 @@ use Rattle.byte_planes.proofs.Turns.{room, word_next}
 use Rattle.byte_planes.proofs.read_word.Statement.{statement}
 use Rattle.byte_planes.proofs.read_word.Tie as tie
 
-abbrev invariant_loop : tie.invariant_loop
+abbrev invariant_loop : tie.invariant-loop-j
 invariant_loop bytes n i w₀ j₀ w j = (j ≤ 8) × (w ≡ word_at bytes n i j) × (w < 2 ^ (8 * j))
 
-abbrev decreases_loop : tie.decreases_loop
+abbrev decreases_loop : tie.decreases-loop-j
 decreases_loop bytes n i w₀ j₀ w j = 8 - j
 
-loop-holds : tie.Need-loop-init invariant_loop decreases_loop
+loop-holds : tie.Need-loop-j-init invariant_loop decreases_loop
 unfolding word_at
 loop-holds c = (omega arith, refl, omega arith)
 
-mul-w : tie.Need-overflow-mul-w invariant_loop decreases_loop
-mul-w c = omega (arith, room c.before.loop.w c.before.loop.j c.loop-test.true c.before.loop.invariant.2)
+mul-w : tie.Need-overflow_mul-w invariant_loop decreases_loop
+mul-w c = omega (arith, room c.before.loop-j.w c.before.loop-j.j c.loop-j-test.true c.before.loop-j.invariant.2)
 
-mul-w-2 : tie.Need-overflow-mul-w-2 invariant_loop decreases_loop
-mul-w-2 c = omega (arith, row_end c.before.loop.j 8 c.before.before.args.n c.loop-test.true)
+mul-w-2 : tie.Need-overflow_mul-w-in-loop-j invariant_loop decreases_loop
+mul-w-2 c = omega (arith, row_end c.before.loop-j.j 8 c.before.before.args.n c.loop-j-test.true)
 
-add-w : tie.Need-overflow-add-w invariant_loop decreases_loop
-add-w c = omega (arith, row_end c.before.loop.j 8 c.before.before.args.n c.loop-test.true)
+add-w : tie.Need-overflow_add-w invariant_loop decreases_loop
+add-w c = omega (arith, row_end c.before.loop-j.j 8 c.before.before.args.n c.loop-j-test.true)
 
-shared-slice-read-w : tie.Need-shared-slice-read-w invariant_loop decreases_loop
-shared-slice-read-w c = omega (arith, row_end c.before.before.loop.j 8 c.before.before.before.args.n c.before.loop-test.true)
+shared-slice-read-w : tie.Need-bounds-bytes-j invariant_loop decreases_loop
+shared-slice-read-w c = omega (arith, row_end c.before.before.loop-j.j 8 c.before.before.before.args.n c.before.loop-j-test.true)
 
-cast-w : tie.Need-overflow-cast-w invariant_loop decreases_loop
-cast-w c = omega (arith, c.shared-slice-known.given (c.before.before.loop.j * c.before.before.before.args.n + c.before.before.before.args.i))
+cast-w : tie.Need-overflow_cast-w invariant_loop decreases_loop
+cast-w c = omega (arith, c.shared_slice_known-1.given (c.before.before.loop-j.j * c.before.before.before.args.n + c.before.before.before.args.i))
 
-add-w-2 : tie.Need-overflow-add-w-2 invariant_loop decreases_loop
+add-w-2 : tie.Need-overflow_add-w-in-loop-j invariant_loop decreases_loop
 add-w-2 c =
-    let l = c.before.before.loop in
-    omega (arith, room l.w l.j c.before.loop-test.true l.invariant.2, c.shared-slice-known.given (c.before.before.loop.j * c.before.before.before.args.n + c.before.before.before.args.i))
+    let l = c.before.before.loop-j in
+    omega (arith, room l.w l.j c.before.loop-j-test.true l.invariant.2, c.shared_slice_known-1.given (c.before.before.loop-j.j * c.before.before.before.args.n + c.before.before.before.args.i))
 
-loop-again : tie.Need-loop-preserved invariant_loop decreases_loop
+loop-again : tie.Need-loop-j-preserved invariant_loop decreases_loop
 loop-again c =
-    let l = c.before.before.loop in
+    let l = c.before.before.loop-j in
     let a = c.before.before.before.args in
     let k = l.j * a.n + a.i in
     let b = get_or a.bytes.now k 0 in (
       omega arith,
       word_next a.bytes.now a.n a.i l.j l.invariant.1,
-      word_grows l.w b l.j l.invariant.2 (omega (arith, c.shared-slice-known.given k)),
+      word_grows l.w b l.j l.invariant.2 (omega (arith, c.shared_slice_known-1.given k)),
     )
 
 returns : tie.Need-returns invariant_loop decreases_loop
 returns c =
-    let l = c.before.loop in
+    let l = c.before.loop-j in
     let e : l.j ≡ 8 = omega arith in
     rw e at l.invariant.1
 

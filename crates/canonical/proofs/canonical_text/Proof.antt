@@ -4,14 +4,14 @@ use Rattle.canonical.specs.CanonicalLaws.{tells_short, tells}
 use Rattle.canonical.proofs.canonical_text.Statement.{statement}
 use Rattle.canonical.proofs.canonical_text.Tie as tie
 
-returns : tie.Need-returns
-returns c = tells_short _ c.if1.true
+returns : tie.Need-returns-then-out-lt4096
+returns c = tells_short _ c.if-out-lt4096.true
 
-returns_2 : tie.Need-returns-2
+returns_2 : tie.Need-returns
 returns_2 c =
     let written = c.before.before in
     let read = written.before.before.before in
-    tells _ read.read.ensures read.before.if1.false written.rewrite.ensures
+    tells _ read.read-read.ensures read.before.if-out-lt4096.false written.rewrite.ensures
 
 pub canonical_text_spec : {M : Type 1} → statement M
 canonical_text_spec = tie.close (tie.spec returns (search rules) (search rules) (search rules) returns_2)

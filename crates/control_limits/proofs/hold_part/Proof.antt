@@ -11,25 +11,25 @@ use borrow.Author.Rules.{rules}
 use Rattle.control_limits.proofs.hold_part.Statement.{statement}
 use Rattle.control_limits.proofs.hold_part.Tie as tie
 
-abbrev invariant_loop : tie.invariant_loop
+abbrev invariant_loop : tie.invariant-loop-i
 invariant_loop limits n u₀ i₀ u i = (i ≤ n) × ((length u ≡ length u₀) × (u ≡ Stored.stored (Limits.hold_at (at limits)) u₀ i))
 
-abbrev decreases_loop : tie.decreases_loop
+abbrev decreases_loop : tie.decreases-loop-i
 decreases_loop limits n u₀ i₀ u i = n - i
 
-loop-holds : tie.Need-loop-init invariant_loop decreases_loop
+loop-holds : tie.Need-loop-i-init invariant_loop decreases_loop
 loop-holds c = (search rules, (search rules, iter_none _ _))
 
-loop-again : tie.Need-loop-preserved invariant_loop decreases_loop
+loop-again : tie.Need-loop-i-preserved invariant_loop decreases_loop
 loop-again c =
-    let loop = c.before.before.before.before.loop in
-    (search rules, (simp length-set (search rules), iter_next _ _ _ loop.invariant.1.1 (rw c.hold.ensures)))
+    let loop = c.before.before.before.before.loop-i in
+    (search rules, (simp length-set (search rules), iter_next _ _ _ loop.invariant.1.1 (rw c.hold-h.ensures)))
 
 returns : tie.Need-returns invariant_loop decreases_loop
 returns c =
     let entry = c.before.before.before.before in
-    let e : c.before.loop.i ≡ entry.args.n = omega arith in
-    rw (← e) c.before.loop.invariant.1.1
+    let e : c.before.loop-i.i ≡ entry.args.n = omega arith in
+    rw (← e) c.before.loop-i.invariant.1.1
 
 pub hold_part_spec : {M : Type 1} → statement M
 hold_part_spec =

@@ -8,25 +8,25 @@ use borrow.Author.Rules.{rules}
 use Rattle.control_limits.proofs.power_excess.Statement.{statement}
 use Rattle.control_limits.proofs.power_excess.Tie as tie
 
-abbrev invariant_loop : tie.invariant_loop
-invariant_loop axes n u powers omega e₀ i₀ e i = (i ≤ n) × (e ≡ Limits.excess (Limits.power_limit powers) (Limits.power axes u omega) i)
+abbrev invariant_loop : tie.invariant-loop-i
+invariant_loop axes n u powers omega e₀ i₀ e i = (i ≤ n) × (e ≡ Limits.excess (Limits.power_limit powers) (Limits.power-1 axes u omega) i)
 
-abbrev decreases_loop : tie.decreases_loop
+abbrev decreases_loop : tie.decreases-loop-i
 decreases_loop axes n u powers omega e₀ i₀ e i = n - i
 
-loop-holds : tie.Need-loop-init invariant_loop decreases_loop
+loop-holds : tie.Need-loop-i-init invariant_loop decreases_loop
 loop-holds c = (search rules, iter_none _ _)
 
-loop-again : tie.Need-loop-preserved invariant_loop decreases_loop
+loop-again : tie.Need-loop-i-preserved invariant_loop decreases_loop
 loop-again c =
-    let loop = c.before.before.before.before.before.before.before.loop in
-    (search rules, iter_next _ _ _ loop.invariant.1 c.larger-excess.ensures)
+    let loop = c.before.before.before.before.before.before.before.loop-i in
+    (search rules, iter_next _ _ _ loop.invariant.1 c.larger_excess-e.ensures)
 
 returns : tie.Need-returns invariant_loop decreases_loop
 unfolding Limits.power_excess
 returns c =
-    let e : c.before.loop.i ≡ c.before.before.before.args.n = omega arith in
-    rw (← e) c.before.loop.invariant.1
+    let e : c.before.loop-i.i ≡ c.before.before.before.args.n = omega arith in
+    rw (← e) c.before.loop-i.invariant.1
 
 pub power_excess_spec : {M : Type 1} → statement M
 power_excess_spec =

@@ -9,13 +9,13 @@ use borrow.Author.Rules.{rules}
 use Rattle.control_limits.proofs.project_parts.Statement.{statement}
 use Rattle.control_limits.proofs.project_parts.Tie as tie
 
-hold-part-requires-3 : tie.Need-hold-part-requires-3
+hold-part-requires-3 : tie.Need-hold_part-requires-3
 hold-part-requires-3 c κs =
     let after_fewer = c.before.before.before.before.before.before.before.before.before.before.before.before in
     let after-gimbals = after_fewer.before in
     let start = after-gimbals.before.before.before in
-    let f = after_fewer.fewer.ensures in
-    let m = fewer_most after-gimbals.gimbals.result (length start.args.u.now - (start.args.r.wheel_count + start.args.r.thruster_count)) in
+    let f = after_fewer.fewer-n.ensures in
+    let m = fewer_most after-gimbals.gimbals.result (length start.args.u-1.now - (start.args.r.wheel_count + start.args.r.thruster_count)) in
     let g = gimbals_most start.args.r.cmgs in
     (omega (arith, after-gimbals.gimbals.ensures), omega arith)
 
@@ -27,8 +27,8 @@ returns c =
     let after-gimbals = after_fewer.before in
     let after-gimbal-rate = after-gimbals.before in
     let start = after-gimbal-rate.before.before in
-    rw (c.before.before.hold-part3.ensures, after-hold-part2.hold-part2.ensures, after-hold-part.hold-part.ensures, after_fewer.fewer.ensures, after-gimbals.gimbals.ensures, after-gimbal-rate.gimbal_rate_law.ensures)
-    (parts_held start.args.r start.args.wheels.now start.args.thrusters.now start.args.u.now (omega arith))
+    rw (c.before.before.hold_part-3.ensures, after-hold-part2.hold_part-2.ensures, after-hold-part.hold_part.ensures, after_fewer.fewer-n.ensures, after-gimbals.gimbals.ensures, after-gimbal-rate.gimbal_rate_law.ensures)
+    (parts_held start.args.r start.args.wheels.now start.args.thrusters.now start.args.u-1.now (omega arith))
 
 pub project_parts_spec : {M : Type 1} → statement M
 project_parts_spec =

@@ -9,24 +9,24 @@ use borrow.Author.Rules.{rules}
 use Rattle.control_rows.proofs.axis_sum.Statement.{statement}
 use Rattle.control_rows.proofs.axis_sum.Tie as tie
 
-abbrev invariant_loop : tie.invariant_loop
+abbrev invariant_loop : tie.invariant-loop-i
 invariant_loop axes n u e₀ i₀ e i = (i ≤ n) × ((length e ≡ 3) × (e ≡ Parts.axes axes u e₀ i))
 
-abbrev decreases_loop : tie.decreases_loop
+abbrev decreases_loop : tie.decreases-loop-i
 decreases_loop axes n u e₀ i₀ e i = n - i
 
-loop-holds : tie.Need-loop-init invariant_loop decreases_loop
+loop-holds : tie.Need-loop-i-init invariant_loop decreases_loop
 loop-holds c = (search rules, (search rules, iter_none _ _))
 
-loop-again : tie.Need-loop-preserved invariant_loop decreases_loop
+loop-again : tie.Need-loop-i-preserved invariant_loop decreases_loop
 loop-again c =
-    let loop = c.before.before.before.before.before.loop in
+    let loop = c.before.before.before.before.before.loop-i in
     (search rules, (search rules, iter_next _ _ _ loop.invariant.1.1 refl))
 
 returns : tie.Need-returns invariant_loop decreases_loop
 returns c =
-    let e : c.before.loop.i ≡ c.before.before.args.n = omega arith in
-    rw (← e) c.before.loop.invariant.1.1
+    let e : c.before.loop-i.i ≡ c.before.before.args.n = omega arith in
+    rw (← e) c.before.loop-i.invariant.1.1
 
 pub axis_sum_spec : {M : Type 1} → statement M
 axis_sum_spec =

@@ -10,23 +10,23 @@ use borrow.Author.Rules.{rules}
 use Rattle.control_rows.proofs.momenta_next.Statement.{statement}
 use Rattle.control_rows.proofs.momenta_next.Tie as tie
 
-abbrev invariant_loop : tie.invariant_loop
+abbrev invariant_loop : tie.invariant-loop-i
 invariant_loop n u dt out₀ i₀ out i = (i ≤ n) × ((length out ≡ 8) × (out ≡ Stored.stored (Parts.charged u dt) out₀ i))
 
-abbrev decreases_loop : tie.decreases_loop
+abbrev decreases_loop : tie.decreases-loop-i
 decreases_loop n u dt out₀ i₀ out i = n - i
 
-loop-holds : tie.Need-loop-init invariant_loop decreases_loop
+loop-holds : tie.Need-loop-i-init invariant_loop decreases_loop
 loop-holds c = (search rules, (search rules, iter_none _ _))
 
-loop-again : tie.Need-loop-preserved invariant_loop decreases_loop
-loop-again c = (search rules, (search rules, iter_next _ _ _ c.before.before.loop.invariant.1.1 refl))
+loop-again : tie.Need-loop-i-preserved invariant_loop decreases_loop
+loop-again c = (search rules, (search rules, iter_next _ _ _ c.before.before.loop-i.invariant.1.1 refl))
 
 returns : tie.Need-returns invariant_loop decreases_loop
 unfolding Parts.momenta_next
 returns c =
-    let e : c.before.loop.i ≡ c.before.before.args.n = omega arith in
-    rw (← e) c.before.loop.invariant.1.1
+    let e : c.before.loop-i.i ≡ c.before.before.args.n = omega arith in
+    rw (← e) c.before.loop-i.invariant.1.1
 
 pub momenta_next_spec : {M : Type 1} → statement M
 momenta_next_spec =

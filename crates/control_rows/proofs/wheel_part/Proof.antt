@@ -5,16 +5,16 @@ use borrow.Author.Rules.{rules}
 use Rattle.control_rows.proofs.wheel_part.Statement.{statement}
 use Rattle.control_rows.proofs.wheel_part.Tie as tie
 
-returns : tie.Need-returns
+returns : tie.Need-returns-then-n-eq0
 unfolding Parts.wheel_part
-returns c = rw (eq-eqb _ _ c.if1.true)
+returns c = rw (eq-eqb _ _ c.if-n-eq0.true)
 
-returns_2 : tie.Need-returns-2
+returns_2 : tie.Need-returns
 unfolding Parts.wheel_part lib.Ieee.of_bits lib.Ieee.neg
 returns_2 c =
     let after-axis-sum = c.before.before.before in
     let branch1 = after-axis-sum.before.before in
-    rw (c.wheel-by.ensures, c.before.add3.ensures, c.before.before.scale3.ensures, after-axis-sum.axis-sum.ensures, ne_eqb _ _ branch1.if1.false)
+    rw (c.wheel_by.ensures, c.before.add3.ensures, c.before.before.scale3.ensures, after-axis-sum.axis_sum-eta.ensures, ne_eqb _ _ branch1.if-n-eq0.false)
 
 pub wheel_part_spec : {M : Type 1} → statement M
 wheel_part_spec = tie.close (tie.spec returns (λ c κs. search rules) (λ c κs. search rules) (λ c κs. search rules) (λ c κs. search rules) returns_2)

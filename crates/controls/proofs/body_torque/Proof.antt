@@ -8,28 +8,28 @@ use borrow.Author.Rules.{rules}
 use Rattle.controls.proofs.body_torque.Statement.{statement}
 use Rattle.controls.proofs.body_torque.Tie as tie
 
-row-fits-requires : tie.Need-row-fits-requires
+row-fits-requires : tie.Need-row_fits-requires
 row-fits-requires c κs = rw c.gimbals.ensures (gimbals_most c.before.before.before.args.map.cmgs)
 
-returns : tie.Need-returns
+returns : tie.Need-returns-then-not-row_fits
 unfolding Controls.body_torque lib.Ieee.of_bits
 returns c =
     let after-row-fits = c.before.before.before in
     let after-gimbals = after-row-fits.before in
     let after-rig-of = after-gimbals.before in
-    let rig = after-rig-of.rig-of.ensures in
-    let e = rw (rig, after-gimbals.gimbals.ensures) at (sym after-row-fits.row_fits.ensures ∙ not-true _ c.before.before.if1.true) in
-    rw (c.torque-by.ensures, c.before.short_row.ensures, rig, e)
+    let rig = after-rig-of.rig_of-rig.ensures in
+    let e = rw (rig, after-gimbals.gimbals.ensures) at (sym after-row-fits.row_fits.ensures ∙ not-true _ c.before.before.if-not-row_fits.true) in
+    rw (c.torque_by.ensures, c.before.short_row.ensures, rig, e)
 
-row-torque-requires : tie.Need-row-torque-requires
+row-torque-requires : tie.Need-row_torque-tau-requires
 row-torque-requires c κs =
     let branch1 = c.before.before.before.before.before.before in
     let after-row-fits = branch1.before in
     let after-gimbals = after-row-fits.before in
     let after-rig-of = after-gimbals.before in
-    rw after-rig-of.rig-of.ensures (row_fits_sized (rw (after-rig-of.rig-of.ensures, after-gimbals.gimbals.ensures) at (sym after-row-fits.row_fits.ensures ∙ not-false _ branch1.if1.false)))
+    rw after-rig-of.rig_of-rig.ensures (row_fits_sized (rw (after-rig-of.rig_of-rig.ensures, after-gimbals.gimbals.ensures) at (sym after-row-fits.row_fits.ensures ∙ not-false _ branch1.if-not-row_fits.false)))
 
-returns_2 : tie.Need-returns-2
+returns_2 : tie.Need-returns
 unfolding Controls.body_torque
 returns_2 c =
     let after-matrix = c.before.before.before.before.before.before.before in
@@ -37,8 +37,8 @@ returns_2 c =
     let after-row-fits = branch1.before in
     let after-gimbals = after-row-fits.before in
     let after-rig-of = after-gimbals.before in
-    let e = rw (after-rig-of.rig-of.ensures, after-gimbals.gimbals.ensures) at (sym after-row-fits.row_fits.ensures ∙ not-false _ branch1.if1.false) in
-    rw (c.torque-by2.ensures, c.before.row-torque.ensures, after-matrix.matrix.ensures, after-rig-of.rig-of.ensures, e)
+    let e = rw (after-rig-of.rig_of-rig.ensures, after-gimbals.gimbals.ensures) at (sym after-row-fits.row_fits.ensures ∙ not-false _ branch1.if-not-row_fits.false) in
+    rw (c.torque_by-2.ensures, c.before.row_torque-tau.ensures, after-matrix.matrix-made.ensures, after-rig-of.rig_of-rig.ensures, e)
 
 pub body_torque_spec : {M : Type 1} → statement M
 body_torque_spec =

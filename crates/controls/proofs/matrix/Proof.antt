@@ -3,12 +3,12 @@ use borrow.Author.Rules.{rules}
 use Rattle.controls.proofs.matrix.Statement.{statement}
 use Rattle.controls.proofs.matrix.Tie as tie
 
-returns : tie.Need-returns
+returns : tie.Need-returns-in-Without
 unfolding lib.Ieee.of_bits
-returns c = rw c.enum_told.given.1
+returns c = rw c.enum_told-1.given.1
 
-returns_2 : tie.Need-returns-2
-returns_2 c = rw c.before.before.cmgs.given.1 c.pyramid-a.ensures
+returns_2 : tie.Need-returns-in-With
+returns_2 c = rw c.before.before.cmgs-1.given.1 c.pyramid_a.ensures
 
 pub matrix_spec : {M : Type 1} → statement M
 matrix_spec = tie.close (tie.spec (λ c. search rules) (λ c. search rules) (λ c κs. search rules) returns returns_2)

@@ -7,15 +7,15 @@ use borrow.Author.Rules.{rules}
 use Rattle.controls.proofs.paired.Statement.{statement}
 use Rattle.controls.proofs.paired.Tie as tie
 
-returns : tie.Need-returns
+returns : tie.Need-returns-then-wheel_count-gt-MAX_WHEELS
 unfolding Controls.paired
-returns c = (rw (lt-leb _ _ c.if1.true), (search rules, search rules))
+returns c = (rw (lt-leb _ _ c.if-wheel_count-gt-MAX_WHEELS.true), (search rules, search rules))
 
-returns_2 : tie.Need-returns-2
+returns_2 : tie.Need-returns
 unfolding Controls.paired
 returns_2 c =
     let m = fewer_most c.before.before.args.wheel-count c.before.before.args.n in
-    (rw (c.fewer.ensures, le-leb _ _ c.before.if1.false), (omega arith, omega arith))
+    (rw (c.fewer.ensures, le-leb _ _ c.before.if-wheel_count-gt-MAX_WHEELS.false), (omega arith, omega arith))
 
 pub paired_spec : {M : Type 1} → statement M
 paired_spec = tie.close (tie.spec returns (λ c κs. search rules) returns_2)

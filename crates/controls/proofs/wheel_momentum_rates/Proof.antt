@@ -10,23 +10,23 @@ use borrow.Author.Rules.{rules}
 use Rattle.controls.proofs.wheel_momentum_rates.Statement.{statement}
 use Rattle.controls.proofs.wheel_momentum_rates.Tie as tie
 
-abbrev invariant_loop : tie.invariant_loop
+abbrev invariant_loop : tie.invariant-loop-i
 invariant_loop u n out₀ i₀ out i = (i ≤ n) × ((length out ≡ 8) × (out ≡ Stored.stored (Controls.rate_of u) out₀ i))
 
-abbrev decreases_loop : tie.decreases_loop
+abbrev decreases_loop : tie.decreases-loop-i
 decreases_loop u n out₀ i₀ out i = n - i
 
-loop-holds : tie.Need-loop-init invariant_loop decreases_loop
+loop-holds : tie.Need-loop-i-init invariant_loop decreases_loop
 loop-holds c = (search rules, (search rules, iter_none _ _))
 
-loop-again : tie.Need-loop-preserved invariant_loop decreases_loop
-loop-again c = (search rules, (search rules, iter_next _ _ _ c.before.before.loop.invariant.1.1 refl))
+loop-again : tie.Need-loop-i-preserved invariant_loop decreases_loop
+loop-again c = (search rules, (search rules, iter_next _ _ _ c.before.before.loop-i.invariant.1.1 refl))
 
 returns : tie.Need-returns invariant_loop decreases_loop
 unfolding Controls.wheel_momentum_rates lib.Ieee.of_bits
 returns c =
-    let e : c.before.loop.i ≡ c.before.before.paired.result = omega arith in
-    rw (← c.before.before.paired.ensures.0, ← e) c.before.loop.invariant.1.1
+    let e : c.before.loop-i.i ≡ c.before.before.paired-n.result = omega arith in
+    rw (← c.before.before.paired-n.ensures.0, ← e) c.before.loop-i.invariant.1.1
 
 pub wheel_momentum_rates_spec : {M : Type 1} → statement M
 wheel_momentum_rates_spec =

@@ -6,19 +6,19 @@ use Rattle.drive_numbers.specs.Drive.{driven_by, drive}
 use Rattle.drive_numbers.proofs.drive.Statement.{statement}
 use Rattle.drive_numbers.proofs.drive.Tie as tie
 
-returns : tie.Need-returns
+returns : tie.Need-returns-in-Refused
 unfolding drive
 returns c =
     let f = c.before.before in
     let a = f.before.before.before.args in
-    c.refused.ensures ∙ ap (λ (w : Fate). driven_by w a.made.sample a.index) (sym f.fate.given.1)
+    c.refused.ensures ∙ ap (λ (w : Fate). driven_by w a.made.sample-1 a.index) (sym f.fate-1.given.1)
 
-returns_2 : tie.Need-returns-2
+returns_2 : tie.Need-returns-in-Going
 unfolding drive
 returns_2 c =
     let f = c.before in
     let a = f.before.before.before.args in
-    c.numbered.ensures ∙ ap (λ (w : Fate). driven_by w a.made.sample a.index) (sym f.enum_told.given.1)
+    c.numbered.ensures ∙ ap (λ (w : Fate). driven_by w a.made.sample-1 a.index) (sym f.enum_told-1.given.1)
 
 pub drive_spec : {M : Type 1} → statement M
 drive_spec = tie.close (tie.spec (λ c. search rules) (λ c κs. search rules) (λ c. search rules) (λ c κs. search rules) returns returns_2)

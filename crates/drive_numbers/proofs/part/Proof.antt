@@ -9,50 +9,50 @@ use Rattle.drive_numbers.specs.declared.Unit.TheVariants as Unit
 use Rattle.drive_numbers.proofs.part.Statement.{statement}
 use Rattle.drive_numbers.proofs.part.Tie as tie
 
-in_format : (c : tie.After-size) → T (fits binary64 c.before.args.x)
-in_format c = subst T (sym c.before.well-formed.0.1) tt
+in_format : (c : tie.After-size-a) → T (fits binary64 c.before.args.x)
+in_format c = subst T (sym c.before.well_formed.0.1) tt
 
-fine : (c : tie.Then1) → Counted c.before.before.before.before.args.x (add binary64 c.before.before.before.size.result (of_bits binary64 4706261610602168320)) 4706261610602168320 Unit.Fine
-fine c = is_counted _ c.before.before.before.size.result (in_format c.before.before.before) c.before.before.before.size.ensures Unit.Fine c.if1.true
+fine : (c : tie.Then-a) → Counted c.before.before.before.before.args.x (add binary64 c.before.before.before.size-a.result (of_bits binary64 4706261610602168320)) 4706261610602168320 Unit.Fine
+fine c = is_counted _ c.before.before.before.size-a.result (in_format c.before.before.before) c.before.before.before.size-a.ensures Unit.Fine c.if-a.true
 
-coarse : (c : tie.Then2) → Counted c.before.before.before.before.args.x (add binary64 c.before.before.before.size.result (of_bits binary64 4751297606875873280)) 4751297606875873280 Unit.Coarse
-coarse c = is_counted _ c.before.before.before.size.result (in_format c.before.before.before) c.before.before.before.size.ensures Unit.Coarse c.if2.true
+coarse : (c : tie.Then-a-2) → Counted c.before.before.before.before.args.x (add binary64 c.before.before.before.size-a.result (of_bits binary64 4751297606875873280)) 4751297606875873280 Unit.Coarse
+coarse c = is_counted _ c.before.before.before.size-a.result (in_format c.before.before.before) c.before.before.before.size-a.ensures Unit.Coarse c.if-a-2.true
 
-float-to-bits-placed : tie.Need-float-to-bits-placed
+float-to-bits-placed : tie.Need-float_to_bits-a
 float-to-bits-placed c = (fine c).number
 
-sub-placed : tie.Need-overflow-sub-placed
+sub-placed : tie.Need-overflow_sub-a
 sub-placed c = (fine c).from
 
 placed-requires : tie.Need-placed-requires
 placed-requires c κs = (fine c).small
 
-float-to-bits-placed-2 : tie.Need-float-to-bits-placed-2
+float-to-bits-placed-2 : tie.Need-float_to_bits-a-then-a-2
 float-to-bits-placed-2 c = (coarse c).number
 
-sub-placed-2 : tie.Need-overflow-sub-placed-2
+sub-placed-2 : tie.Need-overflow_sub-a-then-a-2
 sub-placed-2 c = (coarse c).from
 
-placed-requires-2 : tie.Need-placed-requires-2
+placed-requires-2 : tie.Need-placed-requires-then-a-2
 placed-requires-2 c κs = (coarse c).small
 
-returns : tie.Need-returns
-returns c = c.placed.ensures ∙ (fine c.before).is ∙ ap (part _) (sym c.before.before.enum_told.given.1)
+returns : tie.Need-returns-then-a
+returns c = c.placed.ensures ∙ (fine c.before).is ∙ ap (part _) (sym c.before.before.enum_told-1.given.1)
 
-returns_2 : tie.Need-returns-2
+returns_2 : tie.Need-returns-else-a
 returns_2 c =
     let entry = c.before.before.before.before in
-    is_outside entry.args.x c.before.before.before.size.result (in_format c.before.before.before) c.before.before.before.size.ensures Unit.Fine c.if1.false
-    ∙ ap (part _) (sym c.before.enum_told.given.1)
+    is_outside entry.args.x c.before.before.before.size-a.result (in_format c.before.before.before) c.before.before.before.size-a.ensures Unit.Fine c.if-a.false
+    ∙ ap (part _) (sym c.before.enum_told-1.given.1)
 
-returns_3 : tie.Need-returns-3
-returns_3 c = c.placed2.ensures ∙ (coarse c.before).is ∙ ap (part _) (sym c.before.before.enum-told2.given.1)
+returns_3 : tie.Need-returns-then-a-2
+returns_3 c = c.placed-then-a-2.ensures ∙ (coarse c.before).is ∙ ap (part _) (sym c.before.before.enum_told-in-Coarse-1.given.1)
 
-returns-4 : tie.Need-returns-4
+returns-4 : tie.Need-returns-else-a-2
 returns-4 c =
     let entry = c.before.before.before.before in
-    is_outside entry.args.x c.before.before.before.size.result (in_format c.before.before.before) c.before.before.before.size.ensures Unit.Coarse c.if2.false
-    ∙ ap (part _) (sym c.before.enum-told2.given.1)
+    is_outside entry.args.x c.before.before.before.size-a.result (in_format c.before.before.before) c.before.before.before.size-a.ensures Unit.Coarse c.if-a-2.false
+    ∙ ap (part _) (sym c.before.enum_told-in-Coarse-1.given.1)
 
 pub part_spec : {M : Type 1} → statement M
 part_spec =

@@ -10,27 +10,27 @@ use Rattle.drive_numbers.proofs.Signs.{off_64, off_32, cut_is}
 use Rattle.drive_numbers.proofs.placed.Statement.{statement}
 use Rattle.drive_numbers.proofs.placed.Tie as tie
 
-sub-t8 : tie.Need-overflow-sub-t8
-sub-t8 c = off_64 c.before.before.args.n c.if2.true
+sub-t8 : tie.Need-overflow_sub-result
+sub-t8 c = off_64 c.before.before.args.n c.if-n-le2147483648.true
 
-cast-t9 : tie.Need-overflow-cast-t9
-cast-t9 c = off_32 c.before.before.args.n c.if2.true
+cast-t9 : tie.Need-overflow_cast-result-then-n-le2147483648
+cast-t9 c = off_32 c.before.before.args.n c.if-n-le2147483648.true
 
-returns : tie.Need-returns
+returns : tie.Need-returns-then-n-le2147483648
 returns c =
     let n = c.before.before.args.n in
-    rw c.before.if1.true (ap Whole.Is (cut_is n c.if2.true) ∙ inside_minus n c.if2.true)
+    rw c.before.if-minus.true (ap Whole.Is (cut_is n c.if-n-le2147483648.true) ∙ inside_minus n c.if-n-le2147483648.true)
 
-returns_2 : tie.Need-returns-2
-returns_2 c = rw c.before.if1.true (outside_minus c.before.before.args.n c.if2.false)
+returns_2 : tie.Need-returns-else-n-le2147483648
+returns_2 c = rw c.before.if-minus.true (outside_minus c.before.before.args.n c.if-n-le2147483648.false)
 
-returns_3 : tie.Need-returns-3
+returns_3 : tie.Need-returns-then-n-le2147483647
 returns_3 c =
     let n = c.before.before.args.n in
-    rw c.before.if1.false (ap Whole.Is (to_z_pos w32 {n = n} (omega arith)) ∙ inside_plus n c.if3.true)
+    rw c.before.if-minus.false (ap Whole.Is (to_z_pos w32 {n = n} (omega arith)) ∙ inside_plus n c.if-n-le2147483647.true)
 
-returns-4 : tie.Need-returns-4
-returns-4 c = rw c.before.if1.false (outside_plus c.before.before.args.n c.if3.false)
+returns-4 : tie.Need-returns-else-n-le2147483647
+returns-4 c = rw c.before.if-minus.false (outside_plus c.before.before.args.n c.if-n-le2147483647.false)
 
 pub placed_spec : {M : Type 1} → statement M
 placed_spec =

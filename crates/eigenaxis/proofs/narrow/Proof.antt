@@ -13,28 +13,28 @@ use borrow.Author.Rules.{rules}
 use Rattle.eigenaxis.proofs.narrow.Statement.{statement}
 use Rattle.eigenaxis.proofs.narrow.Tie as tie
 
-abbrev invariant_loop : tie.invariant_loop
+abbrev invariant_loop : tie.invariant-loop-k
 invariant_loop q shape ws₀ s₀ k₀ ws s k =
-    (k ≤ 8) × ((length ws ≡ length ws₀) × ((s ≡ iter (Ladders.narrow_turn q shape (length ws₀)) s₀ k) × ((s.runs ≤ s₀.runs + k * 7802) × Keeps q shape s₀ s ws₀ ws)))
+    (k ≤ 8) × ((length ws ≡ length ws₀) × ((s ≡ iter (Ladders.narrow_turn-s q shape (length ws₀)) s₀ k) × ((s.runs ≤ s₀.runs + k * 7802) × Keeps q shape s₀ s ws₀ ws)))
 
-abbrev decreases_loop : tie.decreases_loop
+abbrev decreases_loop : tie.decreases-loop-k
 decreases_loop q shape ws₀ s₀ k₀ ws s k = 8 - k
 
-loop-holds : tie.Need-loop-init invariant_loop decreases_loop
+loop-holds : tie.Need-loop-k-init invariant_loop decreases_loop
 loop-holds c = (search rules, (search rules, (iter_none _ _, (omega arith, keeps_same _ _ refl))))
 
-loop-again : tie.Need-loop-preserved invariant_loop decreases_loop
+loop-again : tie.Need-loop-k-preserved invariant_loop decreases_loop
 loop-again c =
-    let loop = c.before.before.before.before.before.loop in
+    let loop = c.before.before.before.before.before.loop-k in
     let i = loop.invariant in
-    let t = c.before.before.narrow-turn in
+    let t = c.before.before.narrow_turn-s in
     let h : t.result.runs ≤ loop.s.runs + 7802 = rw t.ensures.0 (narrow_turn_most _ _ _ 0 _) in
     (omega arith, (t.auto.1.1.1.0 ∙ i.1.0, (iter_next _ _ _ i.1.1.0 ((rw i.1.0 at t.ensures.0) ∙ narrow_any _ _ _ _ _), (omega (arith, h, i.1.1.1.0), keeps_then i.1.1.1.1 t.ensures.1))))
 
 returns : tie.Need-returns invariant_loop decreases_loop
 returns c =
-    let i = c.before.loop.invariant in
-    let e : c.before.loop.k ≡ 8 = omega arith in
+    let i = c.before.loop-k.invariant in
+    let e : c.before.loop-k.k ≡ 8 = omega arith in
     (rw (← e) i.1.1.0, i.1.1.1.1)
 
 pub narrow_spec : {M : Type 1} → statement M

@@ -5,12 +5,12 @@ use borrow.Author.Rules.{rules}
 use Rattle.eigenaxis.proofs.narrow_turn.Statement.{statement}
 use Rattle.eigenaxis.proofs.narrow_turn.Tie as tie
 
-returns : tie.Need-returns
-returns c = (narrow_stays _ _ _ _ 0 c.enum_told.given.1, keeps_same _ _ refl)
+returns : tie.Need-returns-in-Refused
+returns c = (narrow_stays _ _ _ _ 0 c.enum_told-1.given.1, keeps_same _ _ refl)
 
-returns_2 : tie.Need-returns-2
+returns_2 : tie.Need-returns-in-Going
 returns_2 c =
-    let enum-told2 = c.before.before.before.before.before.enum-told2 in
+    let enum-told2 = c.before.before.before.before.before.enum_told-in-Going-1 in
     let middle = c.before.before.before.before.middle in
     (c.before.before.rung.ensures.0 ∙ narrow_goes _ _ _ _ 0 middle.ensures enum-told2.given.1, c.before.before.rung.ensures.1)
 

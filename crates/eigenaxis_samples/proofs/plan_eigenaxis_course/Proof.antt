@@ -10,11 +10,11 @@ returns : tie.Need-returns
 returns c =
     let at-planned = c.before.before.before.before in
     let at_read = at-planned.before.before.before in
-    let made = at-planned.plan-eigenaxis-read.ensures in
+    let made = at-planned.plan_eigenaxis_read-a.ensures in
     record {
-      is = course_planned _ _ _ at_read.read.ensures made.0 c.before.alpha-of.ensures c.course-of.ensures;
-      left = rw (c.course-of.ensures, runs_of) made.1;
-      between = course_between _ _ _ c.course-of.ensures (λ g. promised_between (made.2.given g));
+      is = course_planned _ _ _ at_read.read-read.ensures made.0 c.before.alpha_of.ensures c.course_of.ensures;
+      left = rw (c.course_of.ensures, runs_of) made.1;
+      between = course_between _ _ _ c.course_of.ensures (λ g. promised_between (made.2.given g));
     }
 
 pub plan_eigenaxis_course_spec : {M : Type 1} → statement M

@@ -10,23 +10,23 @@ use borrow.Author.Rules.{rules}
 use Rattle.eigenaxis_samples.proofs.steepest.Statement.{statement}
 use Rattle.eigenaxis_samples.proofs.steepest.Tie as tie
 
-abbrev invariant_loop : tie.invariant_loop
+abbrev invariant_loop : tie.invariant-loop-k
 invariant_loop dt nodes a₀ k₀ a k = (k ≤ 16) × (a ≡ iter (steep_turn nodes dt) plus_zero k)
 
-abbrev decreases_loop : tie.decreases_loop
+abbrev decreases_loop : tie.decreases-loop-k
 decreases_loop dt nodes a₀ k₀ a k = 16 - k
 
-loop-holds : tie.Need-loop-init invariant_loop decreases_loop
+loop-holds : tie.Need-loop-k-init invariant_loop decreases_loop
 loop-holds c = (search rules, iter_none _ _)
 
-loop-again : tie.Need-loop-preserved invariant_loop decreases_loop
+loop-again : tie.Need-loop-k-preserved invariant_loop decreases_loop
 loop-again c =
-    let loop = c.before.before.before.before.before.before.loop in
-    (search rules, iter_next _ _ _ loop.invariant.1 c.steeper.ensures)
+    let loop = c.before.before.before.before.before.before.loop-k in
+    (search rules, iter_next _ _ _ loop.invariant.1 c.steeper-a.ensures)
 
 returns : tie.Need-returns invariant_loop decreases_loop
 unfolding steepest
-returns c = let e : c.before.loop.k ≡ 16 = omega arith in rw e at c.before.loop.invariant.1
+returns c = let e : c.before.loop-k.k ≡ 16 = omega arith in rw e at c.before.loop-k.invariant.1
 
 pub steepest_spec : {M : Type 1} → statement M
 steepest_spec =

@@ -10,21 +10,21 @@ use borrow.Author.Rules.{rules}
 use Rattle.eigenaxis_seed.proofs.alike.Statement.{statement}
 use Rattle.eigenaxis_seed.proofs.alike.Tie as tie
 
-abbrev invariant_loop : tie.invariant_loop
+abbrev invariant_loop : tie.invariant-loop-i
 invariant_loop a b same₀ i₀ same i = (i ≤ 20) × (same ≡ iter (Seeds.alike_turn a b) true i)
 
-abbrev decreases_loop : tie.decreases_loop
+abbrev decreases_loop : tie.decreases-loop-i
 decreases_loop a b same₀ i₀ same i = 20 - i
 
-loop-holds : tie.Need-loop-init invariant_loop decreases_loop
+loop-holds : tie.Need-loop-i-init invariant_loop decreases_loop
 loop-holds c = (search rules, iter_none _ _)
 
-loop-again : tie.Need-loop-preserved invariant_loop decreases_loop
-loop-again c = (search rules, iter_next _ _ _ c.before.before.loop.invariant.1 c.also.ensures)
+loop-again : tie.Need-loop-i-preserved invariant_loop decreases_loop
+loop-again c = (search rules, iter_next _ _ _ c.before.before.loop-i.invariant.1 c.also-same.ensures)
 
 returns : tie.Need-returns invariant_loop decreases_loop
 unfolding Seeds.alike
-returns c = let e : c.before.loop.i ≡ 20 = omega arith in rw (← e) c.before.loop.invariant.1
+returns c = let e : c.before.loop-i.i ≡ 20 = omega arith in rw (← e) c.before.loop-i.invariant.1
 
 pub alike_spec : {M : Type 1} → statement M
 alike_spec =

@@ -5,14 +5,14 @@ use borrow.Author.Rules.{rules}
 use Rattle.eigenaxis_seed.proofs.area.Statement.{statement}
 use Rattle.eigenaxis_seed.proofs.area.Tie as tie
 
-mul-a : tie.Need-overflow-mul-a
+mul-a : tie.Need-overflow_mul-a
 mul-a c = omega (arith, area_small _ c.before.before.requires)
 
-cast-result : tie.Need-overflow-cast-result
+cast-result : tie.Need-overflow_cast-result
 cast-result c = omega (arith, area_small _ c.before.before.requires)
 
-returns : tie.Need-returns
-returns c = rw c.enum_told.given.1
+returns : tie.Need-returns-in-Fastest
+returns c = rw c.enum_told-1.given.1
 
 pub area_spec : {M : Type 1} → statement M
 area_spec = tie.close (tie.spec (λ c. search rules) (λ c. search rules) mul-a cast-result (λ c. search rules) returns (λ c. search rules))

@@ -5,13 +5,13 @@ use borrow.Author.Rules.{rules}
 use Rattle.eigenaxis_seed.proofs.fewer_rising.Statement.{statement}
 use Rattle.eigenaxis_seed.proofs.fewer_rising.Tie as tie
 
-returns : tie.Need-returns
+returns : tie.Need-returns-then-limit-angle
 unfolding Shapes.fewer_rising
-returns c = (rw (← c.before.pace.ensures, c.if1.true), (omega arith, omega arith))
+returns c = (rw (← c.before.pace.ensures, c.if-limit-angle.true), (omega arith, omega arith))
 
-returns_2 : tie.Need-returns-2
+returns_2 : tie.Need-returns-else-limit-angle
 unfolding Shapes.fewer_rising
-returns_2 c = (rw (← c.before.pace.ensures, c.if1.false), (omega arith, omega arith))
+returns_2 c = (rw (← c.before.pace.ensures, c.if-limit-angle.false), (omega arith, omega arith))
 
 pub fewer_rising_spec : {M : Type 1} → statement M
 fewer_rising_spec = tie.close (tie.spec (λ c κs. search rules) (λ c. search rules) returns returns_2)

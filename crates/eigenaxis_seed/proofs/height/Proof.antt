@@ -4,13 +4,13 @@ use borrow.Author.Rules.{rules}
 use Rattle.eigenaxis_seed.proofs.height.Statement.{statement}
 use Rattle.eigenaxis_seed.proofs.height.Tie as tie
 
-returns : tie.Need-returns
-returns c = rw (c.before.before.enum_told.given.1, c.least2.ensures.0, c.before.least.ensures.0)
+returns : tie.Need-returns-in-Fastest
+returns c = rw (c.before.before.enum_told-1.given.1, c.least-h.ensures.0, c.before.least.ensures.0)
 
-returns_2 : tie.Need-returns-2
-returns_2 c = rw c.enum-told2.given.1
+returns_2 : tie.Need-returns-in-Gentle
+returns_2 c = rw c.enum_told-in-Gentle-1.given.1
 
 pub height_spec : {M : Type 1} → statement M
 height_spec =
     tie.close
-    (tie.spec (λ c. search rules) (λ c. search rules) (λ c κs. search rules) (λ c κs. search rules) (λ c. omega (arith, c.least2.ensures.1)) (λ c. search rules) (λ c. search rules) (λ c. search rules) returns returns_2)
+    (tie.spec (λ c. search rules) (λ c. search rules) (λ c κs. search rules) (λ c κs. search rules) (λ c. omega (arith, c.least-h.ensures.1)) (λ c. search rules) (λ c. search rules) (λ c. search rules) returns returns_2)

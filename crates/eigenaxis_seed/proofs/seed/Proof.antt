@@ -9,24 +9,24 @@ use borrow.Author.Rules.{rules}
 use Rattle.eigenaxis_seed.proofs.seed.Statement.{statement}
 use Rattle.eigenaxis_seed.proofs.seed.Tie as tie
 
-abbrev invariant_loop : tie.invariant_loop
-invariant_loop p shape phi duration k s₀ i₀ s i = (i ≤ 16) × ((k ≤ 8) × (s ≡ iter (Seeds.turn p shape k duration phi) s₀ i))
+abbrev invariant_loop : tie.invariant-loop-i
+invariant_loop p shape phi duration k s₀ i₀ s i = (i ≤ 16) × ((k ≤ 8) × (s ≡ iter (Seeds.turn-s p shape k duration phi) s₀ i))
 
-abbrev decreases_loop : tie.decreases_loop
+abbrev decreases_loop : tie.decreases-loop-i
 decreases_loop p shape phi duration k s₀ i₀ s i = 16 - i
 
-loop-holds : tie.Need-loop-init invariant_loop decreases_loop
-loop-holds c = (omega arith, (c.before.rising.ensures.1, iter_none _ _))
+loop-holds : tie.Need-loop-i-init invariant_loop decreases_loop
+loop-holds c = (omega arith, (c.before.rising-k.ensures.1, iter_none _ _))
 
-loop-again : tie.Need-loop-preserved invariant_loop decreases_loop
-loop-again c = (omega arith, (c.before.before.loop.invariant.1.0, iter_next _ _ _ c.before.before.loop.invariant.1.1 c.turn.ensures))
+loop-again : tie.Need-loop-i-preserved invariant_loop decreases_loop
+loop-again c = (omega arith, (c.before.before.loop-i.invariant.1.0, iter_next _ _ _ c.before.before.loop-i.invariant.1.1 c.turn-s.ensures))
 
 returns : tie.Need-returns invariant_loop decreases_loop
 unfolding Seeds.seed
 returns c =
     let l = c.before in
     let e : l.loop.i ≡ 16 = omega arith in
-    rw (← l.before.before.before.norm3.ensures, ← l.before.before.rising.ensures.0, ← l.before.start.ensures, ← e) l.loop.invariant.1.1
+    rw (← l.before.before.before.norm3.ensures, ← l.before.before.rising-k.ensures.0, ← l.before.start-s.ensures, ← e) l.loop-i.invariant.1.1
 
 pub seed_spec : {M : Type 1} → statement M
-seed_spec = tie.close (tie.spec invariant_loop decreases_loop (λ c κs. search rules) (λ c κs. search rules) (λ c κs. search rules) loop-holds (λ c κs. (c.before.loop.invariant.1.0, omega arith)) (λ c. search rules) (λ c. search rules) loop-again returns)
+seed_spec = tie.close (tie.spec invariant_loop decreases_loop (λ c κs. search rules) (λ c κs. search rules) (λ c κs. search rules) loop-holds (λ c κs. (c.before.loop-i.invariant.1.0, omega arith)) (λ c. search rules) (λ c. search rules) loop-again returns)

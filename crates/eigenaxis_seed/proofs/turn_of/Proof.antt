@@ -5,13 +5,13 @@ use borrow.Author.Rules.{rules}
 use Rattle.eigenaxis_seed.proofs.turn_of.Statement.{statement}
 use Rattle.eigenaxis_seed.proofs.turn_of.Tie as tie
 
-returns : tie.Need-returns
+returns : tie.Need-returns-in-Outside
 unfolding Seeds.turn_of Ieee.of_bits
-returns c = rw (← c.before.before.rotation-between.ensures, c.enum_told.given.1)
+returns c = rw (← c.before.before.rotation_between-rotation.ensures, c.enum_told-1.given.1)
 
-returns_2 : tie.Need-returns-2
+returns_2 : tie.Need-returns-in-By
 unfolding Seeds.turn_of
-returns_2 c = rw (← c.before.before.before.rotation-between.ensures, c.before.rotation.given.1)
+returns_2 c = rw (← c.before.before.before.rotation_between-rotation.ensures, c.before.rotation-1.given.1)
 
 pub turn_of_spec : {M : Type 1} → statement M
 turn_of_spec = tie.close (tie.spec (λ c κs. search rules) (λ c. search rules) (λ c. search rules) returns returns_2)

@@ -15,20 +15,20 @@ use native.Mathlib.Omega.{arith}
 use Rattle.elimination.proofs.solve_dense.Statement.{statement}
 use Rattle.elimination.proofs.solve_dense.Tie as tie
 
-abbrev invariant_loop : tie.invariant_loop
+abbrev invariant_loop : tie.invariant-loop-k
 invariant_loop a₀ b₀ n top₀ next₀ spare₀ col₀ k₀ a b top next spare col k = (k ≤ length b₀) × (length top ≡ 193) × (length next ≡ 193) × (length spare ≡ 193) × (length col ≡ 193) × (length a ≡ length a₀) × (length b ≡ length b₀) × (Elimination.going (rows (length b₀) (length b₀) a) b ≡ iter (Elimination.column (length b₀)) (Elimination.going (rows (length b₀) (length b₀) a₀) b₀) k)
 
-abbrev decreases_loop : tie.decreases_loop
+abbrev decreases_loop : tie.decreases-loop-k
 decreases_loop a₀ b₀ n top₀ next₀ spare₀ col₀ k₀ a b top next spare col k = length b₀ - k
 
 columns-requires : tie.Need-columns-requires invariant_loop decreases_loop
 columns-requires c κs = let s = c.before.before.before.before.before.before.before.before.before.before in
-    let l = c.before.before.before.before.before.before.before.loop in
-    let n : ℕ = length s.args.b.now in
-    let e : n ≡ length l.b = sym l.invariant.6 in (
-      record { matrix = l.invariant.5 ∙ s.requires.1 ∙ ap (λ k. k * k) e; tops = length-take-le n l.top (omega arith) ∙ e; spares = length-take-le n l.spare (omega arith) ∙ e },
-      length-take-le n l.next (omega arith) ∙ e,
-      length-take-le n l.col (omega arith) ∙ e,
+    let l = c.before.before.before.before.before.before.before.loop-k in
+    let n : ℕ = length s.args.b-1.now in
+    let e : n ≡ length l.b-1 = sym l.invariant.6 in (
+      record { matrix = l.invariant.5 ∙ s.requires.1 ∙ ap (λ k. k * k) e; tops = length-take-le n l.top-1 (omega arith) ∙ e; spares = length-take-le n l.spare-1 (omega arith) ∙ e },
+      length-take-le n l.next-1 (omega arith) ∙ e,
+      length-take-le n l.col-1 (omega arith) ∙ e,
       omega arith,
     )
 
@@ -39,50 +39,50 @@ two_more n k m x y z e f g =
     let t : k + 1 + 1 ≡ k + 2 = omega arith in
     rw t at (iter_next (Elimination.column n) m (k + 1) (iter_next (Elimination.column n) m k e refl) (sym (f ∙ g)))
 
-returns : tie.Need-returns invariant_loop decreases_loop
+returns : tie.Need-returns-then-not-columns invariant_loop decreases_loop
 returns c = let a = c.before.before.before.before.before.before.before.before.before.before.before.before.before.before.before.before.before.before.before.before.args in
-    let l = c.before.before.before.before.before.before.before.before.before.before.before.before.before.before.before.before.before.loop in
+    let l = c.before.before.before.before.before.before.before.before.before.before.before.before.before.before.before.before.before.loop-k in
     let t = c.before.before.before.before.before.before.before.before.before.columns in
-    let n : ℕ = length a.b.now in
+    let n : ℕ = length a.b-1.now in
     let m : List (List Float) = rows n n t.new.0 in
-    let g : t.result ≡ false = not-true _ c.if1.true in
-    let f : Elimination.column n (l.k + 1) (Elimination.column n l.k (Elimination.going (rows n n l.a) l.b)) ≡ Elimination.after t.result m t.new.1.0 =
-    subst (λ w. Elimination.column w (l.k + 1) (Elimination.column w l.k (Elimination.going (rows w w l.a) l.b)) ≡ Elimination.after t.result (rows w w t.new.0) t.new.1.0) l.invariant.6 t.ensures in
+    let g : t.result ≡ false = not-true _ c.if-not-columns.true in
+    let f : Elimination.column n (l.k + 1) (Elimination.column n l.k (Elimination.going (rows n n l.a-1) l.b-1)) ≡ Elimination.after t.result m t.new.1.0 =
+    subst (λ w. Elimination.column w (l.k + 1) (Elimination.column w l.k (Elimination.going (rows w w l.a-1) l.b-1)) ≡ Elimination.after t.result (rows w w t.new.0) t.new.1.0) l.invariant.6 t.ensures in
     iter_stays _ _ (l.k + 2) n (omega arith) (two_more n l.k _ _ _ _ l.invariant.7 f (ap (λ r. Elimination.after r m t.new.1.0) g)) (λ j. refl)
 
-loop-again : tie.Need-loop-preserved invariant_loop decreases_loop
+loop-again : tie.Need-loop-k-preserved invariant_loop decreases_loop
 loop-again c = let a = c.before.before.before.before.before.before.before.before.before.before.before.before.before.before.before.before.before.before.before.before.args in
-    let l = c.before.before.before.before.before.before.before.before.before.before.before.before.before.before.before.before.before.loop in
+    let l = c.before.before.before.before.before.before.before.before.before.before.before.before.before.before.before.before.before.loop-k in
     let t = c.before.before.before.before.before.before.before.before.before.columns in
-    let n : ℕ = length a.b.now in
+    let n : ℕ = length a.b-1.now in
     let m : List (List Float) = rows n n t.new.0 in
-    let g : t.result ≡ true = not-false _ c.if1.false in
-    let f : Elimination.column n (l.k + 1) (Elimination.column n l.k (Elimination.going (rows n n l.a) l.b)) ≡ Elimination.after t.result m t.new.1.0 =
-    subst (λ w. Elimination.column w (l.k + 1) (Elimination.column w l.k (Elimination.going (rows w w l.a) l.b)) ≡ Elimination.after t.result (rows w w t.new.0) t.new.1.0) l.invariant.6 t.ensures in (
+    let g : t.result ≡ true = not-false _ c.if-not-columns.false in
+    let f : Elimination.column n (l.k + 1) (Elimination.column n l.k (Elimination.going (rows n n l.a-1) l.b-1)) ≡ Elimination.after t.result m t.new.1.0 =
+    subst (λ w. Elimination.column w (l.k + 1) (Elimination.column w l.k (Elimination.going (rows w w l.a-1) l.b-1)) ≡ Elimination.after t.result (rows w w t.new.0) t.new.1.0) l.invariant.6 t.ensures in (
       omega arith,
-      length_front l.top t.new.1.1.0 n t.auto.1.1.0 ∙ l.invariant.1,
-      length_front l.next t.new.1.1.1.0 n t.auto.1.1.1.0 ∙ l.invariant.2,
-      length_front l.spare t.new.1.1.1.1.0 n t.auto.1.1.1.1.0 ∙ l.invariant.3,
-      length_front l.col t.new.1.1.1.1.1.0 n t.auto.1.1.1.1.1.0 ∙ l.invariant.4,
+      length_front l.top-1 t.new.1.1.0 n t.auto.1.1.0 ∙ l.invariant.1,
+      length_front l.next-1 t.new.1.1.1.0 n t.auto.1.1.1.0 ∙ l.invariant.2,
+      length_front l.spare-1 t.new.1.1.1.1.0 n t.auto.1.1.1.1.0 ∙ l.invariant.3,
+      length_front l.col-1 t.new.1.1.1.1.1.0 n t.auto.1.1.1.1.1.0 ∙ l.invariant.4,
       t.auto.0 ∙ l.invariant.5,
       t.auto.1.0 ∙ l.invariant.6,
       two_more n l.k _ _ _ _ l.invariant.7 f (ap (λ r. Elimination.after r m t.new.1.0) g),
     )
 
-returns_2 : tie.Need-returns-2 invariant_loop decreases_loop
+returns_2 : tie.Need-returns-then-k-n invariant_loop decreases_loop
 returns_2 c =
     let entry = c.before.before.before.before.before in
-    let l = c.before.before.loop in
-    let e : l.k ≡ length entry.args.b.now = omega arith in
+    let l = c.before.before.loop-k in
+    let e : l.k ≡ length entry.args.b-1.now = omega arith in
     rw e at l.invariant.7
 
 column-requires : tie.Need-column-requires invariant_loop decreases_loop
 column-requires c κs = let s = c.before.before.before.before.before.before.before.before.before.before in
-    let l = c.before.before.before.before.before.before.before.loop in
-    let n : ℕ = length s.args.b.now in
-    let e : n ≡ length l.b = sym l.invariant.6 in (
-      record { matrix = l.invariant.5 ∙ s.requires.1 ∙ ap (λ k. k * k) e; tops = length-take-le n l.top (omega arith) ∙ e; spares = length-take-le n l.spare (omega arith) ∙ e },
-      length-take-le n l.col (omega arith) ∙ e,
+    let l = c.before.before.before.before.before.before.before.loop-k in
+    let n : ℕ = length s.args.b-1.now in
+    let e : n ≡ length l.b-1 = sym l.invariant.6 in (
+      record { matrix = l.invariant.5 ∙ s.requires.1 ∙ ap (λ k. k * k) e; tops = length-take-le n l.top-1 (omega arith) ∙ e; spares = length-take-le n l.spare-1 (omega arith) ∙ e },
+      length-take-le n l.col-1 (omega arith) ∙ e,
       omega arith,
     )
 
@@ -90,13 +90,13 @@ column-requires c κs = let s = c.before.before.before.before.before.before.befo
 last : (n k : ℕ) (m x y : Elimination.Stage) → k + 1 ≡ n → x ≡ iter (Elimination.column n) m k → Elimination.column n k x ≡ y → y ≡ iter (Elimination.column n) m n
 last n k m x y e f g = rw e at (iter_next (Elimination.column n) m k f (sym g))
 
-returns_3 : tie.Need-returns-3 invariant_loop decreases_loop
+returns_3 : tie.Need-returns invariant_loop decreases_loop
 returns_3 c = let a = c.before.before.before.before.before.before.before.before.before.before.before.before.before.before.before.before.before.before.args in
-    let l = c.before.before.before.before.before.before.before.before.before.before.before.before.before.before.before.loop in
+    let l = c.before.before.before.before.before.before.before.before.before.before.before.before.before.before.before.loop-k in
     let t = c.before.before.before.before.before.before.before.column in
-    let n : ℕ = length a.b.now in
-    let f : Elimination.column n l.k (Elimination.going (rows n n l.a) l.b) ≡ Elimination.after t.result (rows n n t.new.0) t.new.1.0 =
-    subst (λ w. Elimination.column w l.k (Elimination.going (rows w w l.a) l.b) ≡ Elimination.after t.result (rows w w t.new.0) t.new.1.0) l.invariant.6 t.ensures in
+    let n : ℕ = length a.b-1.now in
+    let f : Elimination.column n l.k (Elimination.going (rows n n l.a-1) l.b-1) ≡ Elimination.after t.result (rows n n t.new.0) t.new.1.0 =
+    subst (λ w. Elimination.column w l.k (Elimination.going (rows w w l.a-1) l.b-1) ≡ Elimination.after t.result (rows w w t.new.0) t.new.1.0) l.invariant.6 t.ensures in
     last n l.k _ _ _ (omega arith) l.invariant.7 f
 
 pub solve_dense_spec : {M : Type 1} → statement M

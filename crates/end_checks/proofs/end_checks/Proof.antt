@@ -5,21 +5,21 @@ use Rattle.end_checks.specs.Ends as Ends
 use Rattle.end_checks.proofs.end_checks.Statement.{statement}
 use Rattle.end_checks.proofs.end_checks.Tie as tie
 
-returns : tie.Need-returns
+returns : tie.Need-returns-then-norm3
 unfolding Ends.end_fate Ieee.of_bits
 returns c =
     let told = c.before.before.before in
-    rw (← told.before.before.rotation-between.ensures, told.error.given.1, ← c.before.norm3.ensures, c.if1.true)
+    rw (← told.before.before.rotation_between-error.ensures, told.error-1.given.1, ← c.before.norm3.ensures, c.if-norm3.true)
 
-returns_2 : tie.Need-returns-2
+returns_2 : tie.Need-returns-in-Outside
 unfolding Ends.end_fate Ieee.of_bits
-returns_2 c = rw (← c.before.before.rotation-between.ensures, c.enum_told.given.1)
+returns_2 c = rw (← c.before.before.rotation_between-error.ensures, c.enum_told-1.given.1)
 
-returns_3 : tie.Need-returns-3
+returns_3 : tie.Need-returns-else-norm3
 unfolding Ends.end_fate Ieee.of_bits
 returns_3 c =
     let told = c.before.before.before.before in
-    rw (← told.before.before.rotation-between.ensures, told.error.given.1, ← c.before.before.norm3.ensures, c.before.if1.false) c.rest-fate.ensures
+    rw (← told.before.before.rotation_between-error.ensures, told.error-1.given.1, ← c.before.before.norm3.ensures, c.before.if-norm3.false) c.rest_fate.ensures
 
 pub end_checks_spec : {M : Type 1} → statement M
 end_checks_spec =

@@ -5,33 +5,33 @@ use Rattle.end_checks.specs.Ends as Ends
 use Rattle.end_checks.proofs.node_fate.Statement.{statement}
 use Rattle.end_checks.proofs.node_fate.Tie as tie
 
-returns : tie.Need-returns
+returns : tie.Need-returns-then-torque_excess
 unfolding Ends.node_fate Ieee.of_bits
-returns c = rw (← c.before.torque-excess.ensures, c.if1.true)
+returns c = rw (← c.before.torque_excess.ensures, c.if-torque_excess.true)
 
-returns_2 : tie.Need-returns-2
+returns_2 : tie.Need-returns-then-too_fast
 unfolding Ends.node_fate Ieee.of_bits
 returns_2 c =
-    let torque-excess = c.before.before.before.before.torque-excess in
-    rw (← torque-excess.ensures, c.before.before.before.if1.false, ← c.before.too-fast.ensures, c.if2.true)
+    let torque-excess = c.before.before.before.before.torque_excess in
+    rw (← torque-excess.ensures, c.before.before.before.if-torque_excess.false, ← c.before.too_fast.ensures, c.if-too_fast.true)
 
-returns_3 : tie.Need-returns-3
+returns_3 : tie.Need-returns-then-over_momentum
 unfolding Ends.node_fate Ieee.of_bits
 returns_3 c =
-    let torque-excess = c.before.before.before.before.before.before.before.before.torque-excess in
-    let if1 = c.before.before.before.before.before.before.before.if1 in
-    let too-fast = c.before.before.before.before.before.too-fast in
-    let if2 = c.before.before.before.before.if2 in
-    rw (← torque-excess.ensures, if1.false, ← too-fast.ensures, if2.false, ← c.before.over-momentum.ensures, c.if3.true)
+    let torque-excess = c.before.before.before.before.before.before.before.before.torque_excess in
+    let if1 = c.before.before.before.before.before.before.before.if-torque_excess in
+    let too-fast = c.before.before.before.before.before.too_fast in
+    let if2 = c.before.before.before.before.if-too_fast in
+    rw (← torque-excess.ensures, if1.false, ← too-fast.ensures, if2.false, ← c.before.over_momentum.ensures, c.if-over_momentum.true)
 
-returns-4 : tie.Need-returns-4
+returns-4 : tie.Need-returns
 unfolding Ends.node_fate Ieee.of_bits
 returns-4 c =
-    let torque-excess = c.before.before.before.before.before.before.before.before.torque-excess in
-    let if1 = c.before.before.before.before.before.before.before.if1 in
-    let too-fast = c.before.before.before.before.before.too-fast in
-    let if2 = c.before.before.before.before.if2 in
-    rw (← torque-excess.ensures, if1.false, ← too-fast.ensures, if2.false, ← c.before.over-momentum.ensures, c.if3.false)
+    let torque-excess = c.before.before.before.before.before.before.before.before.torque_excess in
+    let if1 = c.before.before.before.before.before.before.before.if-torque_excess in
+    let too-fast = c.before.before.before.before.before.too_fast in
+    let if2 = c.before.before.before.before.if-too_fast in
+    rw (← torque-excess.ensures, if1.false, ← too-fast.ensures, if2.false, ← c.before.over_momentum.ensures, c.if-over_momentum.false)
 
 pub node_fate_spec : {M : Type 1} → statement M
 node_fate_spec =

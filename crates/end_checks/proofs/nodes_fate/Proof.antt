@@ -11,28 +11,28 @@ use Rattle.end_checks.specs.EndLaws.{nodes_next, nodes_refused}
 use Rattle.end_checks.proofs.nodes_fate.Statement.{statement}
 use Rattle.end_checks.proofs.nodes_fate.Tie as tie
 
-abbrev invariant_loop : tie.invariant_loop
+abbrev invariant_loop : tie.invariant-loop-k
 invariant_loop p nodes k₀ k = (k ≤ 17) × (Going ≡ iter (Ends.node_turn p nodes) Going k)
 
-abbrev decreases_loop : tie.decreases_loop
+abbrev decreases_loop : tie.decreases-loop-k
 decreases_loop p nodes k₀ k = 17 - k
 
-loop-holds : tie.Need-loop-init invariant_loop decreases_loop
+loop-holds : tie.Need-loop-k-init invariant_loop decreases_loop
 loop-holds c = (search rules, iter_none _ _)
 
-returns : tie.Need-returns invariant_loop decreases_loop
+returns : tie.Need-returns-in-Refused invariant_loop decreases_loop
 returns c =
-    let loop = c.before.before.before.before.before.before.loop in
-    nodes_refused _ _ _ loop.invariant.1 c.before.before.before.node-fate.ensures (omega arith) c.before.fate.given.1
+    let loop = c.before.before.before.before.before.before.loop-k in
+    nodes_refused _ _ _ loop.invariant.1 c.before.before.before.node_fate-fate.ensures (omega arith) c.before.fate-1.given.1
 
-loop-again : tie.Need-loop-preserved invariant_loop decreases_loop
+loop-again : tie.Need-loop-k-preserved invariant_loop decreases_loop
 loop-again c =
-    let loop = c.before.before.before.before.before.loop in
-    (omega arith, nodes_next _ _ _ loop.invariant.1 c.before.before.node-fate.ensures c.enum_told.given.1)
+    let loop = c.before.before.before.before.before.loop-k in
+    (omega arith, nodes_next _ _ _ loop.invariant.1 c.before.before.node_fate-fate.ensures c.enum_told-1.given.1)
 
-returns_2 : tie.Need-returns-2 invariant_loop decreases_loop
+returns_2 : tie.Need-returns invariant_loop decreases_loop
 unfolding Ends.nodes_fate
-returns_2 c = let e : c.before.loop.k ≡ 17 = omega arith in rw e at c.before.loop.invariant.1
+returns_2 c = let e : c.before.loop-k.k ≡ 17 = omega arith in rw e at c.before.loop-k.invariant.1
 
 pub nodes_fate_spec : {M : Type 1} → statement M
 nodes_fate_spec =

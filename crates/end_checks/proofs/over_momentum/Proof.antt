@@ -6,12 +6,12 @@ use Rattle.actuators.specs.MapLaws.{sized_counts}
 use Rattle.end_checks.proofs.over_momentum.Statement.{statement}
 use Rattle.end_checks.proofs.over_momentum.Tie as tie
 
-momentum-excess-requires : tie.Need-momentum-excess-requires
+momentum-excess-requires : tie.Need-momentum_excess-requires
 momentum-excess-requires c κs = omega (arith, sized_counts _ c.before.before.before.requires)
 
 returns : tie.Need-returns
 unfolding Ieee.of_bits
-returns c = rw c.momentum-excess.ensures
+returns c = rw c.momentum_excess.ensures
 
 pub over_momentum_spec : {M : Type 1} → statement M
 over_momentum_spec = tie.close (tie.spec (λ c. search rules) momentum-excess-requires returns)

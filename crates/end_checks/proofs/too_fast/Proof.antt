@@ -4,13 +4,13 @@ use borrow.Author.Rules.{rules}
 use Rattle.end_checks.proofs.too_fast.Statement.{statement}
 use Rattle.end_checks.proofs.too_fast.Tie as tie
 
-returns : tie.Need-returns
+returns : tie.Need-returns-in-Nothing
 unfolding Ieee.of_bits
-returns c = rw c.enum_told.given.1
+returns c = rw c.enum_told-1.given.1
 
-returns_2 : tie.Need-returns-2
+returns_2 : tie.Need-returns-in-At
 unfolding Ieee.of_bits
-returns_2 c = rw (c.before.before.slew.given.1, c.norm3.ensures)
+returns_2 c = rw (c.before.before.slew-1.given.1, c.norm3.ensures)
 
 pub too_fast_spec : {M : Type 1} → statement M
 too_fast_spec = tie.close (tie.spec (λ c. search rules) (λ c. search rules) (λ c κs. search rules) returns returns_2)

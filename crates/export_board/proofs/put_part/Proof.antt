@@ -6,8 +6,8 @@ use borrow.Author.Rules.{rules}
 use Rattle.export_board.proofs.put_part.Statement.{statement}
 use Rattle.export_board.proofs.put_part.Tie as tie
 
-returns : tie.Need-returns
-returns c = rw c.before.w.given.1 (refl, to_z-of_z {w = w32} (record { sfits = c.known-told.given.0.1 }))
+returns : tie.Need-returns-in-Is
+returns c = rw c.before.w-1.given.1 (refl, to_z-of_z {w = w32} (record { sfits = c.known_told-1.given.0.1 }))
 
 pub put_part_spec : {M : Type 1} → statement M
 put_part_spec = tie.close (tie.spec (λ c. search rules) (λ c. search rules) returns (λ c. search rules))

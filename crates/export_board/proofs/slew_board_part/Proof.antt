@@ -6,8 +6,8 @@ use Rattle.export_board.proofs.slew_board_part.Tie as tie
 returns : tie.Need-returns
 returns c =
     let made = c.before.before in
-    let e = rw made.before.unit-of.ensures at made.part.ensures in
-    rw (← e) c.put-part.ensures
+    let e = rw made.before.unit_of.ensures at made.part.ensures in
+    rw (← e) c.put_part.ensures
 
 pub slew_board_part_spec : {M : Type 1} → statement M
 slew_board_part_spec = tie.close (tie.spec (λ c κs. search rules) (λ c κs. search rules) (λ c κs. search rules) returns)

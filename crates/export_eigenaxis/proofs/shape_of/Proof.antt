@@ -3,4 +3,4 @@ use Rattle.export_eigenaxis.proofs.shape_of.Statement.{statement}
 use Rattle.export_eigenaxis.proofs.shape_of.Tie as tie
 
 pub shape_of_spec : {M : Type 1} → statement M
-shape_of_spec = tie.close (tie.spec (λ c. rw c.if1.true) (λ c. rw c.if1.false))
+shape_of_spec = tie.close (tie.spec (λ c. rw c.if-gentle.true) (λ c. rw c.if-gentle.false))

@@ -4,7 +4,7 @@ use Rattle.export_mosaic.proofs.cursor_of.Statement.{statement}
 use Rattle.export_mosaic.proofs.cursor_of.Tie as tie
 
 returns : tie.Need-returns
-returns c = rw c.fate-of.ensures
+returns c = rw c.fate_of-fate.ensures
 
 pub cursor_of_spec : {M : Type 1} → statement M
 cursor_of_spec =

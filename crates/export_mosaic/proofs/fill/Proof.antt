@@ -5,17 +5,17 @@ use borrow.Author.Rules.{rules}
 use Rattle.export_mosaic.proofs.fill.Statement.{statement}
 use Rattle.export_mosaic.proofs.fill.Tie as tie
 
-returns : tie.Need-returns
+returns : tie.Need-returns-in-By
 returns c =
     let made = c.before.before.before.before.before.before in
     let by = made.before.before.before.before.before.before.before in
-    fills_by _ _ (sym by.asked.given.1 ∙ by.before.before.asked_of.ensures) made.plan-mosaic.ensures
+    fills_by _ _ (sym by.asked-1.given.1 ∙ by.before.before.asked_of-asked.ensures) made.plan_mosaic.ensures
 
-returns_2 : tie.Need-returns-2
+returns_2 : tie.Need-returns-in-Unknown
 returns_2 c =
     let start = c.before.before in
     let told = start.before in
-    fills_not _ _ (sym told.enum_told.given.1 ∙ told.before.before.asked_of.ensures) start.start.ensures c.before.unasked.ensures c.halted.ensures
+    fills_not _ _ (sym told.enum_told-1.given.1 ∙ told.before.before.asked_of-asked.ensures) start.start.ensures c.before.unasked.ensures c.halted.ensures
 
 pub fill_spec : {M : Type 1} → statement M
 fill_spec =

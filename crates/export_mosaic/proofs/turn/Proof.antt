@@ -5,14 +5,14 @@ use borrow.Author.Rules.{rules}
 use Rattle.export_mosaic.proofs.turn.Statement.{statement}
 use Rattle.export_mosaic.proofs.turn.Tie as tie
 
-returns : tie.Need-returns
+returns : tie.Need-returns-in-By
 returns c =
     let made = c.before.before in
     let by = made.before.before.before in
-    turn_by _ _ _ _ (sym by.asked.given.1 ∙ by.before.before.asked_of.ensures) made.next.ensures
+    turn_by _ _ _ _ (sym by.asked-1.given.1 ∙ by.before.before.asked_of-asked.ensures) made.next.ensures
 
-returns_2 : tie.Need-returns-2
-returns_2 c = turn_none _ _ _ _ (sym c.before.enum_told.given.1 ∙ c.before.before.before.asked_of.ensures) c.refused.ensures
+returns_2 : tie.Need-returns-in-Unknown
+returns_2 c = turn_none _ _ _ _ (sym c.before.enum_told-1.given.1 ∙ c.before.before.before.asked_of-asked.ensures) c.refused.ensures
 
 pub turn_spec : {M : Type 1} → statement M
 turn_spec =

@@ -8,12 +8,12 @@ returns c =
     let put = c.before.before.before.before.before.before.before.before in
     let made = put.before.before.before.before.before in
     let momenta = made.before.before in
-    let is = rw (momenta.before.problem_of_law.ensures, momenta.momenta_of_law.ensures) at made.preview-from.ensures.0 in (
+    let is = rw (momenta.before.problem_of_law.ensures, momenta.momenta_of_law.ensures) at made.preview_from-made.ensures.0 in (
       record {
-        entry_told = record { plan_told = rw is at c.put-planned.ensures; left = rw (made.preview-from.ensures.1.0, is) };
-        promised = rw (momenta.before.problem_of_law.ensures, momenta.momenta_of_law.ensures, is) at made.preview-from.ensures.1.1;
+        entry_told = record { plan_told = rw is at c.put_planned.ensures; left = rw (made.preview_from-made.ensures.1.0, is) };
+        promised = rw (momenta.before.problem_of_law.ensures, momenta.momenta_of_law.ensures, is) at made.preview_from-made.ensures.1.1;
       },
-      (rw (put.put-began.ensures.0, is), rw (put.put-began.ensures.1, is)),
+      (rw (put.put_began.ensures.0, is), rw (put.put_began.ensures.1, is)),
     )
 
 pub slew_preview_from_numbers_spec : {M : Type 1} → statement M

@@ -4,17 +4,17 @@ use borrow.Author.Rules.{rules}
 use Rattle.export_reference.proofs.slew_reference_list_numbers.Statement.{statement}
 use Rattle.export_reference.proofs.slew_reference_list_numbers.Tie as tie
 
-row-count-requires : tie.Need-row-count-requires
-row-count-requires c κs = c.plan.ensures.1.steps
+row-count-requires : tie.Need-row_count-n-requires
+row-count-requires c κs = c.plan-planned.ensures.1.steps
 
-put-rows-requires : tie.Need-put-rows-requires
-put-rows-requires c κs = (c.before.before.before.plan.ensures.1.few, (c.before.before.before.plan.ensures.1.steps, (c.before.before.row_count.ensures.1.1, c.before.before.row_count.ensures.1.0)))
+put-rows-requires : tie.Need-put_rows-requires
+put-rows-requires c κs = (c.before.before.before.plan-planned.ensures.1.few, (c.before.before.before.plan-planned.ensures.1.steps, (c.before.before.row_count-n.ensures.1.1, c.before.before.row_count-n.ensures.1.0)))
 
-put-planned-requires : tie.Need-put-planned-requires
-put-planned-requires c κs = (c.before.before.before.before.before.before.before.before.plan.ensures.1.few, c.before.before.before.before.before.before.before.before.plan.ensures.1.steps)
+put-planned-requires : tie.Need-put_planned-requires
+put-planned-requires c κs = (c.before.before.before.before.before.before.before.before.plan-planned.ensures.1.few, c.before.before.before.before.before.before.before.before.plan-planned.ensures.1.steps)
 
 returns : tie.Need-returns
-returns c = let is = rw (c.before.before.before.before.before.before.before.before.before.before.before.problem_of_law.ensures, c.before.before.before.before.before.before.before.before.before.before.limit_of_law.ensures) at c.before.before.before.before.before.before.before.before.before.plan.ensures.0 in let n = rw is at c.before.before.before.before.before.before.before.before.row_count.ensures.0 in record { entry_told = record { plan_told = rw is at c.put-planned.ensures; answer = rw is at c.before.before.before.before.before.before.before.before.before.plan.ensures.1 }; count_is = n; rows_are = rw (is, n) at c.before.before.before.before.before.put-rows.ensures }
+returns c = let is = rw (c.before.before.before.before.before.before.before.before.before.before.before.problem_of_law.ensures, c.before.before.before.before.before.before.before.before.before.before.limit_of_law.ensures) at c.before.before.before.before.before.before.before.before.before.plan-planned.ensures.0 in let n = rw is at c.before.before.before.before.before.before.before.before.row_count-n.ensures.0 in record { entry_told = record { plan_told = rw is at c.put_planned.ensures; answer = rw is at c.before.before.before.before.before.before.before.before.before.plan-planned.ensures.1 }; count_is = n; rows_are = rw (is, n) at c.before.before.before.before.before.put_rows.ensures }
 
 pub slew_reference_list_numbers_spec : {M : Type 1} → statement M
 slew_reference_list_numbers_spec =

@@ -4,13 +4,13 @@ use Rattle.float.proofs.Whole.{wholes}
 use Rattle.float.proofs.ceil.Statement.{statement}
 use Rattle.float.proofs.ceil.Tie as tie
 
-returns_2 : tie.Need-returns-2
+returns_2 : tie.Need-returns-else-x-2
 returns_2 c = search (wholes, rules)
 
-returns-4 : tie.Need-returns-4
+returns-4 : tie.Need-returns-else-x-4
 returns-4 c = search (wholes, rules)
 
-returns-5 : tie.Need-returns-5
+returns-5 : tie.Need-returns-else-x-3
 returns-5 c = search (wholes, rules)
 
 pub ceil_spec : {M : Type 1} → statement M

@@ -5,14 +5,14 @@ use Rattle.float.proofs.Arms.{arms}
 use Rattle.float.proofs.is_finite.Statement.{statement}
 use Rattle.float.proofs.is_finite.Tie as tie
 
-float-from-bits-inf : tie.Need-float-from-bits-inf
+float-from-bits-inf : tie.Need-float_from_bits-inf
 unfolding nan_bits
 float-from-bits-inf c = search rules
 
-returns : tie.Need-returns
+returns : tie.Need-returns-then-x-inf
 returns c = search (arms, rules)
 
-returns_2 : tie.Need-returns-2
+returns_2 : tie.Need-returns-else-x-inf
 returns_2 c = search (arms, rules)
 
 pub is_finite_spec : {M : Type 1} → statement M

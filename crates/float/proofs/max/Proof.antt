@@ -4,13 +4,13 @@ use Rattle.float.proofs.Arms.{arms}
 use Rattle.float.proofs.max.Statement.{statement}
 use Rattle.float.proofs.max.Tie as tie
 
-returns : tie.Need-returns
+returns : tie.Need-returns-then-a-b
 returns c = search (arms, rules)
 
-returns_2 : tie.Need-returns-2
+returns_2 : tie.Need-returns-then-a
 returns_2 c = search (arms, rules)
 
-returns_3 : tie.Need-returns-3
+returns_3 : tie.Need-returns-else-a
 returns_3 c = search (arms, rules)
 
 pub max_spec : {M : Type 1} → statement M

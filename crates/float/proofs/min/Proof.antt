@@ -4,13 +4,13 @@ use Rattle.float.proofs.Arms.{arms}
 use Rattle.float.proofs.min.Statement.{statement}
 use Rattle.float.proofs.min.Tie as tie
 
-returns : tie.Need-returns
+returns : tie.Need-returns-then-b-a
 returns c = search (arms, rules)
 
-returns_2 : tie.Need-returns-2
+returns_2 : tie.Need-returns-then-a
 returns_2 c = search (arms, rules)
 
-returns_3 : tie.Need-returns-3
+returns_3 : tie.Need-returns-else-a
 returns_3 c = search (arms, rules)
 
 pub min_spec : {M : Type 1} → statement M

@@ -4,23 +4,23 @@ use Rattle.float.proofs.Whole.{cut_fits, cut_lt, raised_whole, same_whole}
 use Rattle.float.proofs.next_whole.Statement.{statement}
 use Rattle.float.proofs.next_whole.Tie as tie
 
-truncating-f64-to-u64-requires : tie.Need-truncating-f64-to-u64-requires
+truncating-f64-to-u64-requires : tie.Need-truncating_f64_to_u64-n-requires
 truncating-f64-to-u64-requires c κs = let h = cut_fits c.args.x c.requires in (h.0, h.1)
 
-add-nearest-u64-to-f64 : tie.Need-overflow-add-nearest-u64-to-f64
-add-nearest-u64-to-f64 c = let n = c.before.before.truncating-f64-to-u64 in let h = cut_lt n.result c.before.before.before.args.x c.before.before.before.requires n.ensures in omega arith
+add-nearest-u64-to-f64 : tie.Need-overflow_add-n
+add-nearest-u64-to-f64 c = let n = c.before.before.truncating_f64_to_u64-n in let h = cut_lt n.result c.before.before.before.args.x c.before.before.before.requires n.ensures in omega arith
 
-returns : tie.Need-returns
+returns : tie.Need-returns-then-f-x
 returns c =
     let start = c.before.before.before.before in
-    let n = c.before.before.before.truncating-f64-to-u64 in
-    c.nearest-u64-to-f642.ensures ∙ raised_whole _ start.args.x start.requires n.ensures (rw c.before.before.nearest-u64-to-f64.ensures at c.before.if1.true)
+    let n = c.before.before.before.truncating_f64_to_u64-n in
+    c.nearest_u64_to_f64.ensures ∙ raised_whole _ start.args.x start.requires n.ensures (rw c.before.before.nearest_u64_to_f64-f.ensures at c.before.if-f-x.true)
 
-returns_2 : tie.Need-returns-2
+returns_2 : tie.Need-returns-else-f-x
 returns_2 c =
     let start = c.before.before.before in
-    let n = c.before.before.truncating-f64-to-u64 in
-    c.before.nearest-u64-to-f64.ensures ∙ same_whole _ start.args.x start.requires n.ensures (rw c.before.nearest-u64-to-f64.ensures at c.if1.false)
+    let n = c.before.before.truncating_f64_to_u64-n in
+    c.before.nearest_u64_to_f64-f.ensures ∙ same_whole _ start.args.x start.requires n.ensures (rw c.before.nearest_u64_to_f64-f.ensures at c.if-f-x.false)
 
 pub next_whole_spec : {M : Type 1} → statement M
 next_whole_spec =

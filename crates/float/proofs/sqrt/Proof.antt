@@ -8,26 +8,26 @@ use Rattle.float.proofs.Cases.{above_bits, above_inf, at_zero, other}
 use Rattle.float.proofs.sqrt.Statement.{statement}
 use Rattle.float.proofs.sqrt.Tie as tie
 
-float-to-bits-b : tie.Need-float-to-bits-b
-float-to-bits-b c = above_no_nan _ c.before.args.x c.if1.true
+float-to-bits-b : tie.Need-float_to_bits-b
+float-to-bits-b c = above_no_nan _ c.before.args.x c.if-x.true
 
-root-bits-requires : tie.Need-root-bits-requires
-root-bits-requires c κs = (above_bits c.before.before.args.x (subst T (sym c.before.before.well-formed.0.1) tt) c.before.if1.true, c.if2.true)
+root-bits-requires : tie.Need-root_bits-requires
+root-bits-requires c κs = (above_bits c.before.before.args.x (subst T (sym c.before.before.well_formed.0.1) tt) c.before.if-x.true, c.if-b-lt9218868437227405312.true)
 
-float-from-bits-result : tie.Need-float-from-bits-result
-float-from-bits-result c = no_nan_bits c.root-bits.result c.root-bits.ensures.1
+float-from-bits-result : tie.Need-float_from_bits-result
+float-from-bits-result c = no_nan_bits c.root_bits.result c.root_bits.ensures.1
 
-returns : tie.Need-returns
-returns c = c.root-bits.ensures.0 ∙ ap (sqrt binary64) (of_bits-to_bits binary64 c.before.before.before.args.x (subst T (sym c.before.before.before.well-formed.0.1) tt))
+returns : tie.Need-returns-then-b-lt9218868437227405312
+returns c = c.root_bits.ensures.0 ∙ ap (sqrt binary64) (of_bits-to_bits binary64 c.before.before.before.args.x (subst T (sym c.before.before.before.well_formed.0.1) tt))
 
-returns_2 : tie.Need-returns-2
-returns_2 c = above_inf c.before.before.args.x (subst T (sym c.before.before.well-formed.0.1) tt) c.before.if1.true c.if2.false
+returns_2 : tie.Need-returns-else-b-lt9218868437227405312
+returns_2 c = above_inf c.before.before.args.x (subst T (sym c.before.before.well_formed.0.1) tt) c.before.if-x.true c.if-b-lt9218868437227405312.false
 
-returns_3 : tie.Need-returns-3
-returns_3 c = at_zero c.before.before.args.x c.if3.true
+returns_3 : tie.Need-returns-then-x-2
+returns_3 c = at_zero c.before.before.args.x c.if-x-2.true
 
-returns-4 : tie.Need-returns-4
-returns-4 c = other c.before.before.args.x c.before.if1.false c.if3.false
+returns-4 : tie.Need-returns-else-x-2
+returns-4 c = other c.before.before.args.x c.before.if-x.false c.if-x-2.false
 
 pub sqrt_spec : {M : Type 1} → statement M
 sqrt_spec =

@@ -5,20 +5,20 @@ use Rattle.float_bits.specs.BitLaws.{no_nan, first_nan, second_nan, same_pattern
 use Rattle.float_bits.proofs.same_bits.Statement.{statement}
 use Rattle.float_bits.proofs.same_bits.Tie as tie
 
-returns : tie.Need-returns
-returns c = first_nan _ _ c.if1.true
+returns : tie.Need-returns-then-a
+returns c = first_nan _ _ c.if-a.true
 
-returns_2 : tie.Need-returns-2
-returns_2 c = second_nan _ _ c.before.if1.false c.if2.true
+returns_2 : tie.Need-returns-then-b
+returns_2 c = second_nan _ _ c.before.if-a.false c.if-b.true
 
-float-to-bits-result : tie.Need-float-to-bits-result
-float-to-bits-result c = no_nan _ c.before.if1.false
+float-to-bits-result : tie.Need-float_to_bits-result
+float-to-bits-result c = no_nan _ c.before.if-a.false
 
-float-to-bits-result-2 : tie.Need-float-to-bits-result-2
-float-to-bits-result-2 c = no_nan _ c.if2.false
+float-to-bits-result-2 : tie.Need-float_to_bits-result-2
+float-to-bits-result-2 c = no_nan _ c.if-b.false
 
-returns_3 : tie.Need-returns-3
-returns_3 c = same_patterns _ _ (subst T (sym c.before.before.well-formed.0.1) tt) (subst T (sym c.before.before.well-formed.1.0.1) tt)
+returns_3 : tie.Need-returns
+returns_3 c = same_patterns _ _ (subst T (sym c.before.before.well_formed.0.1) tt) (subst T (sym c.before.before.well_formed.1.0.1) tt)
 
 pub same_bits_spec : {M : Type 1} → statement M
 same_bits_spec =

@@ -6,15 +6,15 @@ use borrow.Author.Rules.{rules}
 use Rattle.forward.proofs.admit.Statement.{statement}
 use Rattle.forward.proofs.admit.Tie as tie
 
-returns : tie.Need-returns
+returns : tie.Need-returns-then-control_dim-gt-MAX_CONTROLS
 returns c =
-    let check = c.before.before.before.before.before.check in
-    c.refused.ensures ∙ admit_wide _ check.ensures c.before.before.control-dim.ensures c.before.if1.true
+    let check = c.before.before.before.before.before.check-checked in
+    c.refused.ensures ∙ admit_wide _ check.ensures c.before.before.control_dim.ensures c.before.if-control_dim-gt-MAX_CONTROLS.true
 
-returns_2 : tie.Need-returns-2
+returns_2 : tie.Need-returns
 returns_2 c =
-    let check = c.before.before.before.before.check in
-    admit_narrow _ check.ensures c.before.control-dim.ensures c.if1.false
+    let check = c.before.before.before.before.check-checked in
+    admit_narrow _ check.ensures c.before.control_dim.ensures c.if-control_dim-gt-MAX_CONTROLS.false
 
 pub admit_spec : {M : Type 1} → statement M
 admit_spec =

@@ -6,7 +6,7 @@ use Rattle.geom.proofs.definite.Tie as tie
 returns : tie.Need-returns
 returns c =
     let is_positive = c.before.before.before.before.before.before.before.is_positive in
-    rw (c.is-positive3.ensures, c.before.det3.ensures, c.before.before.is-positive2.ensures, is_positive.ensures)
+    rw (c.is_positive-3.ensures, c.before.det3.ensures, c.before.before.is_positive-2.ensures, is_positive.ensures)
 
 pub definite_spec : {M : Type 1} → statement M
 definite_spec =

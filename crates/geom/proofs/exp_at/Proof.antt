@@ -6,19 +6,19 @@ use borrow.Author.Rules.{rules}
 use Rattle.geom.proofs.exp_at.Statement.{statement}
 use Rattle.geom.proofs.exp_at.Tie as tie
 
-returns : tie.Need-returns
+returns : tie.Need-returns-then-n
 unfolding exp_at of_bits
-returns c = rw c.if1.true
+returns c = rw c.if-n.true
 
-returns_2 : tie.Need-returns-2
+returns_2 : tie.Need-returns-in-Are
 unfolding exp_at of_bits
 returns_2 c =
-    let if1 = c.before.before.before.before.if1 in
-    rw (if1.false, ← at_once_law, ← c.before.before.before.sin-cos.ensures, c.before.turn.given.1)
+    let if1 = c.before.before.before.before.if-n in
+    rw (if1.false, ← at_once_law, ← c.before.before.before.sin_cos-turn.ensures, c.before.turn-1.given.1)
 
-returns_3 : tie.Need-returns-3
+returns_3 : tie.Need-returns-in-Outside
 unfolding exp_at of_bits
-returns_3 c = rw (c.before.before.before.if1.false, ← at_once_law, ← c.before.before.sin-cos.ensures, c.enum_told.given.1)
+returns_3 c = rw (c.before.before.before.if-n.false, ← at_once_law, ← c.before.before.sin_cos-turn.ensures, c.enum_told-1.given.1)
 
 pub exp_at_spec : {M : Type 1} → statement M
 exp_at_spec =

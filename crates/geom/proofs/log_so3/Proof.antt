@@ -5,13 +5,13 @@ use Rattle.geom.specs.Quats.{log_so3}
 use Rattle.geom.proofs.log_so3.Statement.{statement}
 use Rattle.geom.proofs.log_so3.Tie as tie
 
-returns : tie.Need-returns
+returns : tie.Need-returns-then-q
 unfolding log_so3 of_bits
-returns c = rw (c.log_up_law.ensures, c.before.negate.ensures, c.before.before.if1.true)
+returns c = rw (c.log_up_law.ensures, c.before.negate.ensures, c.before.before.if-q.true)
 
-returns_2 : tie.Need-returns-2
+returns_2 : tie.Need-returns-else-q
 unfolding log_so3 of_bits
-returns_2 c = rw (c.log-up2.ensures, c.before.if1.false)
+returns_2 c = rw (c.log_up-else-q.ensures, c.before.if-q.false)
 
 pub log_so3_spec : {M : Type 1} → statement M
 log_so3_spec = tie.close (tie.spec (λ c κs. search rules) (λ c κs. search rules) (λ c κs. search rules) returns returns_2)

@@ -5,13 +5,13 @@ use Rattle.geom.specs.Quats.{log_at}
 use Rattle.geom.proofs.log_up.Statement.{statement}
 use Rattle.geom.proofs.log_up.Tie as tie
 
-returns : tie.Need-returns
+returns : tie.Need-returns-then-n
 unfolding log_at of_bits
 returns c =
-    let norm3 = c.before.before.before.before.norm3 in
-    rw (← norm3.ensures, c.before.before.before.if1.true)
+    let norm3 = c.before.before.before.before.norm3-n in
+    rw (← norm3.ensures, c.before.before.before.if-n.true)
 
-returns_2 : tie.Need-returns-2
+returns_2 : tie.Need-returns-in-Is
 unfolding log_at of_bits neg
 returns_2 c =
     let after-half = c.before.before.before.before in
@@ -19,15 +19,15 @@ returns_2 c =
     let after-clamp = after-acos.before in
     let branch1 = after-clamp.before in
     let after-norm3 = branch1.before in
-    rw (← after-norm3.norm3.ensures, branch1.if1.false, ← after-clamp.clamp.ensures, ← after-acos.acos.ensures, after-half.half.given.1)
+    rw (← after-norm3.norm3-n.ensures, branch1.if-n.false, ← after-clamp.clamp.ensures, ← after-acos.acos-half.ensures, after-half.half-1.given.1)
 
-returns_3 : tie.Need-returns-3
+returns_3 : tie.Need-returns-in-Outside
 unfolding log_at of_bits neg
 returns_3 c =
     let after-clamp = c.before.before.before in
     let branch1 = after-clamp.before in
     let after-norm3 = branch1.before in
-    rw (← after-norm3.norm3.ensures, branch1.if1.false, ← after-clamp.clamp.ensures, ← c.before.before.acos.ensures, c.enum_told.given.1)
+    rw (← after-norm3.norm3-n.ensures, branch1.if-n.false, ← after-clamp.clamp.ensures, ← c.before.before.acos-half.ensures, c.enum_told-1.given.1)
 
 pub log_up_spec : {M : Type 1} → statement M
 log_up_spec =

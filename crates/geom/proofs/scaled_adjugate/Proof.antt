@@ -15,11 +15,11 @@ returns c =
     let after-scale3 = after-cross2.before in
     let j = after-scale3.before.before.before.before.before.args.t1 in
     rw (
-      c.scale33.ensures,
-      c.before.cross3.ensures,
-      after-scale32.scale32.ensures,
-      after-cross2.cross2.ensures ∙ cross_swap (row j 0) (row j 2),
-      after-scale3.scale3.ensures,
+      c.scale3-w.ensures,
+      c.before.cross-3.ensures,
+      after-scale32.scale3-v.ensures,
+      after-cross2.cross-2.ensures ∙ cross_swap (row j 0) (row j 2),
+      after-scale3.scale3-u.ensures,
       after-scale3.before.cross.ensures,
     )
 

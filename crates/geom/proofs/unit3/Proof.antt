@@ -5,13 +5,13 @@ use Rattle.geom.specs.Quats.{unit_by}
 use Rattle.geom.proofs.unit3.Statement.{statement}
 use Rattle.geom.proofs.unit3.Tie as tie
 
-returns : tie.Need-returns
+returns : tie.Need-returns-then-n-is_finite
 unfolding unit_by of_bits
-returns c = rw (← c.before.before.norm3.ensures, ← c.before.is_finite.ensures, c.if1.true)
+returns c = rw (← c.before.before.norm3-n.ensures, ← c.before.is_finite.ensures, c.if-n-is_finite.true)
 
-returns_2 : tie.Need-returns-2
+returns_2 : tie.Need-returns
 unfolding unit_by of_bits
-returns_2 c = rw (← c.before.before.norm3.ensures, ← c.before.is_finite.ensures, c.if1.false)
+returns_2 c = rw (← c.before.before.norm3-n.ensures, ← c.before.is_finite.ensures, c.if-n-is_finite.false)
 
 pub unit3_spec : {M : Type 1} → statement M
 unit3_spec =

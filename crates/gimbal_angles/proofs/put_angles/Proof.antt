@@ -5,18 +5,18 @@ use borrow.Author.Rules.{rules}
 use Rattle.gimbal_angles.proofs.put_angles.Statement.{statement}
 use Rattle.gimbal_angles.proofs.put_angles.Tie as tie
 
-put-angle-requires-3 : tie.Need-put-angle-requires-3
+put-angle-requires-3 : tie.Need-put_angle-requires-3
 put-angle-requires-3 c κs =
     let entry = c.before.before.before.before.before in
-    (omega (arith, entry.requires.0), filled_fewer c.before.put-angle2.ensures (omega arith))
+    (omega (arith, entry.requires.0), filled_fewer c.before.put_angle-2.ensures (omega arith))
 
-put-angle-requires-4 : tie.Need-put-angle-requires-4
+put-angle-requires-4 : tie.Need-put_angle-requires-4
 put-angle-requires-4 c κs =
     let entry = c.before.before.before.before.before.before.before in
-    (omega (arith, entry.requires.0), filled_fewer c.before.put-angle3.ensures (omega arith))
+    (omega (arith, entry.requires.0), filled_fewer c.before.put_angle-3.ensures (omega arith))
 
 returns : tie.Need-returns
-returns c = filled_fewer c.put-angle4.ensures (omega arith)
+returns c = filled_fewer c.put_angle-4.ensures (omega arith)
 
 pub put_angles_spec : {M : Type 1} → statement M
 put_angles_spec =

@@ -10,39 +10,39 @@ use borrow.Author.Rules.{rules}
 use Rattle.held_counts.proofs.held_counts.Statement.{statement}
 use Rattle.held_counts.proofs.held_counts.Tie as tie
 
-abbrev invariant_loop : tie.invariant_loop
+abbrev invariant_loop : tie.invariant-loop-i
 invariant_loop map torque_limit_law z n out₀ i₀ out i = (i ≤ n) × ((length out ≡ 12) × (out ≡ iter (Counts.place_turn map torque_limit_law z) Counts.none_held i))
 
-abbrev decreases_loop : tie.decreases_loop
+abbrev decreases_loop : tie.decreases-loop-i
 decreases_loop map torque_limit_law z n out₀ i₀ out i = n - i
 
-loop-holds : tie.Need-loop-init invariant_loop decreases_loop
+loop-holds : tie.Need-loop-i-init invariant_loop decreases_loop
 loop-holds c = (search rules, (search rules, iter_none _ _))
 
-limit-in-requires : tie.Need-limit-in-requires invariant_loop decreases_loop
-limit-in-requires c κs = rw (← c.before.before.control-dim.ensures) (search rules)
+limit-in-requires : tie.Need-limit_in-requires invariant_loop decreases_loop
+limit-in-requires c κs = rw (← c.before.before.control_dim-n.ensures) (search rules)
 
-held-at-requires : tie.Need-held-at-requires invariant_loop decreases_loop
+held-at-requires : tie.Need-held_at-requires invariant_loop decreases_loop
 held-at-requires c κs =
     let entry = c.before.before.before.before in
-    (omega (arith, c.before.before.before.control-dim.ensures, entry.requires), search rules)
+    (omega (arith, c.before.before.before.control_dim-n.ensures, entry.requires), search rules)
 
-write : tie.Need-array-write-out invariant_loop decreases_loop
+write : tie.Need-bounds-out-i invariant_loop decreases_loop
 write c =
     let after-control-dim = c.before.before.before.before in
     let start = after-control-dim.before in
-    omega (arith, after-control-dim.control-dim.ensures, start.requires)
+    omega (arith, after-control-dim.control_dim-n.ensures, start.requires)
 
-loop-again : tie.Need-loop-preserved invariant_loop decreases_loop
+loop-again : tie.Need-loop-i-preserved invariant_loop decreases_loop
 loop-again c =
-    let control-dim = c.before.before.before.before.control-dim in
-    (search rules, (search rules, iter_next _ _ _ c.before.before.before.loop.invariant.1.1 (rw (c.held_at.ensures, c.before.limit-in.ensures, ← control-dim.ensures))))
+    let control-dim = c.before.before.before.before.control_dim-n in
+    (search rules, (search rules, iter_next _ _ _ c.before.before.before.loop-i.invariant.1.1 (rw (c.held_at.ensures, c.before.limit_in.ensures, ← control-dim.ensures))))
 
 returns : tie.Need-returns invariant_loop decreases_loop
 unfolding Counts.held_counts
 returns c =
-    let e : c.before.loop.i ≡ c.before.before.control-dim.result = omega arith in
-    rw (← c.before.before.control-dim.ensures, ← e) c.before.loop.invariant.1.1
+    let e : c.before.loop-i.i ≡ c.before.before.control_dim-n.result = omega arith in
+    rw (← c.before.before.control_dim-n.ensures, ← e) c.before.loop-i.invariant.1.1
 
 pub held_counts_spec : {M : Type 1} → statement M
 held_counts_spec =

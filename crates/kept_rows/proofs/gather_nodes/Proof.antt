@@ -7,28 +7,28 @@ use borrow.Author.Rules.{rules}
 use Rattle.kept_rows.proofs.gather_nodes.Statement.{statement}
 use Rattle.kept_rows.proofs.gather_nodes.Tie as tie
 
-abbrev invariant_loop : tie.invariant_loop
+abbrev invariant_loop : tie.invariant-loop-k
 invariant_loop r₀ k₀ r k = (k ≤ 17) × Upto 79 (6 + 4 * k) r₀ r
 
-abbrev decreases_loop : tie.decreases_loop
+abbrev decreases_loop : tie.decreases-loop-k
 decreases_loop r₀ k₀ r k = 17 - k
 
-loop-holds : tie.Need-loop-init invariant_loop decreases_loop
+loop-holds : tie.Need-loop-k-init invariant_loop decreases_loop
 loop-holds c = (search rules, upto_first 79 _)
 
-move-rows-requires : tie.Need-move-rows-requires invariant_loop decreases_loop
+move-rows-requires : tie.Need-move_rows-requires invariant_loop decreases_loop
 move-rows-requires c κs =
     let entry = c.before.before.before.before in
-    (omega arith, omega (arith, c.before.before.loop.invariant.1.size, entry.requires))
+    (omega arith, omega (arith, c.before.before.loop-k.invariant.1.size, entry.requires))
 
-loop-again : tie.Need-loop-preserved invariant_loop decreases_loop
+loop-again : tie.Need-loop-k-preserved invariant_loop decreases_loop
 loop-again c =
-    let l = c.before.before.before.before.before.loop in
+    let l = c.before.before.before.before.before.loop-k in
     let start = c.before.before.before.before.before.before.before in
-    (omega arith, rw c.before.before.move-rows.ensures (upto_node start.args.r.now l.k l.r (omega arith) start.requires l.invariant.1))
+    (omega arith, rw c.before.before.move_rows.ensures (upto_node start.args.r-1.now l.k l.r-1 (omega arith) start.requires l.invariant.1))
 
 returns : tie.Need-returns invariant_loop decreases_loop
-returns c = let e : c.before.loop.k ≡ 17 = omega arith in rw e at c.before.loop.invariant.1
+returns c = let e : c.before.loop-k.k ≡ 17 = omega arith in rw e at c.before.loop-k.invariant.1
 
 pub gather_nodes_spec : {M : Type 1} → statement M
 gather_nodes_spec =
@@ -45,5 +45,5 @@ gather_nodes_spec =
     (λ c. search rules)
     (λ c. search rules)
     loop-again
-    (λ c. c.before.loop.invariant.1.size)
+    (λ c. c.before.loop-k.invariant.1.size)
     returns)

@@ -3,11 +3,11 @@ use borrow.Author.Tests.{ne_eqb}
 use Rattle.kept_rows.proofs.kept.Statement.{statement}
 use Rattle.kept_rows.proofs.kept.Tie as tie
 
-returns : tie.Need-returns
-returns c = rw c.if1.true
+returns : tie.Need-returns-then-m-eq79
+returns c = rw c.if-m-eq79.true
 
-returns_2 : tie.Need-returns-2
-returns_2 c = rw (ne_eqb _ 79 c.if1.false)
+returns_2 : tie.Need-returns-else-m-eq79
+returns_2 c = rw (ne_eqb _ 79 c.if-m-eq79.false)
 
 pub kept_spec : {M : Type 1} → statement M
 kept_spec = tie.close (tie.spec returns returns_2)

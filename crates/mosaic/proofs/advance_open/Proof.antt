@@ -4,19 +4,19 @@ use borrow.Author.Rules.{rules}
 use Rattle.mosaic.proofs.advance_open.Statement.{statement}
 use Rattle.mosaic.proofs.advance_open.Tie as tie
 
-returns : tie.Need-returns
+returns : tie.Need-returns-then-is_full
 returns c =
     let test = c.before.before in
-    turned_full _ test.before.is-full.ensures test.if1.true c.before.halted.ensures c.refused.ensures
+    turned_full _ test.before.is_full.ensures test.if-is_full.true c.before.halted.ensures c.refused.ensures
 
 advance-requires : tie.Need-advance-requires
-advance-requires c κs = open_of _ c.before.before.is-full.ensures c.before.if1.false
+advance-requires c κs = open_of _ c.before.before.is_full.ensures c.before.if-is_full.false
 
-returns_2 : tie.Need-returns-2
+returns_2 : tie.Need-returns
 returns_2 c =
     let advanced = c.before.before in
     let test = advanced.before.before in
-    turned_open _ test.before.is-full.ensures test.if1.false advanced.advance.ensures
+    turned_open _ test.before.is_full.ensures test.if-is_full.false advanced.advance.ensures
 
 pub advance_open_spec : {M : Type 1} → statement M
 advance_open_spec =

@@ -9,38 +9,38 @@ use Rattle.mosaic_answer.specs.MosaicAnswerLaws.{printed_none, printed_next, pri
 use Rattle.mosaic_program.proofs.print_legs.Statement.{statement}
 use Rattle.mosaic_program.proofs.print_legs.Tie as tie
 
-abbrev invariant_loop : tie.invariant_loop
+abbrev invariant_loop : tie.invariant-loop-k
 invariant_loop m method c₀ k₀ c k = (1 ≤ k) × (k - 1 ≤ m.count - 1) × Printed method workspace_most m (k - 1) c
 
-abbrev decreases_loop : tie.decreases_loop
+abbrev decreases_loop : tie.decreases-loop-k
 decreases_loop m method c₀ k₀ c k = m.count - k
 
-loop-holds : tie.Need-loop-init invariant_loop decreases_loop
-loop-holds c = (omega arith, omega arith, printed_none _ _ _ c.start.ensures)
+loop-holds : tie.Need-loop-k-init invariant_loop decreases_loop
+loop-holds c = (omega arith, omega arith, printed_none _ _ _ c.start-c.ensures)
 
-returns : tie.Need-returns invariant_loop decreases_loop
+returns : tie.Need-returns-then-is_refused invariant_loop decreases_loop
 returns c =
     let r = c.before in
     let p = r.before in
     let t = p.before in
-    let l = t.before.before.loop in
-    let made = p.print-leg.ensures in
-    printed_stays _ _ _ (l.k - 1 + 1) _ (omega (arith, l.invariant.0, t.if1.true)) (printed_next _ _ _ (l.k - 1) l.invariant.2 made.0 made.1) (sym r.is_refused_law.ensures ∙ c.if2.true)
+    let l = t.before.before.loop-k in
+    let made = p.print_leg-c.ensures in
+    printed_stays _ _ _ (l.k - 1 + 1) _ (omega (arith, l.invariant.0, t.loop-k-test.true)) (printed_next _ _ _ (l.k - 1) l.invariant.2 made.0 made.1) (sym r.is_refused_law.ensures ∙ c.if-is_refused.true)
 
-loop-again : tie.Need-loop-preserved invariant_loop decreases_loop
+loop-again : tie.Need-loop-k-preserved invariant_loop decreases_loop
 loop-again c =
     let p = c.before.before in
     let t = p.before in
-    let l = t.before.before.loop in
-    let made = p.print-leg.ensures in
+    let l = t.before.before.loop-k in
+    let made = p.print_leg-c.ensures in
     let e : l.k + 1 - 1 ≡ l.k - 1 + 1 = omega (arith, l.invariant.0) in
-    (omega arith, omega (arith, l.invariant.0, t.if1.true), rw e (printed_next _ _ _ (l.k - 1) l.invariant.2 made.0 made.1))
+    (omega arith, omega (arith, l.invariant.0, t.loop-k-test.true), rw e (printed_next _ _ _ (l.k - 1) l.invariant.2 made.0 made.1))
 
-returns_2 : tie.Need-returns-2 invariant_loop decreases_loop
+returns_2 : tie.Need-returns invariant_loop decreases_loop
 returns_2 c =
     let entry = c.before.before.before.before.before.before in
-    let l = c.before.before.loop in
-    let e : l.k - 1 ≡ entry.args.m.count - 1 = omega (arith, l.invariant.0, l.invariant.1, c.if1.false) in
+    let l = c.before.before.loop-k in
+    let e : l.k - 1 ≡ entry.args.m.count - 1 = omega (arith, l.invariant.0, l.invariant.1, c.loop-k-test.false) in
     rw e at l.invariant.2
 
 pub print_legs_spec : {M : Type 1} → statement M

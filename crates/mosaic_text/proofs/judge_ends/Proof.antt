@@ -6,38 +6,38 @@ use Rattle.mosaic_text.specs.MosaicTexts.{judge_ends}
 use Rattle.mosaic_text.proofs.judge_ends.Statement.{statement}
 use Rattle.mosaic_text.proofs.judge_ends.Tie as tie
 
-returns : tie.Need-returns
+returns : tie.Need-returns-then-count-lt2
 unfolding judge_ends
-returns c = simp (lt-ltb _ _ c.if1.true)
+returns c = simp (lt-ltb _ _ c.if-count-lt2.true)
 
-returns_2 : tie.Need-returns-2
+returns_2 : tie.Need-returns-then-count-gt64
 unfolding judge_ends
-returns_2 c = simp (le-ltb _ _ c.before.if1.false, lt-ltb _ _ c.if2.true)
+returns_2 c = simp (le-ltb _ _ c.before.if-count-lt2.false, lt-ltb _ _ c.if-count-gt64.true)
 
-returns_3 : tie.Need-returns-3
+returns_3 : tie.Need-returns-then-not-same_attitude
 unfolding judge_ends
 returns_3 c =
     let a = c.before in
     let e = a.before.before in
-    simp (le-ltb _ _ e.before.if1.false, le-ltb _ _ e.if2.false, unmet a.same-attitude.ensures c.if3.true)
+    simp (le-ltb _ _ e.before.if-count-lt2.false, le-ltb _ _ e.if-count-gt64.false, unmet a.same_attitude.ensures c.if-not-same_attitude.true)
 
-returns-4 : tie.Need-returns-4
+returns-4 : tie.Need-returns-then-not-same_attitude-2
 unfolding judge_ends
 returns-4 c =
     let b = c.before in
     let m = b.before.before in
     let a = m.before in
     let e = a.before.before in
-    simp (le-ltb _ _ e.before.if1.false, le-ltb _ _ e.if2.false, met a.same-attitude.ensures m.if3.false, unmet b.same-attitude2.ensures c.if4.true)
+    simp (le-ltb _ _ e.before.if-count-lt2.false, le-ltb _ _ e.if-count-gt64.false, met a.same_attitude.ensures m.if-not-same_attitude.false, unmet b.same_attitude-2.ensures c.if-not-same_attitude-2.true)
 
-returns-5 : tie.Need-returns-5
+returns-5 : tie.Need-returns
 unfolding judge_ends
 returns-5 c =
     let b = c.before in
     let m = b.before.before in
     let a = m.before in
     let e = a.before.before in
-    simp (le-ltb _ _ e.before.if1.false, le-ltb _ _ e.if2.false, met a.same-attitude.ensures m.if3.false, met b.same-attitude2.ensures c.if4.false)
+    simp (le-ltb _ _ e.before.if-count-lt2.false, le-ltb _ _ e.if-count-gt64.false, met a.same_attitude.ensures m.if-not-same_attitude.false, met b.same_attitude-2.ensures c.if-not-same_attitude-2.false)
 
 pub judge_ends_spec : {M : Type 1} → statement M
 judge_ends_spec =

@@ -10,11 +10,11 @@ unfolding read_parts
 returns c =
     let t = c.before in
     let r = t.before in
-    let e = r.before.before.problem-end.ensures in
-    rw (← e.is) (rw (t.tiles-at.ensures, r.read.ensures) at c.mosaic-of.ensures)
+    let e = r.before.before.problem_end-end.ensures in
+    rw (← e.is) (rw (t.tiles_at-t.ensures, r.read-read.ensures) at c.mosaic_of.ensures)
 
 pub read_parts_spec : {M : Type 1} → statement M
 read_parts_spec =
     tie.close
-    (tie.spec (search rules) (λ c. omega (arith, c.problem-end.ensures.after)) (λ c. omega (arith, c.problem-end.ensures.after))
-    (λ c. omega (arith, c.problem-end.ensures.within)) (search rules) (search rules) (search rules) returns)
+    (tie.spec (search rules) (λ c. omega (arith, c.problem_end-end.ensures.after)) (λ c. omega (arith, c.problem_end-end.ensures.after))
+    (λ c. omega (arith, c.problem_end-end.ensures.within)) (search rules) (search rules) (search rules) returns)

@@ -5,29 +5,29 @@ use Rattle.mosaic_text.specs.MosaicTexts.{with_tiles}
 use Rattle.mosaic_text.proofs.with_tiles.Statement.{statement}
 use Rattle.mosaic_text.proofs.with_tiles.Tie as tie
 
-returns : tie.Need-returns
+returns : tie.Need-returns-then-not-t
 unfolding with_tiles
 returns c =
     let t = c.before.before in
     let start = t.before.before.before.args in
-    simp (not-true start.t.right t.if1.true) (rw c.before.line_of.ensures at c.wrong.ensures)
+    simp (not-true start.t.right t.if-not-t.true) (rw c.before.line_of.ensures at c.wrong.ensures)
 
-returns_2 : tie.Need-returns-2
+returns_2 : tie.Need-returns-in-Refused
 unfolding with_tiles
 returns_2 c =
     let m = c.before.before in
     let j = m.before.before in
     let e = j.before.before in
     let start = e.before.before.before.args in
-    simp (not-false start.t.right e.if1.false) (rw (← j.judge-ends.ensures, m.ends.given.1) c.wrong2.ensures)
+    simp (not-false start.t.right e.if-not-t.false) (rw (← j.judge_ends-ends.ensures, m.ends-1.given.1) c.wrong-in-Refused.ensures)
 
-returns_3 : tie.Need-returns-3
+returns_3 : tie.Need-returns-in-Going
 unfolding with_tiles
 returns_3 c =
     let j = c.before.before in
     let e = j.before.before in
     let start = e.before.before.before.args in
-    simp (not-false start.t.right e.if1.false) (rw (← j.judge-ends.ensures, c.enum_told.given.1))
+    simp (not-false start.t.right e.if-not-t.false) (rw (← j.judge_ends-ends.ensures, c.enum_told-1.given.1))
 
 pub with_tiles_spec : {M : Type 1} → statement M
 with_tiles_spec = tie.close (tie.spec (search rules) (search rules) returns (search rules) (search rules) (search rules) (search rules) returns_2 returns_3)

@@ -13,18 +13,18 @@ use native.Mathlib.Omega.{arith}
 use Rattle.normal_equations.proofs.clear.Statement.{statement}
 use Rattle.normal_equations.proofs.clear.Tie as tie
 
-abbrev invariant_loop : tie.invariant_loop
+abbrev invariant_loop : tie.invariant-loop-i
 invariant_loop v₀ i₀ v i = (i ≤ length v₀) × (length v ≡ length v₀) × (Filled (λ _. Floats.plus_zero) 0 i (at v₀) (at v))
 
-abbrev decreases_loop : tie.decreases_loop
+abbrev decreases_loop : tie.decreases-loop-i
 decreases_loop v₀ i₀ v i = length v₀ - i
 
-loop-again : tie.Need-loop-preserved invariant_loop decreases_loop
-loop-again c = let l = c.before.loop in
+loop-again : tie.Need-loop-i-preserved invariant_loop decreases_loop
+loop-again c = let l = c.before.loop-i in
     (omega arith, simp length-set (omega arith), filled_set _ 0 l.i c.before.before.args.v.now l.v _ (omega arith) (omega arith) l.invariant.2 refl)
 
 returns : tie.Need-returns invariant_loop decreases_loop
-returns c = let l = c.before.loop in
+returns c = let l = c.before.loop-i in
     let v : List Float = c.before.before.args.v.now in
     let e : l.i ≡ length v = omega arith in
     filled_all (λ _. Floats.plus_zero) 0 v l.v l.invariant.1 (rw e at l.invariant.2) (λ x h. absurd (omega arith))

@@ -8,25 +8,25 @@ use Rattle.normal_equations.specs.DampInner.{DampedTo, damped_none, damped_more,
 use Rattle.normal_equations.proofs.damp.Statement.{statement}
 use Rattle.normal_equations.proofs.damp.Tie as tie
 
-abbrev invariant_loop : tie.invariant_loop
+abbrev invariant_loop : tie.invariant-loop-k
 invariant_loop a₀ n lambda k₀ a k = (k ≤ n) × (length a ≡ length a₀) × (DampedTo n lambda k a₀ a)
 
-abbrev decreases_loop : tie.decreases_loop
+abbrev decreases_loop : tie.decreases-loop-k
 decreases_loop a₀ n lambda k₀ a k = n - k
 
 -- the place that is damped
-inside : (c : tie.In-loop invariant_loop decreases_loop) → c.before.loop.k * c.before.before.args.n + c.before.loop.k < length c.before.loop.a
-inside c = omega (arith, row_end c.before.loop.k c.before.before.args.n c.before.before.args.n (omega arith))
+inside : (c : tie.In-loop-k invariant_loop decreases_loop) → c.before.loop-k.k * c.before.before.args.n + c.before.loop-k.k < length c.before.loop-k.a
+inside c = omega (arith, row_end c.before.loop-k.k c.before.before.args.n c.before.before.args.n (omega arith))
 
-loop-again : tie.Need-loop-preserved invariant_loop decreases_loop
+loop-again : tie.Need-loop-k-preserved invariant_loop decreases_loop
 loop-again c =
-    let l = c.before.before.loop in
+    let l = c.before.before.loop-k in
     let a = c.before.before.before.args in
     (omega arith, simp length-set l.invariant.1, damped_more a.n a.lambda l.k a.a.now l.a (omega arith) (inside c.before) l.invariant.2)
 
 returns : tie.Need-returns invariant_loop decreases_loop
 returns c =
-    let l = c.before.loop in
+    let l = c.before.loop-k in
     let a = c.before.before.args in
     let e : l.k ≡ a.n = omega arith in
     damped_all a.n a.lambda a.a.now l.a (l.invariant.1 ∙ c.before.before.requires.1) (rw e at l.invariant.2)

@@ -26,19 +26,19 @@ column_put m c x v room whole =
       outside = λ i h. ⊎_elim (λ b. at_pasted_before v x (c * m) (c * m + m) i b (omega arith)) (λ b. at_pasted_after v x (c * m) (c * m + m) i (omega arith) room (omega arith) b) h;
     }
 
-put-slopes-requires : tie.Need-put-slopes-requires
+put-slopes-requires : tie.Need-put_slopes-requires
 put-slopes-requires c κs =
     let a = c.before.before.args in
-    let l = part_length a.m a.v.now a.c (a.c * a.m) (a.c * a.m + a.m) refl refl (omega arith) in
+    let l = part_length a.m a.v-1.now a.c (a.c * a.m) (a.c * a.m + a.m) refl refl (omega arith) in
     omega arith
 
 returns : tie.Need-returns
 unfolding slopes
 returns c =
     let a = c.before.before.before.before.before.args in
-    let l = part_length a.m a.v.now a.c (a.c * a.m) (a.c * a.m + a.m) refl refl (omega arith) in
-    let put = c.before.before.put-slopes.ensures ∙ ap (λ k. slopes k a.rp.now a.r0.now) l in
-    subst (λ x. ColumnPut a.m a.c (slopes a.m a.rp.now a.r0.now) a.v.now (pasted a.v.now (a.c * a.m) (a.c * a.m + a.m) x)) (sym put) (column_put a.m a.c (slopes a.m a.rp.now a.r0.now) a.v.now (omega arith) (length_tab a.m _))
+    let l = part_length a.m a.v-1.now a.c (a.c * a.m) (a.c * a.m + a.m) refl refl (omega arith) in
+    let put = c.before.before.put_slopes.ensures ∙ ap (λ k. slopes k a.rp.now a.r0.now) l in
+    subst (λ x. ColumnPut a.m a.c (slopes a.m a.rp.now a.r0.now) a.v-1.now (pasted a.v-1.now (a.c * a.m) (a.c * a.m + a.m) x)) (sym put) (column_put a.m a.c (slopes a.m a.rp.now a.r0.now) a.v-1.now (omega arith) (length_tab a.m _))
 
 pub put_column_spec : {M : Type 1} → statement M
 put_column_spec =

@@ -11,24 +11,24 @@ use native.Mathlib.Omega.{arith}
 use Rattle.normal_equations.proofs.put_slopes.Statement.{statement}
 use Rattle.normal_equations.proofs.put_slopes.Tie as tie
 
-abbrev invariant_loop : tie.invariant_loop
+abbrev invariant_loop : tie.invariant-loop-i
 invariant_loop column₀ rp r0 i₀ column i = (i ≤ length column₀) × (length column ≡ length column₀) × (Filled (λ x. div binary64 (sub binary64 (at rp x) (at r0 x)) Normal.fd_eps) 0 i (at column₀) (at column))
 
-abbrev decreases_loop : tie.decreases_loop
+abbrev decreases_loop : tie.decreases-loop-i
 decreases_loop column₀ rp r0 i₀ column i = length column₀ - i
 
-loop-again : tie.Need-loop-preserved invariant_loop decreases_loop
+loop-again : tie.Need-loop-i-preserved invariant_loop decreases_loop
 loop-again c =
     let entry = c.before.before.before.before in
-    let l = c.before.before.before.loop in
-    (omega arith, simp length-set (omega arith), filled_set _ 0 l.i entry.args.column.now l.column _ (omega arith) (omega arith) l.invariant.2 refl)
+    let l = c.before.before.before.loop-i in
+    (omega arith, simp length-set (omega arith), filled_set _ 0 l.i entry.args.column-1.now l.column-1 _ (omega arith) (omega arith) l.invariant.2 refl)
 
 returns : tie.Need-returns invariant_loop decreases_loop
 unfolding Normal.slopes
-returns c = let l = c.before.loop in
-    let v : List Float = c.before.before.args.column.now in
+returns c = let l = c.before.loop-i in
+    let v : List Float = c.before.before.args.column-1.now in
     let e : l.i ≡ length v = omega arith in
-    filled_all _ 0 v l.column l.invariant.1 (rw e at l.invariant.2) (λ x h. absurd (omega arith))
+    filled_all _ 0 v l.column-1 l.invariant.1 (rw e at l.invariant.2) (λ x h. absurd (omega arith))
 
 pub put_slopes_spec : {M : Type 1} → statement M
 put_slopes_spec =

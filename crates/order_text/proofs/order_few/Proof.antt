@@ -11,7 +11,7 @@ use Rattle.order_text.proofs.order_few.Tie as tie
 few : (n : ℕ) → n ≤ 10 → n * n ≤ 100
 few n h = mul-le-mul h h
 
-array-share-prefix-times : tie.Need-array-share-prefix-times
+array-share-prefix-times : tie.Need-slice_bounds-times-end
 array-share-prefix-times c = omega (arith, few c.args.n c.requires)
 
 pub order_few_spec : {M : Type 1} → statement M

@@ -9,33 +9,33 @@ use borrow.Author.Rules.{rules}
 use Rattle.plan_text.proofs.plan_seeded.Statement.{statement}
 use Rattle.plan_text.proofs.plan_seeded.Tie as tie
 
-returns : tie.Need-returns
+returns : tie.Need-returns-then-seed-ne103
 unfolding Ieee.of_bits
 returns c =
     let at-plan-from = c.before.before in
     let at-if1 = at-plan-from.before.before.before.before in
     let entry = at-if1.before.before.before in
     let start = entry.args in
-    let made = at-plan-from.plan-from.ensures in
-    (made.0 ∙ seed_miscounted start.p start.seed.now (length start.ws.now) at-if1.if1.true, made.1.0, rw (ne_eqb (length start.seed.now) 103 at-if1.if1.true) made.1.1)
+    let made = at-plan-from.plan_from.ensures in
+    (made.0 ∙ seed_miscounted start.p start.seed.now (length start.ws-1.now) at-if1.if-seed-ne103.true, made.1.0, rw (ne_eqb (length start.seed.now) 103 at-if1.if-seed-ne103.true) made.1.1)
 
-shared-slice-read-plan-from : tie.Need-shared-slice-read-plan-from
-shared-slice-read-plan-from c = omega (arith, c.before.if1.false)
+shared-slice-read-plan-from : tie.Need-bounds-seed-0
+shared-slice-read-plan-from c = omega (arith, c.before.if-seed-ne103.false)
 
-part-plan-from-end : tie.Need-slice-bounds-plan-from-end
-part-plan-from-end c = omega (arith, c.before.if1.false)
+part-plan-from-end : tie.Need-slice_bounds-plan_from-end-2
+part-plan-from-end c = omega (arith, c.before.if-seed-ne103.false)
 
-part-plan-from-end-2 : tie.Need-slice-bounds-plan-from-end-2
-part-plan-from-end-2 c = omega (arith, c.before.before.if1.false)
+part-plan-from-end-2 : tie.Need-slice_bounds-plan_from-end-3
+part-plan-from-end-2 c = omega (arith, c.before.before.if-seed-ne103.false)
 
-returns_2 : tie.Need-returns-2
+returns_2 : tie.Need-returns
 returns_2 c =
     let at-plan-from2 = c.before.before in
     let at-if1 = at-plan-from2.before.before.before.before.before in
     let entry = at-if1.before.before.before in
     let start = entry.args in
-    let made = at-plan-from2.plan-from2.ensures in
-    (made.0 ∙ seed_counted start.p start.seed.now (length start.ws.now) at-if1.if1.false, made.1.0, rw (eq-eqb (length start.seed.now) 103 at-if1.if1.false) made.1.1)
+    let made = at-plan-from2.plan_from-2.ensures in
+    (made.0 ∙ seed_counted start.p start.seed.now (length start.ws-1.now) at-if1.if-seed-ne103.false, made.1.0, rw (eq-eqb (length start.seed.now) 103 at-if1.if-seed-ne103.false) made.1.1)
 
 pub plan_seeded_spec : {M : Type 1} → statement M
 plan_seeded_spec =

@@ -4,13 +4,13 @@ use borrow.Author.Rules.{rules}
 use Rattle.planner.proofs.check_end.Statement.{statement}
 use Rattle.planner.proofs.check_end.Tie as tie
 
-returns : tie.Need-returns
+returns : tie.Need-returns-in-Refused
 returns c =
-    let end-checks = c.before.before.before.before.end-checks in
-    c.refused.ensures ∙ rw (← end-checks.ensures, c.before.before.fate.given.1) refl
+    let end-checks = c.before.before.before.before.end_checks-fate in
+    c.refused.ensures ∙ rw (← end-checks.ensures, c.before.before.fate-1.given.1) refl
 
-returns_2 : tie.Need-returns-2
-returns_2 c = rw (← c.before.before.before.end-checks.ensures, c.before.enum_told.given.1, c.path-of.ensures) refl
+returns_2 : tie.Need-returns-in-Going
+returns_2 c = rw (← c.before.before.before.end_checks-fate.ensures, c.before.enum_told-1.given.1, c.path_of.ensures) refl
 
 pub check_end_spec : {M : Type 1} → statement M
 check_end_spec =

@@ -7,8 +7,8 @@ use Rattle.planner.proofs.path_of.Tie as tie
 returns : tie.Need-returns
 unfolding Ieee.of_bits
 returns c =
-    let held_of = c.before.before.before.before.before.held_of in
-    rw (c.control-dim.ensures, held_of.ensures)
+    let held_of = c.before.before.before.before.before.held_of-counts in
+    rw (c.control_dim.ensures, held_of.ensures)
 
 pub path_of_spec : {M : Type 1} → statement M
 path_of_spec = tie.close (tie.spec (λ c κs. search rules) (λ c. search rules) (λ c κs. search rules) returns)

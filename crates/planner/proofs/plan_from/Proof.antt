@@ -11,28 +11,28 @@ use borrow.Author.Rules.{rules}
 use Rattle.planner.proofs.plan_from.Statement.{statement}
 use Rattle.planner.proofs.plan_from.Tie as tie
 
-enum_told : tie.Need-enum-told
+enum_told : tie.Need-enum_told-1
 enum_told c = search rules
 
-with-seed-requires : tie.Need-with-seed-requires
+with-seed-requires : tie.Need-with_seed-requires
 with-seed-requires c κs =
     let entry = c.before.before.before.before.before.before.before.before.before in
-    (sized_as _ c.before.before.before.before.before.check.ensures c.before.before.before.enum_told.given.1, λ h. counted_long entry.args.rates.now entry.args.torques.now (sym c.before.counted.ensures ∙ h))
+    (sized_as _ c.before.before.before.before.before.check-checked.ensures c.before.before.before.enum_told-1.given.1, λ h. counted_long entry.args.rates.now entry.args.torques.now (sym c.before.counted.ensures ∙ h))
 
-returns : tie.Need-returns
+returns : tie.Need-returns-in-Refused
 unfolding Plans.plan_from
 returns c =
     let entry = c.before.before.before.before.before.before.before.before in
-    let good = c.before.before.before.before.before.before.before.before.well-formed in
-    entry_refused (λ r. Answers entry.args.p (Plans.seed_of (check entry.args.p).problem entry.args.duration entry.args.torques.now) r) _ (Plans.seed_of (check entry.args.p).problem entry.args.duration entry.args.torques.now) c.refused.ensures (rw (← c.before.before.before.before.check.ensures, c.before.before.fate.given.1) refl) (λ fit. plan_from_answers _ (problem_held entry.args.p _ good.0) _ _ _ _ fit)
+    let good = c.before.before.before.before.before.before.before.before.well_formed in
+    entry_refused (λ r. Answers entry.args.p (Plans.seed_of (check entry.args.p).problem-1 entry.args.duration entry.args.torques.now) r) _ (Plans.seed_of (check entry.args.p).problem-1 entry.args.duration entry.args.torques.now) c.refused.ensures (rw (← c.before.before.before.before.check-checked.ensures, c.before.before.fate-1.given.1) refl) (λ fit. plan_from_answers _ (problem_held entry.args.p _ good.0) _ _ _ _ fit)
 
-returns_2 : tie.Need-returns-2
+returns_2 : tie.Need-returns-in-Going
 returns_2 c =
     let entry = c.before.before.before.before.before.before.before.before.before.before.before.before in
-    let good = c.before.before.before.before.before.before.before.before.before.before.before.before.well-formed in
-    let enum_told = c.before.before.before.before.before.before.enum_told in
+    let good = c.before.before.before.before.before.before.before.before.before.before.before.before.well_formed in
+    let enum_told = c.before.before.before.before.before.before.enum_told-1 in
     let counted = c.before.before.before.before.counted in
-    entry_as (λ r. Answers entry.args.p (Plans.seed_of (check entry.args.p).problem entry.args.duration entry.args.torques.now) r) (from_as entry.args.p entry.args.duration entry.args.rates.now entry.args.torques.now _ c.before.before.before.before.before.before.before.before.check.ensures enum_told.given.1 counted.ensures c.before.before.with_seed_law.ensures) (λ fit. plan_from_answers _ (problem_held entry.args.p _ good.0) _ _ _ _ fit)
+    entry_as (λ r. Answers entry.args.p (Plans.seed_of (check entry.args.p).problem-1 entry.args.duration entry.args.torques.now) r) (from_as entry.args.p entry.args.duration entry.args.rates.now entry.args.torques.now _ c.before.before.before.before.before.before.before.before.check-checked.ensures enum_told.given.1 counted.ensures c.before.before.with_seed_law.ensures) (λ fit. plan_from_answers _ (problem_held entry.args.p _ good.0) _ _ _ _ fit)
 
 pub plan_from_spec : {M : Type 1} → statement M
 plan_from_spec =

@@ -6,7 +6,7 @@ use Rattle.planner.proofs.refused.Tie as tie
 
 returns : tie.Need-returns
 unfolding Ieee.of_bits
-returns c = rw c.blank-node.ensures
+returns c = rw c.blank_node-blank.ensures
 
 pub refused_spec : {M : Type 1} → statement M
 refused_spec = tie.close (tie.spec (λ c κs. search rules) returns)

@@ -6,32 +6,32 @@ use borrow.Author.Rules.{rules}
 use Rattle.planner.proofs.seeded.Statement.{statement}
 use Rattle.planner.proofs.seeded.Tie as tie
 
-returns : tie.Need-returns
-returns c = refusal _ c.refused.ensures (seeded_uncounted _ _ _ _ (not-true _ c.before.if1.true))
+returns : tie.Need-returns-then-not-counted
+returns c = refusal _ c.refused.ensures (seeded_uncounted _ _ _ _ (not-true _ c.before.if-not-counted.true))
 
-returns_2 : tie.Need-returns-2
-returns_2 c = refusal _ c.refused2.ensures (seeded_untimed _ _ _ _ (not-false _ c.before.before.before.if1.false) c.before.before.is_positive.ensures (not-true _ c.before.if2.true))
+returns_2 : tie.Need-returns-then-not-is_positive
+returns_2 c = refusal _ c.refused-then-not-is_positive.ensures (seeded_untimed _ _ _ _ (not-false _ c.before.before.before.if-not-counted.false) c.before.before.is_positive.ensures (not-true _ c.before.if-not-is_positive.true))
 
-returns_3 : tie.Need-returns-3
+returns_3 : tie.Need-returns-then-ws-room
 returns_3 c =
-    let if1 = c.before.before.before.before.before.if1 in
+    let if1 = c.before.before.before.before.before.if-not-counted in
     let is_positive = c.before.before.before.before.is_positive in
-    refusal _ c.refused3.ensures (seeded_short _ _ _ _ (not-false _ if1.false) is_positive.ensures (not-false _ c.before.before.before.if2.false) c.before.before.room.ensures c.before.if3.true)
+    refusal _ c.refused-then-ws-room.ensures (seeded_short _ _ _ _ (not-false _ if1.false) is_positive.ensures (not-false _ c.before.before.before.if-not-is_positive.false) c.before.before.room.ensures c.before.if-ws-room.true)
 
-seed-decision-requires : tie.Need-seed-decision-requires
+seed-decision-requires : tie.Need-seed_decision-seed-requires
 seed-decision-requires c κs =
     let entry = c.before.before.before.before.before.before.before.before.before in
-    let if1 = c.before.before.before.before.before.before.if1 in
+    let if1 = c.before.before.before.before.before.before.if-not-counted in
     (entry.requires.1.0, entry.requires.1.1 (not-false _ if1.false))
 
-returns-4 : tie.Need-returns-4
+returns-4 : tie.Need-returns
 returns-4 c =
-    let if1 = c.before.before.before.before.before.before.before.before.before.before.before.before.before.if1 in
+    let if1 = c.before.before.before.before.before.before.before.before.before.before.before.before.before.if-not-counted in
     let is_positive = c.before.before.before.before.before.before.before.before.before.before.before.before.is_positive in
-    let if2 = c.before.before.before.before.before.before.before.before.before.before.before.if2 in
+    let if2 = c.before.before.before.before.before.before.before.before.before.before.before.if-not-is_positive in
     let room = c.before.before.before.before.before.before.before.before.before.before.room in
-    let if3 = c.before.before.before.before.before.before.before.before.before.if3 in
-    let seed-decision = c.before.before.before.before.before.before.seed-decision in
+    let if3 = c.before.before.before.before.before.before.before.before.before.if-ws-room in
+    let seed-decision = c.before.before.before.before.before.before.seed_decision-seed in
     solved _ _ seed-decision.ensures.0 seed-decision.ensures.1 c.before.before.solve.ensures.0 c.before.before.solve.ensures.1.0 c.before.before.solve.ensures.1.1 (seeded_search _ _ _ _ (not-false _ if1.false) is_positive.ensures (not-false _ if2.false) room.ensures if3.false)
 
 pub seeded_spec : {M : Type 1} → statement M

@@ -6,18 +6,18 @@ use borrow.Author.Rules.{rules}
 use Rattle.planner.proofs.with_profile.Statement.{statement}
 use Rattle.planner.proofs.with_profile.Tie as tie
 
-returns : tie.Need-returns
+returns : tie.Need-returns-in-Refused
 unfolding Plans.with_profile
 returns c =
-    let profiled = c.before.before.before.before.profiled in
-    refusal _ c.refused.ensures (rw (← profiled.ensures, c.before.before.fate.given.1) refl)
+    let profiled = c.before.before.before.before.profiled-made in
+    refusal _ c.refused.ensures (rw (← profiled.ensures, c.before.before.fate-1.given.1) refl)
 
-returns_2 : tie.Need-returns-2
+returns_2 : tie.Need-returns-in-Going
 returns_2 c =
-    let profiled = c.before.before.before.before.before.before.before.before.profiled in
-    let enum_told = c.before.before.before.before.before.before.enum_told in
-    let sample-seed = c.before.before.before.before.sample-seed in
-    profiled_as _ _ profiled.ensures enum_told.given.1 sample-seed.ensures c.before.before.with-profile-seed.ensures
+    let profiled = c.before.before.before.before.before.before.before.before.profiled-made in
+    let enum_told = c.before.before.before.before.before.before.enum_told-1 in
+    let sample-seed = c.before.before.before.before.sample_seed in
+    profiled_as _ _ profiled.ensures enum_told.given.1 sample-seed.ensures c.before.before.with_profile_seed.ensures
 
 pub with_profile_spec : {M : Type 1} → statement M
 with_profile_spec =

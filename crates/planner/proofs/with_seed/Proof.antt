@@ -7,25 +7,25 @@ use borrow.Author.Rules.{rules}
 use Rattle.planner.proofs.with_seed.Statement.{statement}
 use Rattle.planner.proofs.with_seed.Tie as tie
 
-enum_told : tie.Need-enum-told
+enum_told : tie.Need-enum_told-1
 enum_told c = search rules
 
 seeded-requires : tie.Need-seeded-requires
 seeded-requires c κs =
     let entry = c.before.before.before.before.before.before.before in
-    (entry.requires.0, (served_narrow _ entry.requires.0 (sym c.before.before.before.served.ensures ∙ c.before.enum_told.given.1), entry.requires.1))
+    (entry.requires.0, (served_narrow _ entry.requires.0 (sym c.before.before.before.served-fate.ensures ∙ c.before.enum_told-1.given.1), entry.requires.1))
 
-returns : tie.Need-returns
+returns : tie.Need-returns-in-Refused
 unfolding Plans.with_seed
 returns c =
-    let served = c.before.before.before.before.served in
-    refusal _ c.refused.ensures (rw (← served.ensures, c.before.before.fate.given.1) refl)
+    let served = c.before.before.before.before.served-fate in
+    refusal _ c.refused.ensures (rw (← served.ensures, c.before.before.fate-1.given.1) refl)
 
-returns_2 : tie.Need-returns-2
+returns_2 : tie.Need-returns-in-Going
 unfolding Plans.with_seed
 returns_2 c =
-    let served = c.before.before.before.before.before.before.served in
-    let enum_told = c.before.before.before.before.enum_told in
+    let served = c.before.before.before.before.before.before.served-fate in
+    let enum_told = c.before.before.before.before.enum_told-1 in
     outcome_as c.before.before.seeded.ensures (rw (← served.ensures, enum_told.given.1) refl)
 
 pub with_seed_spec : {M : Type 1} → statement M

@@ -4,7 +4,7 @@ use Rattle.problem.proofs.blank_problem.Statement.{statement}
 use Rattle.problem.proofs.blank_problem.Tie as tie
 
 returns : tie.Need-returns
-returns c = rw c.blank-map.ensures
+returns c = rw c.blank_map.ensures
 
 pub blank_problem_spec : {M : Type 1} → statement M
 blank_problem_spec = tie.close (tie.spec (λ c κs. search rules) returns)

@@ -4,17 +4,17 @@ use borrow.Author.Rules.{rules}
 use Rattle.problem.proofs.check.Statement.{statement}
 use Rattle.problem.proofs.check.Tie as tie
 
-returns : tie.Need-returns
+returns : tie.Need-returns-in-Refused
 unfolding Problems.check
 returns c =
-    let prepare = c.before.before.before.before.prepare in
-    rw (← prepare.ensures, c.before.before.fate.given.1) c.refused.ensures
+    let prepare = c.before.before.before.before.prepare-prepared in
+    rw (← prepare.ensures, c.before.before.fate-1.given.1) c.refused.ensures
 
-returns_2 : tie.Need-returns-2
+returns_2 : tie.Need-returns-in-Going
 unfolding Problems.check
 returns_2 c =
-    let prepare = c.before.before.before.before.prepare in
-    rw (← prepare.ensures, c.before.before.enum_told.given.1) c.with-map.ensures
+    let prepare = c.before.before.before.before.prepare-prepared in
+    rw (← prepare.ensures, c.before.before.enum_told-1.given.1) c.with_map.ensures
 
 pub check_spec : {M : Type 1} → statement M
 check_spec =

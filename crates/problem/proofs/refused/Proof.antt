@@ -4,7 +4,7 @@ use Rattle.problem.proofs.refused.Statement.{statement}
 use Rattle.problem.proofs.refused.Tie as tie
 
 returns : tie.Need-returns
-returns c = rw c.blank-problem.ensures
+returns c = rw c.blank_problem.ensures
 
 pub refused_spec : {M : Type 1} → statement M
 refused_spec = tie.close (tie.spec (λ c κs. search rules) returns)

@@ -5,21 +5,21 @@ use borrow.Author.Rules.{rules}
 use Rattle.problem.proofs.with_map.Statement.{statement}
 use Rattle.problem.proofs.with_map.Tie as tie
 
-returns : tie.Need-returns
+returns : tie.Need-returns-then-not-numbers_fit
 unfolding Problems.with_map
-returns c = rw (unmet c.before.before.numbers_fit.ensures c.before.if1.true) c.refused.ensures
+returns c = rw (unmet c.before.before.numbers_fit.ensures c.before.if-not-numbers_fit.true) c.refused.ensures
 
-returns_2 : tie.Need-returns-2
+returns_2 : tie.Need-returns-in-Refused
 unfolding Problems.with_map
 returns_2 c =
     let t = c.before.before.before.before in
-    rw (met t.before.before.before.before.numbers_fit.ensures t.before.before.before.if1.false, ← t.check-starts.ensures, c.before.before.fate.given.1) c.refused2.ensures
+    rw (met t.before.before.before.before.numbers_fit.ensures t.before.before.before.if-not-numbers_fit.false, ← t.check_starts-fate.ensures, c.before.before.fate-1.given.1) c.refused-in-Refused.ensures
 
-returns_3 : tie.Need-returns-3
+returns_3 : tie.Need-returns-in-Going
 unfolding Problems.with_map
 returns_3 c =
     let t = c.before.before.before in
-    rw (met t.before.before.before.before.numbers_fit.ensures t.before.before.before.if1.false, ← t.check-starts.ensures, c.before.enum_told.given.1) c.with-starts.ensures
+    rw (met t.before.before.before.before.numbers_fit.ensures t.before.before.before.if-not-numbers_fit.false, ← t.check_starts-fate.ensures, c.before.enum_told-1.given.1) c.with_starts.ensures
 
 pub with_map_spec : {M : Type 1} → statement M
 with_map_spec =

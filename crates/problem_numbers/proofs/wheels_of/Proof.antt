@@ -11,21 +11,21 @@ use Rattle.problem_numbers.specs.Declared.{wheel_at, wheels}
 use Rattle.problem_numbers.proofs.wheels_of.Statement.{statement}
 use Rattle.problem_numbers.proofs.wheels_of.Tie as tie
 
-abbrev invariant_loop : tie.invariant_loop
+abbrev invariant_loop : tie.invariant-loop-k
 invariant_loop c v out₀ k₀ out k = (k ≤ 8) × (out ≡ iter (λ j l. set l j (wheel_at c v j)) (replicate 8 blank_wheel) k)
 
-abbrev decreases_loop : tie.decreases_loop
+abbrev decreases_loop : tie.decreases-loop-k
 decreases_loop c v out₀ k₀ out k = 8 - k
 
-loop-holds : tie.Need-loop-init invariant_loop decreases_loop
-loop-holds c = (omega arith, rw c.blank-wheel.ensures (iter_none _ _))
+loop-holds : tie.Need-loop-k-init invariant_loop decreases_loop
+loop-holds c = (omega arith, rw c.blank_wheel-blank.ensures (iter_none _ _))
 
-loop-again : tie.Need-loop-preserved invariant_loop decreases_loop
-loop-again c = (omega arith, iter_next _ _ _ c.before.before.loop.invariant.1 (rw c.wheel-at.ensures refl))
+loop-again : tie.Need-loop-k-preserved invariant_loop decreases_loop
+loop-again c = (omega arith, iter_next _ _ _ c.before.before.loop-k.invariant.1 (rw c.wheel_at.ensures refl))
 
 returns : tie.Need-returns invariant_loop decreases_loop
 unfolding wheels iter
-returns c = let e : c.before.loop.k ≡ 8 = omega arith in rw e at c.before.loop.invariant.1
+returns c = let e : c.before.loop-k.k ≡ 8 = omega arith in rw e at c.before.loop-k.invariant.1
 
 pub wheels_of_spec : {M : Type 1} → statement M
 wheels_of_spec =

@@ -4,7 +4,7 @@ use Rattle.problem_text.proofs.head_end.Statement.{statement}
 use Rattle.problem_text.proofs.head_end.Tie as tie
 
 returns : tie.Need-returns
-returns c = rw c.head_at.ensures
+returns c = rw c.head_at-c.ensures
 
 pub head_end_spec : {M : Type 1} → statement M
 head_end_spec = tie.close (tie.spec (search rules) returns)

@@ -5,21 +5,21 @@ use borrow.Author.Rules.{rules}
 use Rattle.problem_text.proofs.judge_count.Statement.{statement}
 use Rattle.problem_text.proofs.judge_count.Tie as tie
 
-returns : tie.Need-returns
+returns : tie.Need-returns-in-Refused
 unfolding judge_count
-returns c = simp c.enum_told.given.1
+returns c = simp c.enum_told-1.given.1
 
-returns_2 : tie.Need-returns-2
+returns_2 : tie.Need-returns-then-row-actuators
 unfolding judge_count
 returns_2 c =
-    let enum-told2 = c.before.before.before.before.before.before.enum-told2 in
-    simp (enum-told2.given.1, eq-eqb _ _ c.if1.true)
+    let enum-told2 = c.before.before.before.before.before.before.enum_told-in-Going-1 in
+    simp (enum-told2.given.1, eq-eqb _ _ c.if-row-actuators.true)
 
-returns_3 : tie.Need-returns-3
+returns_3 : tie.Need-returns-else-row-actuators
 unfolding judge_count
 returns_3 c =
-    let enum-told2 = c.before.before.before.before.before.before.before.enum-told2 in
-    simp (enum-told2.given.1, ne_eqb _ _ c.before.if1.false) c.nothing.ensures
+    let enum-told2 = c.before.before.before.before.before.before.before.enum_told-in-Going-1 in
+    simp (enum-told2.given.1, ne_eqb _ _ c.before.if-row-actuators.false) c.nothing.ensures
 
 pub judge_count_spec : {M : Type 1} → statement M
 judge_count_spec = tie.close (tie.spec (search rules) (search rules) (search rules) (search rules) returns returns_2 returns_3)

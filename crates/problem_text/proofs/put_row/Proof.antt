@@ -6,7 +6,7 @@ use borrow.Author.Rules.{rules}
 use Rattle.problem_text.proofs.put_row.Statement.{statement}
 use Rattle.problem_text.proofs.put_row.Tie as tie
 
-returns : tie.Need-returns
+returns : tie.Need-returns-then-k-ge9
 returns c = sym (set_out _ _ _ (omega arith))
 
 pub put_row_spec : {M : Type 1} → statement M

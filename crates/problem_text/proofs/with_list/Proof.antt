@@ -4,21 +4,21 @@ use borrow.Author.Rules.{rules}
 use Rattle.problem_text.proofs.with_list.Statement.{statement}
 use Rattle.problem_text.proofs.with_list.Tie as tie
 
-returns : tie.Need-returns
+returns : tie.Need-returns-then-list
 unfolding with_list
-returns c = simp c.before.if1.true c.nothing.ensures
+returns c = simp c.before.if-list.true c.nothing.ensures
 
-returns_2 : tie.Need-returns-2
+returns_2 : tie.Need-returns-in-Refused
 unfolding with_list
 returns_2 c =
-    let if1 = c.before.before.before.before.if1 in
-    simp (if1.false, c.before.before.fate.given.1) c.nothing2.ensures
+    let if1 = c.before.before.before.before.if-list in
+    simp (if1.false, c.before.before.fate-1.given.1) c.nothing-in-Refused.ensures
 
-returns_3 : tie.Need-returns-3
+returns_3 : tie.Need-returns-in-Going
 unfolding with_list
 returns_3 c =
-    let if1 = c.before.before.before.before.if1 in
-    simp (if1.false, c.before.before.enum_told.given.1)
+    let if1 = c.before.before.before.before.if-list in
+    simp (if1.false, c.before.before.enum_told-1.given.1)
 
 pub with_list_spec : {M : Type 1} → statement M
 with_list_spec = tie.close (tie.spec (search rules) returns (search rules) (search rules) (search rules) returns_2 returns_3)

@@ -4,15 +4,15 @@ use lib.Ieee.{of_bits}
 use Rattle.profile.proofs.alpha_from_box.Statement.{statement}
 use Rattle.profile.proofs.alpha_from_box.Tie as tie
 
-float-from-bits-box-turn : tie.Need-float-from-bits-box-turn
+float-from-bits-box-turn : tie.Need-float_from_bits-box_turn
 unfolding lib.Ieee.nan_bits
 float-from-bits-box-turn c = search rules
 
 returns : tie.Need-returns
 unfolding of_bits
 returns c =
-    let apply-tensor = c.before.before.before.before.apply-tensor in
-    rw (c.acceleration-of.ensures, c.before.box-turn3.ensures, c.before.before.box-turn2.ensures, c.before.before.before.box-turn.ensures, apply-tensor.ensures)
+    let apply-tensor = c.before.before.before.before.apply_tensor-jn in
+    rw (c.acceleration_of.ensures, c.before.box_turn.ensures, c.before.before.box_turn-b.ensures, c.before.before.before.box_turn-a.ensures, apply-tensor.ensures)
 
 pub alpha_from_box_spec : {M : Type 1} → statement M
 alpha_from_box_spec =

@@ -5,20 +5,20 @@ use Rattle.profile.specs.Profiles.{bang_coast_bang, with_relative}
 use Rattle.profile.proofs.bang_coast_bang.Statement.{statement}
 use Rattle.profile.proofs.bang_coast_bang.Tie as tie
 
-returns : tie.Need-returns
+returns : tie.Need-returns-then-n
 unfolding bang_coast_bang with_relative of_bits
-returns c = rw (c.refused.ensures, ← c.before.before.before.relative.ensures, ← c.before.before.norm3.ensures, c.before.if1.true)
+returns c = rw (c.refused.ensures, ← c.before.before.before.relative-rel.ensures, ← c.before.before.norm3-n.ensures, c.before.if-n.true)
 
-returns_2 : tie.Need-returns-2
+returns_2 : tie.Need-returns-then-abs-tie
 unfolding bang_coast_bang with_relative of_bits neg
 returns_2 c =
     let after-clamp = c.before.before.before in
     let branch1 = after-clamp.before in
     let after-norm3 = branch1.before in
     let after-relative = after-norm3.before in
-    rw (c.refused2.ensures, ← after-relative.relative.ensures, ← after-norm3.norm3.ensures, branch1.if1.false, ← after-clamp.clamp.ensures, ← c.before.before.abs.ensures, c.before.if2.true)
+    rw (c.refused-then-abs-tie.ensures, ← after-relative.relative-rel.ensures, ← after-norm3.norm3-n.ensures, branch1.if-n.false, ← after-clamp.clamp-dotted.ensures, ← c.before.before.abs.ensures, c.before.if-abs-tie.true)
 
-returns_3 : tie.Need-returns-3
+returns_3 : tie.Need-returns
 unfolding bang_coast_bang with_relative of_bits neg
 returns_3 c =
     let branch2 = c.before.before.before.before.before in
@@ -27,7 +27,7 @@ returns_3 c =
     let branch1 = after-clamp.before in
     let after-norm3 = branch1.before in
     let after-relative = after-norm3.before in
-    rw (c.with-half.ensures, c.before.acos.ensures, ← after-relative.relative.ensures, ← after-norm3.norm3.ensures, branch1.if1.false, ← after-clamp.clamp.ensures, ← after-abs.abs.ensures, branch2.if2.false)
+    rw (c.with_half.ensures, c.before.acos.ensures, ← after-relative.relative-rel.ensures, ← after-norm3.norm3-n.ensures, branch1.if-n.false, ← after-clamp.clamp-dotted.ensures, ← after-abs.abs.ensures, branch2.if-abs-tie.false)
 
 pub bang_coast_bang_spec : {M : Type 1} → statement M
 bang_coast_bang_spec =

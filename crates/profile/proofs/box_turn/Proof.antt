@@ -5,13 +5,13 @@ use Rattle.profile.specs.Profiles.{box_turn}
 use Rattle.profile.proofs.box_turn.Statement.{statement}
 use Rattle.profile.proofs.box_turn.Tie as tie
 
-returns : tie.Need-returns
+returns : tie.Need-returns-then-size
 unfolding box_turn of_bits
-returns c = rw (← c.before.abs.ensures, c.if1.true)
+returns c = rw (← c.before.abs-size.ensures, c.if-size.true)
 
-returns_2 : tie.Need-returns-2
+returns_2 : tie.Need-returns-else-size
 unfolding box_turn of_bits
-returns_2 c = rw (← c.before.before.abs.ensures, c.before.if1.false, c.min.ensures)
+returns_2 c = rw (← c.before.before.abs-size.ensures, c.before.if-size.false, c.min.ensures)
 
 pub box_turn_spec : {M : Type 1} → statement M
 box_turn_spec = tie.close (tie.spec (λ c κs. search rules) (λ c κs. search rules) returns returns_2)

@@ -11,39 +11,39 @@ use Rattle.profile.proofs.Nodes.{next_node, all_nodes}
 use Rattle.profile.proofs.sample_seed.Statement.{statement}
 use Rattle.profile.proofs.sample_seed.Tie as tie
 
-abbrev invariant_loop : tie.invariant_loop
+abbrev invariant_loop : tie.invariant-loop-i
 invariant_loop p duration rates₀ torques₀ i₀ rates torques i =
     (i ≤ 17)
     × ((length rates ≡ 51) × (length torques ≡ 51))
     × (duration ≡ p.duration)
     × ((take (3 * i) rates ≡ rates_to p i) × (take (3 * i) torques ≡ torques_to p i))
 
-abbrev decreases_loop : tie.decreases_loop
+abbrev decreases_loop : tie.decreases-loop-i
 decreases_loop p duration rates₀ torques₀ i₀ rates torques i = 17 - i
 
-loop-holds : tie.Need-loop-init invariant_loop decreases_loop
+loop-holds : tie.Need-loop-i-init invariant_loop decreases_loop
 unfolding rates_to torques_to
 loop-holds c = (search rules, (search rules, search rules), search rules, (iter_none _ _, iter_none _ _))
 
-loop-again : tie.Need-loop-preserved invariant_loop decreases_loop
+loop-again : tie.Need-loop-i-preserved invariant_loop decreases_loop
 unfolding rates_to torques_to
 loop-again c =
     let turned = c.before.before in
     let timed = turned.before.before in
-    let l = timed.before.before.loop in
+    let l = timed.before.before.loop-i in
     let p = timed.before.before.before.args.p in (
       search rules,
       (search rules, search rules),
       search rules,
       (
-        next_node (λ k. omega_vec p (node_time p.duration k)) _ _ _ l.invariant.3.0 (rw (turned.with-node.ensures, turned.before.omega-vec.ensures, timed.node-time.ensures, l.invariant.2)),
-        next_node (λ k. torque_vec p (node_time p.duration k)) _ _ _ l.invariant.3.1 (rw (c.with-node2.ensures, c.before.torque-vec.ensures, timed.node-time.ensures, l.invariant.2)),
+        next_node (λ k. omega_vec p (node_time p.duration k)) _ _ _ l.invariant.3.0 (rw (turned.with_node-next_rates.ensures, turned.before.omega_vec.ensures, timed.node_time-t.ensures, l.invariant.2)),
+        next_node (λ k. torque_vec p (node_time p.duration k)) _ _ _ l.invariant.3.1 (rw (c.with_node-next_torques.ensures, c.before.torque_vec.ensures, timed.node_time-t.ensures, l.invariant.2)),
       ),
     )
 
 returns : tie.Need-returns invariant_loop decreases_loop
 returns c =
-    let l = c.before.loop in
+    let l = c.before.loop-i in
     let e : l.i ≡ 17 = omega arith in
     let r = rw e at (all_nodes _ _ l.i (omega arith) l.invariant.3.0) in
     let t = rw e at (all_nodes _ _ l.i (omega arith) l.invariant.3.1) in

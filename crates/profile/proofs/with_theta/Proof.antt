@@ -5,13 +5,13 @@ use Rattle.geom.specs.Tests.{met, unmet}
 use Rattle.profile.proofs.with_theta.Statement.{statement}
 use Rattle.profile.proofs.with_theta.Tie as tie
 
-returns : tie.Need-returns
+returns : tie.Need-returns-then-not-is_positive
 unfolding with_theta
-returns c = rw (c.refused.ensures, unmet c.before.before.is_positive.ensures c.before.if1.true)
+returns c = rw (c.refused.ensures, unmet c.before.before.is_positive.ensures c.before.if-not-is_positive.true)
 
-returns_2 : tie.Need-returns-2
+returns_2 : tie.Need-returns
 unfolding with_theta
-returns_2 c = rw (c.with-alpha.ensures, c.before.alpha-from-box.ensures, met c.before.before.before.is_positive.ensures c.before.before.if1.false)
+returns_2 c = rw (c.with_alpha.ensures, c.before.alpha_from_box.ensures, met c.before.before.before.is_positive.ensures c.before.before.if-not-is_positive.false)
 
 pub with_theta_spec : {M : Type 1} → statement M
 with_theta_spec = tie.close (tie.spec (λ c κs. search rules) (λ c κs. search rules) returns (λ c κs. search rules) (λ c κs. search rules) returns_2)

@@ -18,27 +18,27 @@ test {a} {b} h k e = not_lt_z a b ∙ ap not (rw (to_z-of_z h, to_z-of_z k) at e
 both : {a b : Bool} → a ≡ true → b ≡ true → (a && b) ≡ true
 both p q = rw (p, q)
 
-returns : tie.Need-returns
-returns c = let f = c.before.ranges in rw (test f.z f.low c.if1.true)
+returns : tie.Need-returns-then-z-low
+returns c = let f = c.before.ranges in rw (test f.z f.low c.if-z-low.true)
 
-returns_2 : tie.Need-returns-2
+returns_2 : tie.Need-returns-then-high-z
 returns_2 c = let a = c.before.before.args in
-    let f = c.before.before.ranges in rw (test f.high f.z c.if2.true) (rw (and-false (le_z a.low a.z)))
+    let f = c.before.before.ranges in rw (test f.high f.z c.if-high-z.true) (rw (and-false (le_z a.low a.z)))
 
-sub-result : tie.Need-overflow-sub-result
+sub-result : tie.Need-overflow_sub-result
 sub-result c = let s = c.before.before in
-    let f = s.ranges in rw (to_z-of_z f.z, to_z-of_z f.low) (s.requires (both (test f.z f.low c.before.if1.false) (test f.high f.z c.if2.false))).0
+    let f = s.ranges in rw (to_z-of_z f.z, to_z-of_z f.low) (s.requires (both (test f.z f.low c.before.if-z-low.false) (test f.high f.z c.if-high-z.false))).0
 
-cast-result : tie.Need-overflow-cast-result
+cast-result : tie.Need-overflow_cast-result
 cast-result c = let s = c.before.before in
     let f = s.ranges in
-    let p = s.requires (both (test f.z f.low c.before.if1.false) (test f.high f.z c.if2.false)) in
+    let p = s.requires (both (test f.z f.low c.before.if-z-low.false) (test f.high f.z c.if-high-z.false)) in
     rw (to_z-of_z f.z, to_z-of_z f.low, to_z-of_z p.0) (p.1, record { fits = omega (arith, nat_abs-le (s.args.z -ℤ s.args.low) p.0.sfits) })
 
-returns_3 : tie.Need-returns-3
+returns_3 : tie.Need-returns
 returns_3 c = let s = c.before.before in
     let f = s.ranges in
-    let w = both (test f.z f.low c.before.if1.false) (test f.high f.z c.if2.false) in
+    let w = both (test f.z f.low c.before.if-z-low.false) (test f.high f.z c.if-high-z.false) in
     rw (to_z-of_z f.z, to_z-of_z f.low, to_z-of_z (s.requires w).0) (rw w)
 
 pub counted_spec : {M : Type 1} → statement M

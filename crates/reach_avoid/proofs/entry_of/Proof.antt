@@ -7,32 +7,32 @@ use mir.Facts.{to_z-of_z}
 use Rattle.reach_avoid.proofs.entry_of.Statement.{statement}
 use Rattle.reach_avoid.proofs.entry_of.Tie as tie
 
-returns : tie.Need-returns
+returns : tie.Need-returns-then-x-eq255
 returns c = let s = c.before.before.before in
-    let x : Counted 64 s.args.angle _ = counted_word 64 (omega arith) s.ranges.angle c.before.before.counted.ensures in
-    start_out _ (inl (x.outer c.if1.true))
+    let x : Counted 64 s.args.angle _ = counted_word 64 (omega arith) s.ranges.angle c.before.before.counted-x.ensures in
+    start_out _ (inl (x.outer c.if-x-eq255.true))
 
-returns_2 : tie.Need-returns-2
+returns_2 : tie.Need-returns-then-y-eq255
 returns_2 c = let s = c.before.before.before.before in
-    let y : Counted 8 s.args.rate _ = counted_word 8 (omega arith) s.ranges.rate c.before.before.counted2.ensures in
-    start_out _ (inr (y.outer c.if2.true))
+    let y : Counted 8 s.args.rate _ = counted_word 8 (omega arith) s.ranges.rate c.before.before.counted-y.ensures in
+    start_out _ (inr (y.outer c.if-y-eq255.true))
 
-mul-result : tie.Need-overflow-mul-result
+mul-result : tie.Need-overflow_mul-result
 mul-result c = let s = c.before.before.before.before in
-    let x : Counted 64 s.args.angle _ = counted_word 64 (omega arith) s.ranges.angle c.before.before.before.counted.ensures in
-    record { fits = omega (arith, (x.inner c.before.if1.false).2) }
+    let x : Counted 64 s.args.angle _ = counted_word 64 (omega arith) s.ranges.angle c.before.before.before.counted-x.ensures in
+    record { fits = omega (arith, (x.inner c.before.if-x-eq255.false).2) }
 
-add-result : tie.Need-overflow-add-result
+add-result : tie.Need-overflow_add-result
 add-result c = let s = c.before.before.before.before in
-    let x : Counted 64 s.args.angle _ = counted_word 64 (omega arith) s.ranges.angle c.before.before.before.counted.ensures in
-    let y : Counted 8 s.args.rate _ = counted_word 8 (omega arith) s.ranges.rate c.before.before.counted2.ensures in
-    record { fits = omega (arith, (x.inner c.before.if1.false).2, (y.inner c.if2.false).2) }
+    let x : Counted 64 s.args.angle _ = counted_word 64 (omega arith) s.ranges.angle c.before.before.before.counted-x.ensures in
+    let y : Counted 8 s.args.rate _ = counted_word 8 (omega arith) s.ranges.rate c.before.before.counted-y.ensures in
+    record { fits = omega (arith, (x.inner c.before.if-x-eq255.false).2, (y.inner c.if-y-eq255.false).2) }
 
-returns_3 : tie.Need-returns-3
+returns_3 : tie.Need-returns
 returns_3 c = let s = c.before.before.before.before in
-    let x : Counted 64 s.args.angle _ = counted_word 64 (omega arith) s.ranges.angle c.before.before.before.counted.ensures in
-    let y : Counted 8 s.args.rate _ = counted_word 8 (omega arith) s.ranges.rate c.before.before.counted2.ensures in
-    start_of _ x y c.before.if1.false c.if2.false
+    let x : Counted 64 s.args.angle _ = counted_word 64 (omega arith) s.ranges.angle c.before.before.before.counted-x.ensures in
+    let y : Counted 8 s.args.rate _ = counted_word 8 (omega arith) s.ranges.rate c.before.before.counted-y.ensures in
+    start_of _ x y c.before.if-x-eq255.false c.if-y-eq255.false
 
 pub entry_of_spec : {M : Type 1} → statement M
 entry_of_spec =

@@ -8,20 +8,20 @@ use borrow.Author.Rules.{rules}
 use Rattle.reach_avoid.proofs.fill.Statement.{statement}
 use Rattle.reach_avoid.proofs.fill.Tie as tie
 
-abbrev invariant_loop : tie.invariant_loop
+abbrev invariant_loop : tie.invariant-loop-m
 invariant_loop t₀ m₀ t m = (m ≤ 64) × Holds m t
 
-abbrev decreases_loop : tie.decreases_loop
+abbrev decreases_loop : tie.decreases-loop-m
 decreases_loop t₀ m₀ t m = 64 - m
 
 sweep-requires : tie.Need-sweep-requires invariant_loop decreases_loop
-sweep-requires c κs = (omega arith, c.before.before.loop.invariant.1)
+sweep-requires c κs = (omega arith, c.before.before.loop-m.invariant.1)
 
-loop-again : tie.Need-loop-preserved invariant_loop decreases_loop
-loop-again c = (omega arith, subst (λ m. Holds m c.sweep.new.0) (sym (add-one c.before.before.before.loop.m)) c.sweep.ensures)
+loop-again : tie.Need-loop-m-preserved invariant_loop decreases_loop
+loop-again c = (omega arith, subst (λ m. Holds m c.sweep.new.0) (sym (add-one c.before.before.before.loop-m.m)) c.sweep.ensures)
 
 returns : tie.Need-returns invariant_loop decreases_loop
-returns c = let l = c.before.loop in
+returns c = let l = c.before.loop-m in
     let e : l.m ≡ 64 = omega arith in
     rw e at l.invariant.1
 
@@ -32,7 +32,7 @@ fill_spec =
     invariant_loop
     decreases_loop
     (λ c κs. search rules)
-    (λ c. (omega arith, c.begin.ensures))
+    (λ c. (omega arith, c.begin-t.ensures))
     sweep-requires
     (λ c. omega arith)
     (λ c. omega arith)

@@ -5,7 +5,7 @@ use borrow.Author.Rules.{rules}
 use Rattle.reach_avoid.proofs.less.Statement.{statement}
 use Rattle.reach_avoid.proofs.less.Tie as tie
 
-sub-result : tie.Need-overflow-sub-result
+sub-result : tie.Need-overflow_sub-result
 sub-result c = rw (small c.args.j c.requires.0, to_z-of_z c.ranges.m) c.requires.1
 
 returns : tie.Need-returns

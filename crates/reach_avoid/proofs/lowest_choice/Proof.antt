@@ -11,24 +11,24 @@ use borrow.Author.Tests.{eq-eqb, ne_eqb}
 use Rattle.reach_avoid.proofs.lowest_choice.Statement.{statement}
 use Rattle.reach_avoid.proofs.lowest_choice.Tie as tie
 
-abbrev invariant_loop : tie.invariant_loop
+abbrev invariant_loop : tie.invariant-loop-i
 invariant_loop t x y n i₀ i = (i ≤ 5) × ((k : ℕ) → k < i → sure t n (spot x y) k ≡ false)
 
-abbrev decreases_loop : tie.decreases_loop
+abbrev decreases_loop : tie.decreases-loop-i
 decreases_loop t x y n i₀ i = 5 - i
 
-returns : tie.Need-returns invariant_loop decreases_loop
+returns : tie.Need-returns-then-j-eq3 invariant_loop decreases_loop
 returns c = let a = c.before.before.before.before.args in
-    let l = c.before.before.before.loop in
-    least_found (sure a.t.now a.n (spot a.x a.y)) 5 l.i (omega arith) l.invariant.1 (eq-eqb _ 3 (sym c.before.lowest-reply.ensures ∙ c.if1.true))
+    let l = c.before.before.before.loop-i in
+    least_found (sure a.t.now a.n (spot a.x a.y)) 5 l.i (omega arith) l.invariant.1 (eq-eqb _ 3 (sym c.before.lowest_reply-j.ensures ∙ c.if-j-eq3.true))
 
-loop-again : tie.Need-loop-preserved invariant_loop decreases_loop
-loop-again c = let l = c.before.before.before.loop in
-    (omega arith, below_more _ l.i l.invariant.1 (ne_eqb _ 3 (λ e. c.if1.false (c.before.lowest-reply.ensures ∙ e))))
+loop-again : tie.Need-loop-i-preserved invariant_loop decreases_loop
+loop-again c = let l = c.before.before.before.loop-i in
+    (omega arith, below_more _ l.i l.invariant.1 (ne_eqb _ 3 (λ e. c.if-j-eq3.false (c.before.lowest_reply-j.ensures ∙ e))))
 
-returns_2 : tie.Need-returns-2 invariant_loop decreases_loop
+returns_2 : tie.Need-returns invariant_loop decreases_loop
 returns_2 c = let a = c.before.before.args in
-    let l = c.before.loop in least_end (sure a.t.now a.n (spot a.x a.y)) 5 l.i (omega arith) l.invariant.1
+    let l = c.before.loop-i in least_end (sure a.t.now a.n (spot a.x a.y)) 5 l.i (omega arith) l.invariant.1
 
 pub lowest_choice_spec : {M : Type 1} → statement M
 lowest_choice_spec =

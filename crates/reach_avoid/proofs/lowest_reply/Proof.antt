@@ -11,29 +11,29 @@ use borrow.Author.Tests.{lt-ltb, le-ltb}
 use Rattle.reach_avoid.proofs.lowest_reply.Statement.{statement}
 use Rattle.reach_avoid.proofs.lowest_reply.Tie as tie
 
-abbrev invariant_loop : tie.invariant_loop
+abbrev invariant_loop : tie.invariant-loop-j
 invariant_loop t x y i n j₀ j = (j ≤ 3) × ((k : ℕ) → k < j → serves t n (spot x y) i k ≡ false)
 
-abbrev decreases_loop : tie.decreases_loop
+abbrev decreases_loop : tie.decreases-loop-j
 decreases_loop t x y i n j₀ j = 3 - j
 
-returns : tie.Need-returns invariant_loop decreases_loop
+returns : tie.Need-returns-then-n-e invariant_loop decreases_loop
 returns c = let a = c.before.before.before.before.args in
-    let l = c.before.before.before.loop in
+    let l = c.before.before.before.loop-j in
     least_found (serves a.t.now a.n (spot a.x a.y) a.i) 3 l.j (omega arith) l.invariant.1
-    (serves_by a.t.now a.n (spot a.x a.y) a.i l.j (omega arith) c.before.after.ensures ∙ ap not (le-ltb c.before.after.result a.n (omega (arith, c.if1.true))))
+    (serves_by a.t.now a.n (spot a.x a.y) a.i l.j (omega arith) c.before.after-e.ensures ∙ ap not (le-ltb c.before.after-e.result a.n (omega (arith, c.if-n-e.true))))
 
-loop-again : tie.Need-loop-preserved invariant_loop decreases_loop
+loop-again : tie.Need-loop-j-preserved invariant_loop decreases_loop
 loop-again c = let a = c.before.before.before.before.args in
-    let l = c.before.before.before.loop in (
+    let l = c.before.before.before.loop-j in (
       omega arith,
       below_more _ l.j l.invariant.1
-          (serves_by a.t.now a.n (spot a.x a.y) a.i l.j (omega arith) c.before.after.ensures ∙ ap not (lt-ltb c.before.after.result a.n (omega (arith, c.if1.false)))),
+          (serves_by a.t.now a.n (spot a.x a.y) a.i l.j (omega arith) c.before.after-e.ensures ∙ ap not (lt-ltb c.before.after-e.result a.n (omega (arith, c.if-n-e.false)))),
     )
 
-returns_2 : tie.Need-returns-2 invariant_loop decreases_loop
+returns_2 : tie.Need-returns invariant_loop decreases_loop
 returns_2 c = let a = c.before.before.args in
-    let l = c.before.loop in least_end (serves a.t.now a.n (spot a.x a.y) a.i) 3 l.j (omega arith) l.invariant.1
+    let l = c.before.loop-j in least_end (serves a.t.now a.n (spot a.x a.y) a.i) 3 l.j (omega arith) l.invariant.1
 
 pub lowest_reply_spec : {M : Type 1} → statement M
 lowest_reply_spec =

@@ -10,19 +10,19 @@ use borrow.Author.Rules.{rules}
 use Rattle.reach_avoid.proofs.outcome.Statement.{statement}
 use Rattle.reach_avoid.proofs.outcome.Tie as tie
 
-returns : tie.Need-returns
+returns : tie.Need-returns-then-k-eq2193
 returns c = let s = c.before.before in
-    let e = rw (to_z-of_z s.ranges.angle, to_z-of_z s.ranges.rate) at c.before.entry_of_law.ensures in tells _ (outcome_out _ (e.outside c.if1.true))
+    let e = rw (to_z-of_z s.ranges.angle, to_z-of_z s.ranges.rate) at c.before.entry_of_law.ensures in tells _ (outcome_out _ (e.outside c.if-k-eq2193.true))
 
 tell-requires : tie.Need-tell-requires
-tell-requires c κs = ((c.before.before.before.entry_of_law.ensures.entry c.before.before.if1.false).0, c.before.fill.ensures)
+tell-requires c κs = ((c.before.before.before.entry_of_law.ensures.entry c.before.before.if-k-eq2193.false).0, c.before.fill-t.ensures)
 
-returns_2 : tie.Need-returns-2
+returns_2 : tie.Need-returns
 returns_2 c = let s = c.before.before.before.before.before in
     let k = c.before.before.before.before.entry_of_law in
     let st : State = record { angle = s.args.angle; rate = s.args.rate } in
     let e : Start st k.result = rw (to_z-of_z s.ranges.angle, to_z-of_z s.ranges.rate) at k.ensures in
-    let p = e.entry c.before.before.before.if1.false in
+    let p = e.entry c.before.before.before.if-k-eq2193.false in
     tells st (c.tell.ensures ∙ ap (λ x. telling (fewest room 255 64 x) x) (sym p.2) ∙ outcome_in st p.1)
 
 pub outcome_spec : {M : Type 1} → statement M

@@ -14,34 +14,34 @@ use borrow.Author.Rules.{rules}
 use Rattle.reach_avoid.proofs.tell.Statement.{statement}
 use Rattle.reach_avoid.proofs.tell.Tie as tie
 
-returns : tie.Need-returns
+returns : tie.Need-returns-then-n-eq0
 returns c = let s = c.before.before in
-    let k = s.args.k in tell_home (state_at k) (s.requires.1.entry k s.requires.0) c.if1.true
+    let k = s.args.k in tell_home (state_at k) (s.requires.1.entry k s.requires.0) c.if-n-eq0.true
 
-returns_2 : tie.Need-returns-2
+returns_2 : tie.Need-returns-then-n
 returns_2 c = let s = c.before.before.before in
-    let k = s.args.k in tell_held (state_at k) (s.requires.1.entry k s.requires.0) c.if2.true
+    let k = s.args.k in tell_held (state_at k) (s.requires.1.entry k s.requires.0) c.if-n.true
 
-cast-t9 : tie.Need-overflow-cast-t9
+cast-t9 : tie.Need-overflow_cast-result
 cast-t9 c = let s = c.before.before.before.before in
-    let k = s.args.k in record { fits = omega (arith, turns_few (state_at k) (s.requires.1.entry k s.requires.0) c.before.if2.false) }
+    let k = s.args.k in record { fits = omega (arith, turns_few (state_at k) (s.requires.1.entry k s.requires.0) c.before.if-n.false) }
 
 less-requires : tie.Need-less-requires
 less-requires c κs = let a = c.before.before.before.before.args in
-    let i = c.lowest-choice in
+    let i = c.lowest_choice-i in
     let l : i.result ≤ 5 = least_within (sure a.t.now (get_or a.t.now a.k 0) (state_at a.k)) 5 i.ensures in
     (l, sub-fits i.result 2 l (omega arith))
 
-returns_3 : tie.Need-returns-3
+returns_3 : tie.Need-returns
 returns_3 c = let s = c.before.before.before.before.before in
     let a = s.args in
     let st : State = state_at a.k in
     let n : ℕ = get_or a.t.now a.k 0 in
     let q : n ≡ fewest room 255 64 st = s.requires.1.entry a.k s.requires.0 in
-    let zero : n ≡ 0 → ⊥ = c.before.before.before.if1.false in
-    let some : n ≡ 255 → ⊥ = c.before.before.if2.false in
+    let zero : n ≡ 0 → ⊥ = c.before.before.before.if-n-eq0.false in
+    let some : n ≡ 255 → ⊥ = c.before.before.if-n.false in
     let few : n ≤ 64 = turns_few st q some in
-    let i = c.before.lowest-choice in
+    let i = c.before.lowest_choice-i in
     rw (sub_back i.result 2 (least_within (sure a.t.now n st) 5 i.ensures) (omega arith) c.less.ensures)
     (tell_forced st q zero some (i.ensures ∙ held_choice a.t.now s.requires.1 n (omega arith) few st))
 

@@ -4,17 +4,17 @@ use Rattle.reference_checks.proofs.check_attitude.Tie as tie
 use lib.Ieee as Ieee
 use Rattle.reference_checks.specs.Checks as Checks
 
-returns : tie.Need-returns
+returns : tie.Need-returns-in-Outside
 unfolding Checks.check_attitude Ieee.of_bits
-returns c = rw (← c.before.before.rotation-vector.ensures, c.enum_told.given.1)
+returns c = rw (← c.before.before.rotation_vector-left.ensures, c.enum_told-1.given.1)
 
-returns_2 : tie.Need-returns-2
+returns_2 : tie.Need-returns-then-norm3
 unfolding Checks.check_attitude Ieee.of_bits
-returns_2 c = rw (← c.before.before.before.before.before.rotation-vector.ensures, c.before.before.before.left.given.1, ← c.before.norm3.ensures, c.if1.true)
+returns_2 c = rw (← c.before.before.before.before.before.rotation_vector-left.ensures, c.before.before.before.left-1.given.1, ← c.before.norm3.ensures, c.if-norm3.true)
 
-returns_3 : tie.Need-returns-3
+returns_3 : tie.Need-returns-else-norm3
 unfolding Checks.check_attitude Ieee.of_bits
-returns_3 c = rw (← c.before.before.before.before.before.rotation-vector.ensures, c.before.before.before.left.given.1, ← c.before.norm3.ensures, c.if1.false)
+returns_3 c = rw (← c.before.before.before.before.before.rotation_vector-left.ensures, c.before.before.before.left-1.given.1, ← c.before.norm3.ensures, c.if-norm3.false)
 
 pub check_attitude_spec : {M : Type 1} → statement M
 check_attitude_spec =

@@ -4,13 +4,13 @@ use Rattle.reference_checks.proofs.check_end.Tie as tie
 use Rattle.reference_checks.specs.Checks as Checks
 use Rattle.geom.specs.Tests.{met, unmet}
 
-returns : tie.Need-returns
+returns : tie.Need-returns-then-not-at_rest
 unfolding Checks.check_end
-returns c = rw (← c.before.before.before.before.sample-of.ensures, unmet c.before.at_rest.ensures c.if1.true)
+returns c = rw (← c.before.before.before.before.sample_of-last.ensures, unmet c.before.at_rest.ensures c.if-not-at_rest.true)
 
-returns_2 : tie.Need-returns-2
+returns_2 : tie.Need-returns
 unfolding Checks.check_end
-returns_2 c = rw (← c.before.before.before.before.before.sample-of.ensures, met c.before.before.at_rest.ensures c.before.if1.false) c.check-attitude.ensures
+returns_2 c = rw (← c.before.before.before.before.before.sample_of-last.ensures, met c.before.before.at_rest.ensures c.before.if-not-at_rest.false) c.check_attitude.ensures
 
 pub check_end_spec : {M : Type 1} → statement M
 check_end_spec =

@@ -4,13 +4,13 @@ use Rattle.reference_checks.proofs.check_limits.Tie as tie
 use Rattle.reference_checks.specs.Checks as Checks
 use Rattle.geom.specs.Tests.{met, unmet}
 
-returns : tie.Need-returns
+returns : tie.Need-returns-then-not-rate_fits
 unfolding Checks.check_limits
-returns c = rw (unmet c.before.rate_fits_law.ensures c.if1.true)
+returns c = rw (unmet c.before.rate_fits_law.ensures c.if-not-rate_fits.true)
 
-returns_2 : tie.Need-returns-2
+returns_2 : tie.Need-returns
 unfolding Checks.check_limits
-returns_2 c = rw (met c.before.before.rate_fits_law.ensures c.before.if1.false) c.check-wheels.ensures
+returns_2 c = rw (met c.before.before.rate_fits_law.ensures c.before.if-not-rate_fits.false) c.check_wheels.ensures
 
 pub check_limits_spec : {M : Type 1} → statement M
 check_limits_spec =

@@ -4,17 +4,17 @@ use Rattle.reference_checks.proofs.check_momenta.Tie as tie
 use Rattle.reference_checks.specs.Checks as Checks
 use Rattle.geom.specs.Tests.{met, unmet}
 
-returns : tie.Need-returns
+returns : tie.Need-returns-then-not-within
 unfolding Checks.check_momenta
-returns c = rw (unmet c.before.within.ensures c.if1.true)
+returns c = rw (unmet c.before.within.ensures c.if-not-within.true)
 
-returns_2 : tie.Need-returns-2
+returns_2 : tie.Need-returns-then-not-is_balanced
 unfolding Checks.check_momenta
-returns_2 c = rw (met c.before.before.before.within.ensures c.before.before.if1.false, unmet c.before.is-balanced.ensures c.if2.true)
+returns_2 c = rw (met c.before.before.before.within.ensures c.before.before.if-not-within.false, unmet c.before.is_balanced.ensures c.if-not-is_balanced.true)
 
-returns_3 : tie.Need-returns-3
+returns_3 : tie.Need-returns
 unfolding Checks.check_momenta
-returns_3 c = rw (met c.before.before.before.within.ensures c.before.before.if1.false, met c.before.is-balanced.ensures c.if2.false)
+returns_3 c = rw (met c.before.before.before.within.ensures c.before.before.if-not-within.false, met c.before.is_balanced.ensures c.if-not-is_balanced.false)
 
 pub check_momenta_spec : {M : Type 1} → statement M
 check_momenta_spec =

@@ -4,11 +4,11 @@ use Rattle.reference_checks.proofs.check_rest.Tie as tie
 use native.Mathlib.Omega.{arith}
 use Rattle.reference_checks.specs.StepLaws.{rest_refused, rest_goes}
 
-returns : tie.Need-returns
-returns c = record { is = rest_refused _ _ c.before.before.before.check-steps.ensures.is c.before.fate.given.1; few = omega (arith, c.before.before.before.check-steps.ensures.few) }
+returns : tie.Need-returns-in-Refused
+returns c = record { is = rest_refused _ _ c.before.before.before.check_steps-verdict.ensures.is c.before.fate-1.given.1; few = omega (arith, c.before.before.before.check_steps-verdict.ensures.few) }
 
-returns_2 : tie.Need-returns-2
-returns_2 c = record { is = rest_goes _ _ c.before.before.before.check-steps.ensures.is c.before.enum_told.given.1 c.check-end.ensures; few = omega (arith, c.before.before.before.check-steps.ensures.few) }
+returns_2 : tie.Need-returns-in-Going
+returns_2 c = record { is = rest_goes _ _ c.before.before.before.check_steps-verdict.ensures.is c.before.enum_told-1.given.1 c.check_end-end.ensures; few = omega (arith, c.before.before.before.check_steps-verdict.ensures.few) }
 
 pub check_rest_spec : {M : Type 1} → statement M
 check_rest_spec =

@@ -4,21 +4,21 @@ use Rattle.reference_checks.proofs.check_start.Tie as tie
 use Rattle.reference_checks.specs.Checks as Checks
 use Rattle.geom.specs.Tests.{met, unmet}
 
-returns : tie.Need-returns
+returns : tie.Need-returns-then-not-at_rest
 unfolding Checks.check_start
-returns c = rw (unmet c.before.at_rest.ensures c.if1.true)
+returns c = rw (unmet c.before.at_rest.ensures c.if-not-at_rest.true)
 
-returns_2 : tie.Need-returns-2
+returns_2 : tie.Need-returns-then-not-equal_attitudes
 unfolding Checks.check_start
-returns_2 c = rw (met c.before.before.before.at_rest.ensures c.before.before.if1.false, unmet c.before.equal-attitudes.ensures c.if2.true)
+returns_2 c = rw (met c.before.before.before.at_rest.ensures c.before.before.if-not-at_rest.false, unmet c.before.equal_attitudes.ensures c.if-not-equal_attitudes.true)
 
-returns_3 : tie.Need-returns-3
+returns_3 : tie.Need-returns-then-not-equal
 unfolding Checks.check_start
-returns_3 c = rw (met c.before.before.before.before.before.before.before.at_rest.ensures c.before.before.before.before.before.before.if1.false, met c.before.before.before.before.before.equal-attitudes.ensures c.before.before.before.before.if2.false, unmet c.before.equal.ensures c.if3.true)
+returns_3 c = rw (met c.before.before.before.before.before.before.before.at_rest.ensures c.before.before.before.before.before.before.if-not-at_rest.false, met c.before.before.before.before.before.equal_attitudes.ensures c.before.before.before.before.if-not-equal_attitudes.false, unmet c.before.equal.ensures c.if-not-equal.true)
 
-returns-4 : tie.Need-returns-4
+returns-4 : tie.Need-returns
 unfolding Checks.check_start
-returns-4 c = rw (met c.before.before.before.before.before.before.before.at_rest.ensures c.before.before.before.before.before.before.if1.false, met c.before.before.before.before.before.equal-attitudes.ensures c.before.before.before.before.if2.false, met c.before.equal.ensures c.if3.false)
+returns-4 c = rw (met c.before.before.before.before.before.before.before.at_rest.ensures c.before.before.before.before.before.before.if-not-at_rest.false, met c.before.before.before.before.before.equal_attitudes.ensures c.before.before.before.before.if-not-equal_attitudes.false, met c.before.equal.ensures c.if-not-equal.false)
 
 pub check_start_spec : {M : Type 1} → statement M
 check_start_spec =

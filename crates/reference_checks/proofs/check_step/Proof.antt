@@ -3,13 +3,13 @@ use Rattle.reference_checks.proofs.check_step.Statement.{statement}
 use Rattle.reference_checks.proofs.check_step.Tie as tie
 use Rattle.reference_checks.specs.Checks as Checks
 
-returns : tie.Need-returns
+returns : tie.Need-returns-in-Refused
 unfolding Checks.check_step
-returns c = rw (← c.before.before.before.check-sample.ensures, c.before.fate.given.1)
+returns c = rw (← c.before.before.before.check_sample-fate.ensures, c.before.fate-1.given.1)
 
-returns_2 : tie.Need-returns-2
+returns_2 : tie.Need-returns-in-Going
 unfolding Checks.check_step
-returns_2 c = rw (← c.before.before.before.before.before.before.check-sample.ensures, c.before.before.before.before.enum_told.given.1, c.check-controls.ensures, c.before.controls.ensures)
+returns_2 c = rw (← c.before.before.before.before.before.before.check_sample-fate.ensures, c.before.before.before.before.enum_told-1.given.1, c.check_controls.ensures, c.before.controls-u.ensures)
 
 pub check_step_spec : {M : Type 1} → statement M
 check_step_spec =

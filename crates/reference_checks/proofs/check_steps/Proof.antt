@@ -10,23 +10,23 @@ use Rattle.common.specs.declared.Fate.TheVariants.{Going}
 use Rattle.reference_checks.specs.Checks as Checks
 use Rattle.reference_checks.specs.StepLaws.{steps_next, steps_refused, steps_all}
 
-abbrev invariant_loop : tie.invariant_loop
-invariant_loop r steps last₀ k₀ last k = (k ≤ r.steps) × ((last ≡ Checks.sample_of r k) × (Checks.verdict Going (k + 1) ≡ iter (Checks.step_turn r) (Checks.verdict Going 1) k))
+abbrev invariant_loop : tie.invariant-loop-k
+invariant_loop r steps last₀ k₀ last k = (k ≤ r.steps) × ((last ≡ Checks.sample_of-next r k) × (Checks.verdict Going (k + 1) ≡ iter (Checks.step_turn r) (Checks.verdict Going 1) k))
 
-abbrev decreases_loop : tie.decreases_loop
+abbrev decreases_loop : tie.decreases-loop-k
 decreases_loop r steps last₀ k₀ last k = r.steps - k
 
-loop-holds : tie.Need-loop-init invariant_loop decreases_loop
+loop-holds : tie.Need-loop-k-init invariant_loop decreases_loop
 loop-holds c = (omega arith, (c.requires.1.1, iter_none _ _))
 
-returns : tie.Need-returns invariant_loop decreases_loop
-returns c = record { is = steps_refused _ _ c.before.before.before.before.before.before.loop.invariant.1.1 (c.before.before.before.before.before.before.loop.invariant.1.0, c.before.before.before.before.sample-of.ensures) c.before.before.before.check-step.ensures (omega arith) (omega arith) c.before.fate.given.1; few = omega arith }
+returns : tie.Need-returns-in-Refused invariant_loop decreases_loop
+returns c = record { is = steps_refused _ _ c.before.before.before.before.before.before.loop-k.invariant.1.1 (c.before.before.before.before.before.before.loop-k.invariant.1.0, c.before.before.before.before.sample_of-next.ensures) c.before.before.before.check_step-fate.ensures (omega arith) (omega arith) c.before.fate-1.given.1; few = omega arith }
 
-loop-again : tie.Need-loop-preserved invariant_loop decreases_loop
-loop-again c = (omega arith, (c.before.before.before.sample-of.ensures, steps_next _ _ c.before.before.before.before.before.loop.invariant.1.1 (c.before.before.before.before.before.loop.invariant.1.0, c.before.before.before.sample-of.ensures) c.before.before.check-step.ensures c.enum_told.given.1))
+loop-again : tie.Need-loop-k-preserved invariant_loop decreases_loop
+loop-again c = (omega arith, (c.before.before.before.sample_of-next.ensures, steps_next _ _ c.before.before.before.before.before.loop-k.invariant.1.1 (c.before.before.before.before.before.loop-k.invariant.1.0, c.before.before.before.sample_of-next.ensures) c.before.before.check_step-fate.ensures c.enum_told-1.given.1))
 
-returns_2 : tie.Need-returns-2 invariant_loop decreases_loop
-returns_2 c = record { is = steps_all _ c.before.loop.k _ c.before.loop.invariant.1.1 (omega arith); few = omega arith }
+returns_2 : tie.Need-returns invariant_loop decreases_loop
+returns_2 c = record { is = steps_all _ c.before.loop-k.k _ c.before.loop-k.invariant.1.1 (omega arith); few = omega arith }
 
 pub check_steps_spec : {M : Type 1} → statement M
 check_steps_spec =

@@ -5,11 +5,11 @@ use mathlib.Core.Path.{◌∙◌}
 use borrow.Author.Tests.{not-true, not-false}
 use Rattle.reference_checks.specs.CaseLaws.{wheels_checked_law, wheels_skipped}
 
-returns : tie.Need-returns
-returns c = wheels_skipped _ _ _ (not-true c.before.before.args.r.wheels c.if1.true)
+returns : tie.Need-returns-then-not-r
+returns c = wheels_skipped _ _ _ (not-true c.before.before.args.r.wheels c.if-not-r.true)
 
-returns_2 : tie.Need-returns-2
-returns_2 c = c.check-momenta.ensures ∙ wheels_checked_law _ _ _ (not-false c.before.before.before.args.r.wheels c.before.if1.false)
+returns_2 : tie.Need-returns
+returns_2 c = c.check_momenta.ensures ∙ wheels_checked_law _ _ _ (not-false c.before.before.before.args.r.wheels c.before.if-not-r.false)
 
 pub check_wheels_spec : {M : Type 1} → statement M
 check_wheels_spec =

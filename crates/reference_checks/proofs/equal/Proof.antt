@@ -9,21 +9,21 @@ use Rattle.common.specs.Iter.{iter}
 use Rattle.common.specs.IterLaws.{iter_none, iter_next}
 use Rattle.reference_checks.specs.Checks as Checks
 
-abbrev invariant_loop : tie.invariant_loop
+abbrev invariant_loop : tie.invariant-loop-i
 invariant_loop v u n all₀ i₀ all i = (i ≤ n) × (all ≡ iter (Checks.equal_turn v u) true i)
 
-abbrev decreases_loop : tie.decreases_loop
+abbrev decreases_loop : tie.decreases-loop-i
 decreases_loop v u n all₀ i₀ all i = n - i
 
-loop-holds : tie.Need-loop-init invariant_loop decreases_loop
+loop-holds : tie.Need-loop-i-init invariant_loop decreases_loop
 loop-holds c = (search rules, iter_none _ _)
 
-loop-again : tie.Need-loop-preserved invariant_loop decreases_loop
-loop-again c = (search rules, iter_next _ _ _ c.before.before.before.loop.invariant.1 refl)
+loop-again : tie.Need-loop-i-preserved invariant_loop decreases_loop
+loop-again c = (search rules, iter_next _ _ _ c.before.before.before.loop-i.invariant.1 refl)
 
 returns : tie.Need-returns invariant_loop decreases_loop
 unfolding Checks.equal
-returns c = let e : c.before.loop.i ≡ c.before.before.args.n = omega arith in rw (← e) c.before.loop.invariant.1
+returns c = let e : c.before.loop-i.i ≡ c.before.before.args.n = omega arith in rw (← e) c.before.loop-i.invariant.1
 
 pub equal_spec : {M : Type 1} → statement M
 equal_spec =

@@ -9,21 +9,21 @@ use Rattle.common.specs.IterLaws.{iter_none, iter_next}
 use Rattle.control_rows.specs.Stored.{stored}
 use Rattle.reference_checks.specs.Checks as Checks
 
-abbrev invariant_loop : tie.invariant_loop
+abbrev invariant_loop : tie.invariant-loop-i
 invariant_loop axes n w out₀ i₀ out i = (i ≤ n) × ((length out ≡ 12) × (out ≡ stored (Checks.power_at axes w) out₀ i))
 
-abbrev decreases_loop : tie.decreases_loop
+abbrev decreases_loop : tie.decreases-loop-i
 decreases_loop axes n w out₀ i₀ out i = n - i
 
-loop-holds : tie.Need-loop-init invariant_loop decreases_loop
+loop-holds : tie.Need-loop-i-init invariant_loop decreases_loop
 loop-holds c = (search rules, (search rules, iter_none _ _))
 
-loop-again : tie.Need-loop-preserved invariant_loop decreases_loop
-loop-again c = (search rules, (search rules, iter_next _ _ _ c.before.before.before.before.loop.invariant.1.1 refl))
+loop-again : tie.Need-loop-i-preserved invariant_loop decreases_loop
+loop-again c = (search rules, (search rules, iter_next _ _ _ c.before.before.before.before.loop-i.invariant.1.1 refl))
 
 returns : tie.Need-returns invariant_loop decreases_loop
 unfolding Checks.powers
-returns c = let e : c.before.loop.i ≡ c.before.before.args.n = omega arith in rw (← e) c.before.loop.invariant.1.1
+returns c = let e : c.before.loop-i.i ≡ c.before.before.args.n = omega arith in rw (← e) c.before.loop-i.invariant.1.1
 
 pub powers_spec : {M : Type 1} → statement M
 powers_spec =

@@ -9,21 +9,21 @@ use Rattle.common.specs.IterLaws.{iter_none, iter_next}
 use Rattle.reference_checks.specs.Checks as Checks
 use mathlib.Core.Bool.{true}
 
-abbrev invariant_loop : tie.invariant_loop
+abbrev invariant_loop : tie.invariant-loop-i
 invariant_loop v limits n all₀ i₀ all i = (i ≤ n) × (all ≡ iter (Checks.within_turn v limits) true i)
 
-abbrev decreases_loop : tie.decreases_loop
+abbrev decreases_loop : tie.decreases-loop-i
 decreases_loop v limits n all₀ i₀ all i = n - i
 
-loop-holds : tie.Need-loop-init invariant_loop decreases_loop
+loop-holds : tie.Need-loop-i-init invariant_loop decreases_loop
 loop-holds c = (search rules, iter_none _ _)
 
-loop-again : tie.Need-loop-preserved invariant_loop decreases_loop
-loop-again c = (search rules, iter_next _ _ _ c.before.before.before.before.loop.invariant.1 (rw c.fits2.ensures))
+loop-again : tie.Need-loop-i-preserved invariant_loop decreases_loop
+loop-again c = (search rules, iter_next _ _ _ c.before.before.before.before.loop-i.invariant.1 (rw c.fits2.ensures))
 
 returns : tie.Need-returns invariant_loop decreases_loop
 unfolding Checks.within
-returns c = let e : c.before.loop.i ≡ c.before.before.args.n = omega arith in rw (← e) c.before.loop.invariant.1
+returns c = let e : c.before.loop-i.i ≡ c.before.before.args.n = omega arith in rw (← e) c.before.loop-i.invariant.1
 
 pub within_spec : {M : Type 1} → statement M
 within_spec =

@@ -6,7 +6,7 @@ use Rattle.reference_motion.specs.Momenta as Momenta
 
 returns : tie.Need-returns
 unfolding Momenta.body_vector Ieee.of_bits
-returns c = c.axis-sum.ensures
+returns c = c.axis_sum.ensures
 
 pub body_vector_spec : {M : Type 1} → statement M
 body_vector_spec =

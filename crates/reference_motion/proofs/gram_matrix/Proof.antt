@@ -10,21 +10,21 @@ use Rattle.common.specs.Iter.{iter}
 use Rattle.common.specs.IterLaws.{iter_none, iter_next}
 use Rattle.reference_motion.specs.Momenta as Momenta
 
-abbrev invariant_loop : tie.invariant_loop
+abbrev invariant_loop : tie.invariant-loop-i
 invariant_loop axes n g₀ i₀ g i = (i ≤ n) × ((length g ≡ 9) × (g ≡ iter (Momenta.gram_turn axes) g₀ i))
 
-abbrev decreases_loop : tie.decreases_loop
+abbrev decreases_loop : tie.decreases-loop-i
 decreases_loop axes n g₀ i₀ g i = n - i
 
-loop-holds : tie.Need-loop-init invariant_loop decreases_loop
+loop-holds : tie.Need-loop-i-init invariant_loop decreases_loop
 loop-holds c = (search rules, (search rules, iter_none _ _))
 
-loop-again : tie.Need-loop-preserved invariant_loop decreases_loop
-loop-again c = (search rules, (search rules, iter_next _ _ _ c.before.before.before.before.loop.invariant.1.1 refl))
+loop-again : tie.Need-loop-i-preserved invariant_loop decreases_loop
+loop-again c = (search rules, (search rules, iter_next _ _ _ c.before.before.before.before.loop-i.invariant.1.1 refl))
 
 returns : tie.Need-returns invariant_loop decreases_loop
 unfolding Momenta.gram_matrix Ieee.of_bits
-returns c = let e : c.before.loop.i ≡ c.before.before.args.n = omega arith in rw (← e) c.before.loop.invariant.1.1
+returns c = let e : c.before.loop-i.i ≡ c.before.before.args.n = omega arith in rw (← e) c.before.loop-i.invariant.1.1
 
 pub gram_matrix_spec : {M : Type 1} → statement M
 gram_matrix_spec =

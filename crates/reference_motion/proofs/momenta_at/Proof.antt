@@ -4,11 +4,11 @@ use Rattle.reference_motion.proofs.momenta_at.Tie as tie
 use borrow.Author.Tests.{not-true, not-false}
 use Rattle.reference_motion.specs.CaseLaws.{momenta_wheels, momenta_stay}
 
-returns : tie.Need-returns
-returns c = momenta_stay _ _ _ _ (not-true c.before.before.before.args.r.wheels c.if1.true)
+returns : tie.Need-returns-then-not-r
+returns c = momenta_stay _ _ _ _ (not-true c.before.before.before.args.r.wheels c.if-not-r.true)
 
-returns_2 : tie.Need-returns-2
-returns_2 c = rw (c.allocate.ensures, c.before.before.sub3.ensures, c.before.before.before.required-momentum.ensures, c.before.before.before.before.subtract-scaled.ensures) (momenta_wheels _ _ _ _ (not-false c.before.before.before.before.before.before.before.before.before.before.before.before.args.r.wheels c.before.before.before.before.before.before.before.before.before.if1.false))
+returns_2 : tie.Need-returns
+returns_2 c = rw (c.allocate.ensures, c.before.before.sub3-change.ensures, c.before.before.before.required_momentum.ensures, c.before.before.before.before.subtract_scaled-rest.ensures) (momenta_wheels _ _ _ _ (not-false c.before.before.before.before.before.before.before.before.before.before.before.before.args.r.wheels c.before.before.before.before.before.before.before.before.before.if-not-r.false))
 
 pub momenta_at_spec : {M : Type 1} → statement M
 momenta_at_spec =

@@ -8,7 +8,7 @@ use lib.Dec.{le→leb}
 use mir.Facts.{to_z_pos}
 use mir.Syntax.{w64}
 
-int-to-float-result : tie.Need-int-to-float-result
+int-to-float-result : tie.Need-int_to_float-result
 unfolding Ieee.in_float
 int-to-float-result c = rw (to_z_pos w64 {n = c.before.args.n} (omega arith)) (le→leb c.before.args.n (2 ^ 53) (omega arith))
 

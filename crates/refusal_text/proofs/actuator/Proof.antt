@@ -6,15 +6,15 @@ use borrow.Author.Rules.{rules}
 use Rattle.refusal_text.proofs.actuator.Statement.{statement}
 use Rattle.refusal_text.proofs.actuator.Tie as tie
 
-wheel : tie.Need-returns
+wheel : tie.Need-returns-in-0-to-7
 unfolding actuator
 wheel c = (rw (le-leb c.before.args.place 7 (omega arith)), omega arith)
 
-thruster : tie.Need-returns-2
+thruster : tie.Need-returns-in-8-to-19
 unfolding actuator
 thruster c = (rw (lt-leb c.before.before.args.place 7 (omega arith), le-leb c.before.before.args.place 19 (omega arith)), omega arith)
 
-pyramid : tie.Need-returns-3
+pyramid : tie.Need-returns-in_default
 unfolding actuator
 pyramid c = (rw (lt-leb c.before.before.args.place 7 (omega arith), lt-leb c.before.before.args.place 19 (omega arith)), omega arith)
 

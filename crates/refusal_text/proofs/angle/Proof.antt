@@ -7,15 +7,15 @@ use borrow.Author.Rules.{rules}
 use Rattle.refusal_text.proofs.angle.Statement.{statement}
 use Rattle.refusal_text.proofs.angle.Tie as tie
 
-before-runs : tie.Need-returns
+before-runs : tie.Need-returns-in-1
 unfolding angle
 before-runs c = let e : c.before.args.when ≡ 1 = c.match.keys1 in (rw e, omega arith)
 
-sampled : tie.Need-returns-2
+sampled : tie.Need-returns-in-3
 unfolding angle
 sampled c = let e : c.before.args.when ≡ 3 = c.match.keys2 in (rw e, omega arith)
 
-in-runs : tie.Need-returns-3
+in-runs : tie.Need-returns-in_default
 unfolding angle
 in-runs c = (rw (ne_eqb c.before.args.when 1 c.match.rest.0.1, ne_eqb c.before.args.when 3 c.match.rest.1), omega arith)
 

@@ -6,35 +6,35 @@ use borrow.Author.Rules.{rules}
 use Rattle.refusal_text.proofs.argument.Statement.{statement}
 use Rattle.refusal_text.proofs.argument.Tie as tie
 
-lists : tie.Need-returns
+lists : tie.Need-returns-in-1
 unfolding argument
 lists c = let e : c.before.before.args.n ≡ 1 = c.before.match.keys1 in rw (e, c.at_most.ensures.0)
 
-actuators : tie.Need-returns-2
+actuators : tie.Need-returns-in-2
 unfolding argument
 actuators c = let e : c.before.before.args.n ≡ 2 = c.before.match.keys2 in rw (e, c.actuator.ensures.0)
 
-axes : tie.Need-returns-3
+axes : tie.Need-returns-in-3
 unfolding argument
-axes c = let e : c.before.before.args.n ≡ 3 = c.before.match.keys3 in rw (e, c.actuator2.ensures.0)
+axes c = let e : c.before.before.args.n ≡ 3 = c.before.match.keys3 in rw (e, c.actuator-in-3.ensures.0)
 
-numbers : tie.Need-returns-4
+numbers : tie.Need-returns-in-4
 unfolding argument
 numbers c = let e : c.before.args.n ≡ 4 = c.match.keys4 in rw e
 
-attitudes : tie.Need-returns-5
+attitudes : tie.Need-returns-in-5
 unfolding argument
 attitudes c = let e : c.before.before.args.n ≡ 5 = c.before.match.keys5 in rw (e, c.attitude.ensures.0)
 
-matrices : tie.Need-returns-6
+matrices : tie.Need-returns-in-6
 unfolding argument
-matrices c = let e : c.before.before.args.n ≡ 6 = c.before.match.keys6 in rw (e, c.at-most2.ensures.0)
+matrices c = let e : c.before.before.args.n ≡ 6 = c.before.match.keys6 in rw (e, c.at_most-in-6.ensures.0)
 
-profiles : tie.Need-returns-7
+profiles : tie.Need-returns-in-7
 unfolding argument
-profiles c = let e : c.before.before.args.n ≡ 7 = c.before.match.keys7 in rw (e, c.at-most3.ensures.0)
+profiles c = let e : c.before.before.args.n ≡ 7 = c.before.match.keys7 in rw (e, c.at_most-in-7.ensures.0)
 
-others : tie.Need-returns-8
+others : tie.Need-returns-in_default
 unfolding argument
 others c =
     let n = c.before.args.n in

@@ -5,17 +5,17 @@ use Rattle.refusal_text.specs.Sentences.{met}
 use Rattle.refusal_text.proofs.met.Statement.{statement}
 use Rattle.refusal_text.proofs.met.Tie as tie
 
-sampled : tie.Need-returns
+sampled : tie.Need-returns-then-sampled
 unfolding met
 sampled c = search rules
 
-before-runs : tie.Need-returns-2
+before-runs : tie.Need-returns-then-runs-eq0
 unfolding met
-before-runs c = rw (c.before.if1.false, eq-eqb _ _ c.if2.true)
+before-runs c = rw (c.before.if-sampled.false, eq-eqb _ _ c.if-runs-eq0.true)
 
-in-runs : tie.Need-returns-3
+in-runs : tie.Need-returns-else-runs-eq0
 unfolding met
-in-runs c = rw (c.before.if1.false, ne_eqb _ _ c.if2.false)
+in-runs c = rw (c.before.if-sampled.false, ne_eqb _ _ c.if-runs-eq0.false)
 
 pub met_spec : {M : Type 1} → statement M
 met_spec = tie.close (tie.spec sampled before-runs in-runs)

@@ -9,40 +9,40 @@ use Rattle.refusal_text.specs.TableLaws.{puts_length, GoesOn, goes_on, ends_line
 use Rattle.refusal_text.proofs.put_line.Statement.{statement}
 use Rattle.refusal_text.proofs.put_line.Tie as tie
 
-abbrev invariant_loop : tie.invariant_loop
+abbrev invariant_loop : tie.invariant-loop-k
 invariant_loop out₀ t from count at₀ k₀ out at k = (at ≤ 20 * k) × (length out ≡ length out₀) × GoesOn out₀ (told count (drop from t)) out at (told count (drop k t))
 
-abbrev decreases_loop : tie.decreases_loop
+abbrev decreases_loop : tie.decreases-loop-k
 decreases_loop out₀ t from count at₀ k₀ out at k = length t - k
 
-loop-holds : tie.Need-loop-init invariant_loop decreases_loop
+loop-holds : tie.Need-loop-k-init invariant_loop decreases_loop
 loop-holds c = (omega arith, refl, λ after next p. p)
 
-same_length : tie.Need-same-length invariant_loop decreases_loop
+same_length : tie.Need-shape_of-out-then-b-eq10 invariant_loop decreases_loop
 same_length c =
     let p = c.before.before in
-    puts_length p.put_byte.ensures ∙ p.before.before.before.before.before.loop.invariant.1
+    puts_length p.put_byte.ensures ∙ p.before.before.before.before.before.loop-k.invariant.1
 
-line-feed : tie.Need-returns invariant_loop decreases_loop
+line-feed : tie.Need-returns-then-b-eq10 invariant_loop decreases_loop
 line-feed c =
     let p = c.before.before in
-    let l = p.before.before.before.before.before.loop in
-    ends_line _ _ l.k l.invariant.2 (omega arith) p.before.before.if1.true p.put_byte.ensures
+    let l = p.before.before.before.before.before.loop-k in
+    ends_line _ _ l.k l.invariant.2 (omega arith) p.before.before.if-b-eq10.true p.put_byte.ensures
 
-loop-again : tie.Need-loop-preserved invariant_loop decreases_loop
+loop-again : tie.Need-loop-k-preserved invariant_loop decreases_loop
 loop-again c =
     let p = c.before.before in
-    let l = p.before.before.before.before.before.loop in (
-      omega (arith, p.put-marked.ensures.ends, p.put-marked.ensures.short),
-      puts_length p.put-marked.ensures ∙ l.invariant.1,
-      goes_on _ _ l.k l.invariant.2 (omega arith) p.before.before.if1.false p.put-marked.ensures,
+    let l = p.before.before.before.before.before.loop-k in (
+      omega (arith, p.put_marked-at.ensures.ends, p.put_marked-at.ensures.short),
+      puts_length p.put_marked-at.ensures ∙ l.invariant.1,
+      goes_on _ _ l.k l.invariant.2 (omega arith) p.before.before.if-b-eq10.false p.put_marked-at.ensures,
     )
 
-same-length-2 : tie.Need-same-length-2 invariant_loop decreases_loop
-same-length-2 c = c.before.loop.invariant.1
+same-length-2 : tie.Need-shape_of-out invariant_loop decreases_loop
+same-length-2 c = c.before.loop-k.invariant.1
 
-text-end : tie.Need-returns-2 invariant_loop decreases_loop
-text-end c = let l = c.before.loop in ends_text _ _ l.k l.invariant.2 (omega arith)
+text-end : tie.Need-returns invariant_loop decreases_loop
+text-end c = let l = c.before.loop-k in ends_text _ _ l.k l.invariant.2 (omega arith)
 
 pub put_line_spec : {M : Type 1} → statement M
 put_line_spec =

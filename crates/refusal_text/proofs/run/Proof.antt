@@ -6,11 +6,11 @@ use borrow.Author.Rules.{rules}
 use Rattle.refusal_text.proofs.run.Statement.{statement}
 use Rattle.refusal_text.proofs.run.Tie as tie
 
-angles : tie.Need-returns
+angles : tie.Need-returns-in-11
 unfolding run
 angles c = let e : c.before.before.args.n ≡ 11 = c.before.match.keys1 in rw (e, c.angle.ensures.0)
 
-others : tie.Need-returns-2
+others : tie.Need-returns-in_default
 unfolding run
 others c = rw (ne_eqb c.before.args.n 11 c.match.rest.1)
 

@@ -9,10 +9,10 @@ use borrow.Author.Rules.{rules}
 use Rattle.region_text.proofs.put_choice.Statement.{statement}
 use Rattle.region_text.proofs.put_choice.Tie as tie
 
-add-put-less : tie.Need-overflow-add-put-less
+add-put-less : tie.Need-overflow_add-u
 add-put-less c = let s = c.before.before in rw (to_z-of_z s.ranges.u) (counted_fits 2 s.args.u (omega arith) s.requires.1).0
 
-cast-put-less : tie.Need-overflow-cast-put-less
+cast-put-less : tie.Need-overflow_cast-u
 cast-put-less c =
     let s = c.before.before in
     let p = counted_fits 2 s.args.u (omega arith) s.requires.1 in
@@ -23,7 +23,7 @@ returns c =
     let less = c.before.before in
     let s = less.before.before.before in
     let p = counted_fits 2 s.args.u (omega arith) s.requires.1 in
-    rw (choice_less s.args.u s.requires.1) (rw (to_z-of_z s.ranges.u, to_z-of_z p.0) at less.put-less.ensures)
+    rw (choice_less s.args.u s.requires.1) (rw (to_z-of_z s.ranges.u, to_z-of_z p.0) at less.put_less.ensures)
 
 pub put_choice_spec : {M : Type 1} → statement M
 put_choice_spec = tie.close (tie.spec add-put-less cast-put-less (search rules) (search rules) returns)

@@ -7,7 +7,7 @@ use borrow.Author.Rules.{rules}
 use Rattle.region_text.proofs.put_forced.Statement.{statement}
 use Rattle.region_text.proofs.put_forced.Tie as tie
 
-put-choice-requires : tie.Need-put-choice-requires
+put-choice-requires : tie.Need-shape_of-out
 put-choice-requires c κs = let s = c.before.before.before.before.before.before.before.before.before.before.before.before in (search rules, rw (to_z-of_z s.ranges.u) s.requires)
 
 returns : tie.Need-returns
@@ -18,7 +18,7 @@ returns c =
     let middle = choice.before.before.before.before in
     let first = middle.before.before.before.before.before in
     let s = first.before.before.before.before in
-    puts_most (omega arith) (puts_join (puts_join (puts_join first.put-counted.ensures middle.put_all_lem.ensures) (rw (to_z-of_z s.ranges.u) at choice.put-choice.ensures)) last.put-all2.ensures)
+    puts_most (omega arith) (puts_join (puts_join (puts_join first.put_counted-i.ensures middle.put_all_lem.ensures) (rw (to_z-of_z s.ranges.u) at choice.put_choice-k.ensures)) last.put_all.ensures)
 
 pub put_forced_spec : {M : Type 1} → statement M
 put_forced_spec =

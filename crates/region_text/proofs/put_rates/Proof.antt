@@ -7,23 +7,23 @@ use borrow.Author.Rules.{rules}
 use Rattle.region_text.proofs.put_rates.Statement.{statement}
 use Rattle.region_text.proofs.put_rates.Tie as tie
 
-abbrev invariant_loop : tie.invariant_loop
+abbrev invariant_loop : tie.invariant-loop-y
 invariant_loop b₀ at t x i₀ y₀ b i y = PutsFirst (turns_at_value t x) 4 17 b₀ at y b i
 
-abbrev decreases_loop : tie.decreases_loop
+abbrev decreases_loop : tie.decreases-loop-y
 decreases_loop b₀ at t x i₀ y₀ b i y = 17 - y
 
-loop-again : tie.Need-loop-preserved invariant_loop decreases_loop
+loop-again : tie.Need-loop-y-preserved invariant_loop decreases_loop
 loop-again c =
     let put = c.before.before in
-    let l = put.before.before.before.before.loop in
-    first_next l.invariant (omega arith) put.put-turns.ensures put.put-turns.auto.0
+    let l = put.before.before.before.before.loop-y in
+    first_next l.invariant (omega arith) put.put_turns-i.ensures put.put-turns.auto.0
 
 returns : tie.Need-returns invariant_loop decreases_loop
-returns c = first_all c.before.loop.invariant (omega arith)
+returns c = first_all c.before.loop-y.invariant (omega arith)
 
 pub put_rates_spec : {M : Type 1} → statement M
 put_rates_spec =
     tie.close
     (tie.spec invariant_loop decreases_loop (λ c. first_none) (search rules) (search rules) (search rules) (search rules) (search rules) (search rules) loop-again
-    (λ c. c.before.loop.invariant.same) returns)
+    (λ c. c.before.loop-y.invariant.same) returns)

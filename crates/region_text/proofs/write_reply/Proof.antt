@@ -7,39 +7,39 @@ use borrow.Author.Rules.{rules}
 use Rattle.region_text.proofs.write_reply.Statement.{statement}
 use Rattle.region_text.proofs.write_reply.Tie as tie
 
-put-with-requires : tie.Need-put-with-requires
+put-with-requires : tie.Need-put_with-with-requires
 put-with-requires c κs =
     let known = c.before in
     let d = known.before in
-    rw (to_z-of_z {w = w64} (record { sfits = known.known-told.given.0.1 })) (reply_small d.d.given.0.0 (rw d.d.given.1 at d.before.before.reply.ensures.1).lawful)
+    rw (to_z-of_z {w = w64} (record { sfits = known.known_told-1.given.0.1 })) (reply_small d.d-1.given.0.0 (rw d.d-1.given.1 at d.before.before.reply-d.ensures.1).lawful)
 
-returns : tie.Need-returns
+returns : tie.Need-shape_of-out-in-Without
 returns c =
     let put = c.before.before in
     let known = put.before.before in
     let d = known.before in
     let replied = d.before.before in
     let s = replied.before.before.before in
-    let e = rw (to_z-of_z s.ranges.angle, to_z-of_z s.ranges.rate, to_z-of_z s.ranges.choice) at replied.reply.ensures.0 in
-    rw (← e, d.d.given.1) (prints_given _ (omega arith) (rw (to_z-of_z {w = w64} (record { sfits = known.known-told.given.0.1 })) at put.put-with.ensures))
+    let e = rw (to_z-of_z s.ranges.angle, to_z-of_z s.ranges.rate, to_z-of_z s.ranges.choice) at replied.reply-d.ensures.0 in
+    rw (← e, d.d-1.given.1) (prints_given _ (omega arith) (rw (to_z-of_z {w = w64} (record { sfits = known.known_told-1.given.0.1 })) at put.put_with-with.ensures))
 
-returns_2 : tie.Need-returns-2
+returns_2 : tie.Need-shape_of-out-in-Outside
 returns_2 c =
     let put = c.before.before in
     let none = put.before.before.before in
     let replied = none.before.before in
     let s = replied.before.before.before in
-    let e = rw (to_z-of_z s.ranges.angle, to_z-of_z s.ranges.rate, to_z-of_z s.ranges.choice) at replied.reply.ensures.0 in
-    rw (← e, none.enum_told.given.1) (prints_given _ (omega arith) put.put_all_lem.ensures)
+    let e = rw (to_z-of_z s.ranges.angle, to_z-of_z s.ranges.rate, to_z-of_z s.ranges.choice) at replied.reply-d.ensures.0 in
+    rw (← e, none.enum_told-1.given.1) (prints_given _ (omega arith) put.put_all_lem.ensures)
 
-returns_3 : tie.Need-returns-3
+returns_3 : tie.Need-returns-in-Outside
 returns_3 c =
     let refused = c.before.before.before.before in
     let outside = refused.before.before.before in
     let replied = outside.before.before in
     let s = replied.before.before.before in
-    let e = rw (to_z-of_z s.ranges.angle, to_z-of_z s.ranges.rate, to_z-of_z s.ranges.choice) at replied.reply.ensures.0 in
-    rw (← e, outside.enum-told2.given.1) refused.refuse.ensures
+    let e = rw (to_z-of_z s.ranges.angle, to_z-of_z s.ranges.rate, to_z-of_z s.ranges.choice) at replied.reply-d.ensures.0 in
+    rw (← e, outside.enum_told-in-Outside-1.given.1) refused.refuse.ensures
 
 pub write_reply_spec : {M : Type 1} → statement M
 write_reply_spec =

@@ -7,48 +7,48 @@ use borrow.Author.Rules.{rules}
 use Rattle.region_text.proofs.write_start.Statement.{statement}
 use Rattle.region_text.proofs.write_start.Tie as tie
 
-put-forced-requires : tie.Need-put-forced-requires
+put-forced-requires : tie.Need-enum_told-in-HeldOff
 put-forced-requires c κs =
     let known = c.before in
     let s = known.before in
-    rw (to_z-of_z {w = w64} (record { sfits = known.known-told.given.1.0.1 })) (rw s.s.given.1 at s.before.before.outcome.ensures.1).lawful
+    rw (to_z-of_z {w = w64} (record { sfits = known.known_told-1.given.1.0.1 })) (rw s.s-1.given.1 at s.before.before.outcome-s.ensures.1).lawful
 
-returns : tie.Need-returns
+returns : tie.Need-returns-in-Forced
 returns c =
     let put = c.before.before in
     let home = put.before.before.before in
     let told = home.before.before in
     let s = told.before.before.before in
-    let e = rw (to_z-of_z s.ranges.angle, to_z-of_z s.ranges.rate) at told.outcome.ensures.0 in
-    rw (← e, home.enum_told.given.1) (prints_given _ (omega arith) put.put_all_lem.ensures)
+    let e = rw (to_z-of_z s.ranges.angle, to_z-of_z s.ranges.rate) at told.outcome-s.ensures.0 in
+    rw (← e, home.enum_told-1.given.1) (prints_given _ (omega arith) put.put_all_lem.ensures)
 
-returns_2 : tie.Need-returns-2
+returns_2 : tie.Need-returns-in-HeldOff
 returns_2 c =
     let put = c.before.before in
     let known = put.before.before in
     let forced = known.before in
     let told = forced.before.before in
     let s = told.before.before.before in
-    let e = rw (to_z-of_z s.ranges.angle, to_z-of_z s.ranges.rate) at told.outcome.ensures.0 in
-    rw (← e, forced.s.given.1) (prints_given _ (omega arith) (rw (to_z-of_z {w = w64} (record { sfits = known.known-told.given.1.0.1 })) at put.put-forced.ensures))
+    let e = rw (to_z-of_z s.ranges.angle, to_z-of_z s.ranges.rate) at told.outcome-s.ensures.0 in
+    rw (← e, forced.s-1.given.1) (prints_given _ (omega arith) (rw (to_z-of_z {w = w64} (record { sfits = known.known_told-1.given.1.0.1 })) at put.put_forced-forced.ensures))
 
-returns_3 : tie.Need-returns-3
+returns_3 : tie.Need-shape_of-said
 returns_3 c =
     let put = c.before.before in
     let held = put.before.before.before in
     let told = held.before.before in
     let s = told.before.before.before in
-    let e = rw (to_z-of_z s.ranges.angle, to_z-of_z s.ranges.rate) at told.outcome.ensures.0 in
-    rw (← e, held.enum-told2.given.1) (prints_given _ (omega arith) put.put-all2.ensures)
+    let e = rw (to_z-of_z s.ranges.angle, to_z-of_z s.ranges.rate) at told.outcome-s.ensures.0 in
+    rw (← e, held.enum_told-in-HeldOff-1.given.1) (prints_given _ (omega arith) put.put_all-held.ensures)
 
-returns-4 : tie.Need-returns-4
+returns-4 : tie.Need-returns-in-Outside
 returns-4 c =
     let refused = c.before.before.before.before in
     let outside = refused.before.before.before in
     let told = outside.before.before in
     let s = told.before.before.before in
-    let e = rw (to_z-of_z s.ranges.angle, to_z-of_z s.ranges.rate) at told.outcome.ensures.0 in
-    rw (← e, outside.enum-told3.given.1) refused.refuse.ensures
+    let e = rw (to_z-of_z s.ranges.angle, to_z-of_z s.ranges.rate) at told.outcome-s.ensures.0 in
+    rw (← e, outside.enum_told-in-Outside-1.given.1) refused.refuse.ensures
 
 pub write_start_spec : {M : Type 1} → statement M
 write_start_spec =

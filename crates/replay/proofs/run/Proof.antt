@@ -5,10 +5,10 @@ use native.Mathlib.Omega.{arith}
 use Rattle.replay.proofs.run.Statement.{statement}
 use Rattle.replay.proofs.run.Tie as tie
 
-abbrev invariant_loop : tie.invariant_loop
+abbrev invariant_loop : tie.invariant-loop-k
 invariant_loop s t₀ k₀ t k = k ≤ 65536
 
-abbrev decreases_loop : tie.decreases_loop
+abbrev decreases_loop : tie.decreases-loop-k
 decreases_loop s t₀ k₀ t k = 65536 - k
 
 pub run_spec : {M : Type 1} → statement M

@@ -15,64 +15,64 @@ use borrow.Author.Rules.{rules}
 use Rattle.sample_lists.proofs.put_rows.Statement.{statement}
 use Rattle.sample_lists.proofs.put_rows.Tie as tie
 
-abbrev invariant_loop : tie.invariant_loop
+abbrev invariant_loop : tie.invariant-loop-j
 invariant_loop inertia tolerance duration nodes count out₀ steps placed₀ turning₀ j₀ out placed turning j =
     (j ≤ count + 2) × (length out ≡ length out₀) × (placed.i < 16) × Passed nodes placed.t placed.i × (turning.i < 16)
     × IsPlaced nodes steps duration count j placed × IsTurned nodes steps duration count j turning × Going (timed inertia tolerance duration nodes count) (j - 2) out₀ out
 
-abbrev decreases_loop : tie.decreases_loop
+abbrev decreases_loop : tie.decreases-loop-j
 decreases_loop inertia tolerance duration nodes count out₀ steps placed₀ turning₀ j₀ out placed turning j = count + 2 - j
 
-loop-holds : tie.Need-loop-init invariant_loop decreases_loop
+loop-holds : tie.Need-loop-j-init invariant_loop decreases_loop
 loop-holds c =
     let first = c.before in
-    let e = first.unplaced.ensures in
-    (omega arith, refl, rw e (omega arith), rw e (passed_none first.before.before.args.nodes.now first.unplaced.result.t), rw c.unturned.ensures (omega arith), (λ a b. absurd (omega (arith, a))), (λ a b. absurd (omega (arith, a))), goes_first _ _)
+    let e = first.unplaced-placed.ensures in
+    (omega arith, refl, rw e (omega arith), rw e (passed_none first.before.before.args.nodes.now first.unplaced-placed.result.t), rw c.unturned-turning.ensures (omega arith), (λ a b. absurd (omega (arith, a))), (λ a b. absurd (omega (arith, a))), goes_first _ _)
 
-returns : tie.Need-returns invariant_loop decreases_loop
+returns : tie.Need-returns-in-Refused invariant_loop decreases_loop
 returns c =
     let made = c.before.before.before in
     let then = made.before.before in
-    let l = then.before.before.before.before.before.before.loop in
-    goes_cut _ l.invariant.7 (finish_is _ _ _ _ _ _ _ then.before.before.before.before.before.before.before.before.before.step-rows.ensures l.invariant.6 then.if1.true (omega arith) made.finish.ensures) (omega arith) c.before.fate.given.1
+    let l = then.before.before.before.before.before.before.loop-j in
+    goes_cut _ l.invariant.7 (finish_is _ _ _ _ _ _ _ then.before.before.before.before.before.before.before.before.before.step_rows-steps.ensures l.invariant.6 then.if-j-ge2.true (omega arith) made.finish-made.ensures) (omega arith) c.before.fate-1.given.1
 
 -- where a row is written: the loop's turn
-abbrev turn_of_law : tie.After-numbers invariant_loop decreases_loop → tie.At-loop invariant_loop decreases_loop
+abbrev turn_of_law : tie.After-numbers-row invariant_loop decreases_loop → tie.At-loop-j invariant_loop decreases_loop
 turn_of_law c = let then = c.before.before.before.before.before.before in then.before.before.before.before.before.before
 
-mul-row : tie.Need-overflow-mul-row invariant_loop decreases_loop
+mul-row : tie.Need-offset_bounds-out-j invariant_loop decreases_loop
 mul-row c = omega (arith, (turn_of_law c).before.before.before.before.requires)
 
-slice-set-from-row : tie.Need-slice-set-from-row invariant_loop decreases_loop
-slice-set-from-row c = omega (arith, (turn_of_law c).before.before.before.before.requires, (turn_of_law c).loop.invariant.1)
+slice-set-from-row : tie.Need-bounds-out-j invariant_loop decreases_loop
+slice-set-from-row c = omega (arith, (turn_of_law c).before.before.before.before.requires, (turn_of_law c).loop-j.invariant.1)
 
-loop-again : tie.Need-loop-preserved invariant_loop decreases_loop
+loop-again : tie.Need-loop-j-preserved invariant_loop decreases_loop
 loop-again c =
     let place = c.before in
     let hold = place.before in
     let turn = hold.before.before in
-    let l = turn.before.before.loop in
+    let l = turn.before.before.loop-j in
     let s = turn.before.before.before.before.before in (
       omega arith,
-      ⊎_elim (λ w. rw w.7 (length-set l.out (l.j - 2) w.6.result ∙ l.invariant.1)) (λ w. rw w.1 l.invariant.1) c.if1.branch,
-      place.place.ensures.1,
-      place.place.ensures.2,
-      rw (turn.turn.ensures, turning_node l.placed) l.invariant.2,
-      place_next _ _ _ _ l.j place.place.ensures.0 hold.held-index.ensures.1,
-      turn_next _ _ _ _ l.j l.invariant.5 turn.turn.ensures,
+      ⊎_elim (λ w. rw w.7 (length-set l.out (l.j - 2) w.6.result ∙ l.invariant.1)) (λ w. rw w.1 l.invariant.1) c.if-j-ge2.branch,
+      place.place-next.ensures.1,
+      place.place-next.ensures.2,
+      rw (turn.turn-turned.ensures, turning_node l.placed) l.invariant.2,
+      place_next _ _ _ _ l.j place.place-next.ensures.0 hold.held_index.ensures.1,
+      turn_next _ _ _ _ l.j l.invariant.5 turn.turn-turned.ensures,
       ⊎_elim
           (λ w.
           let e : l.j - 2 + 1 ≡ l.j + 1 - 2 = omega (arith, w.0.taken) in
-          let is = finish_is _ _ _ _ _ _ _ s.step-rows.ensures l.invariant.6 w.0.taken (omega arith) w.2.ensures in
+          let is = finish_is _ _ _ _ _ _ _ s.step_rows-steps.ensures l.invariant.6 w.0.taken (omega arith) w.2.ensures in
           rw (w.7, ← e) (goes_next _ l.invariant.7 is (omega (arith, s.before.requires, w.0.taken)) w.4.given.1 w.6.ensures))
           (λ w. let e : l.j - 2 ≡ l.j + 1 - 2 = omega (arith, w.0.left) in rw (w.1, ← e) l.invariant.7)
-          c.if1.branch,
+          c.if-j-ge2.branch,
     )
 
-returns_2 : tie.Need-returns-2 invariant_loop decreases_loop
+returns_2 : tie.Need-returns invariant_loop decreases_loop
 returns_2 c =
     let entry = c.before.before.before.before.before in
-    let l = c.before.loop in
+    let l = c.before.loop-j in
     let e : l.j - 2 ≡ entry.args.count = omega arith in
     rw e at (goes_whole _ l.invariant.7)
 

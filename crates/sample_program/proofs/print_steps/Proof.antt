@@ -4,10 +4,10 @@ use borrow.Author.Rules.{rules}
 use Rattle.sample_program.proofs.print_steps.Statement.{statement}
 use Rattle.sample_program.proofs.print_steps.Tie as tie
 
-abbrev invariant_loop : tie.invariant_loop
+abbrev invariant_loop : tie.invariant-loop-index
 invariant_loop board c requested index₀ index = Unit {0}
 
-abbrev decreases_loop : tie.decreases_loop
+abbrev decreases_loop : tie.decreases-loop-index
 decreases_loop board c requested index₀ index = 100000 - index
 
 pub print_steps_spec : {M : Type 1} → statement M

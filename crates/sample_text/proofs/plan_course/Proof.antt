@@ -8,11 +8,11 @@ returns : tie.Need-returns
 returns c =
     let at-plan-read = c.before.before.before.before in
     let at_read = at-plan-read.before.before.before in
-    let made = at-plan-read.plan-read.ensures in
+    let made = at-plan-read.plan_read-a.ensures in
     record {
-      is = course_planned _ _ at_read.read.ensures made.0 c.before.alpha-of.ensures c.course-of.ensures;
-      left = rw (c.course-of.ensures, runs_of) made.1;
-      between = promised_course _ _ _ c.course-of.ensures made.2;
+      is = course_planned _ _ at_read.read-read.ensures made.0 c.before.alpha_of.ensures c.course_of.ensures;
+      left = rw (c.course_of.ensures, runs_of) made.1;
+      between = promised_course _ _ _ c.course_of.ensures made.2;
     }
 
 pub plan_course_spec : {M : Type 1} → statement M

@@ -4,19 +4,19 @@ use Rattle.sample_text.specs.SampleTexts.{answer, headed}
 use Rattle.sample_text.proofs.put_dense.Statement.{statement}
 use Rattle.sample_text.proofs.put_dense.Tie as tie
 
-returns : tie.Need-returns
+returns : tie.Need-returns-in-Refused
 unfolding answer headed
 returns c =
     let made = c.before.before.before.before.before in
-    let fate = made.before.before.before.fate.given.1 in
-    (rw fate, rw (c.before.before.put-numbers.ensures, made.float-of2.ensures, made.before.float_of.ensures, fate))
+    let fate = made.before.before.before.fate-1.given.1 in
+    (rw fate, rw (c.before.before.put_numbers.ensures, made.float_of-in-Refused.ensures, made.before.float_of.ensures, fate))
 
-returns_2 : tie.Need-returns-2
+returns_2 : tie.Need-returns-in-Going
 unfolding answer headed
 returns_2 c =
     let made = c.before.before.before.before.before in
-    let fate = made.before.before.enum_told.given.1 in
-    (rw fate, rw (c.before.before.put-numbers2.ensures, made.numbers_of.ensures, fate))
+    let fate = made.before.before.enum_told-1.given.1 in
+    (rw fate, rw (c.before.before.put_numbers-in-Going.ensures, made.numbers_of-v.ensures, fate))
 
 pub put_dense_spec : {M : Type 1} → statement M
 put_dense_spec =

@@ -4,15 +4,15 @@ use Rattle.std.proofs.Common.{rules}
 use Rattle.sample_text.proofs.sample_text.Statement.{statement}
 use Rattle.sample_text.proofs.sample_text.Tie as tie
 
-returns : tie.Need-returns
-returns c = gives_short _ _ _ _ _ c.if1.true
+returns : tie.Need-returns-then-out-lt14
+returns c = gives_short _ _ _ _ _ c.if-out-lt14.true
 
-returns_2 : tie.Need-returns-2
+returns_2 : tie.Need-returns
 returns_2 c =
-    let put = c.before.before.put-dense.ensures in
+    let put = c.before.before.put_dense.ensures in
     let sampled = c.before.before.before.before in
-    let made = sampled.before.before.before.plan-course.ensures in
-    gives _ _ _ _ _ sampled.before.before.before.before.before.if1.false made sampled.sample-course.ensures put.0 put.1
+    let made = sampled.before.before.before.plan_course-c.ensures in
+    gives _ _ _ _ _ sampled.before.before.before.before.before.if-out-lt14.false made sampled.sample_course-d.ensures put.0 put.1
 
 pub sample_text_spec : {M : Type 1} → statement M
 sample_text_spec = tie.close (tie.spec returns (search rules) (search rules) (search rules) (search rules) (search rules) returns_2)

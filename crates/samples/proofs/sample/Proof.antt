@@ -5,23 +5,23 @@ use Rattle.samples.specs.SampleLaws.{too_many, in_count, past_count}
 use Rattle.samples.proofs.sample.Statement.{statement}
 use Rattle.samples.proofs.sample.Tie as tie
 
-time-of-requires : tie.Need-time-of-requires
+time-of-requires : tie.Need-time_of-t-requires
 time-of-requires c κs =
-    let sample-count = c.before.before.before.before.sample-count in
-    (c.if1.true, given_count _ _ _ (sym sample-count.ensures ∙ c.before.before.counted.given.1))
+    let sample-count = c.before.before.before.before.sample_count-counted in
+    (c.if-index-count.true, given_count _ _ _ (sym sample-count.ensures ∙ c.before.before.counted-1.given.1))
 
-returns : tie.Need-returns
-returns c = c.refused.ensures ∙ too_many _ _ _ _ _ _ _ (sym c.before.before.before.sample-count.ensures ∙ c.before.enum_told.given.1)
+returns : tie.Need-returns-in-TooMany
+returns c = c.refused.ensures ∙ too_many _ _ _ _ _ _ _ (sym c.before.before.before.sample_count-counted.ensures ∙ c.before.enum_told-1.given.1)
 
-returns_2 : tie.Need-returns-2
+returns_2 : tie.Need-returns-then-index-count
 returns_2 c =
     let n = c.before.before.before.before in
-    rw (c.interpolate.ensures, c.before.time-of.ensures) (in_count _ _ _ _ _ _ _ (sym n.before.before.sample-count.ensures ∙ n.counted.given.1) c.before.before.if1.true)
+    rw (c.interpolate.ensures, c.before.time_of-t.ensures) (in_count _ _ _ _ _ _ _ (sym n.before.before.sample_count-counted.ensures ∙ n.counted-1.given.1) c.before.before.if-index-count.true)
 
-returns_3 : tie.Need-returns-3
+returns_3 : tie.Need-returns-else-index-count
 returns_3 c =
     let n = c.before.before.before in
-    c.refused2.ensures ∙ past_count _ _ _ _ _ _ _ (sym n.before.before.sample-count.ensures ∙ n.counted.given.1) c.before.if1.false
+    c.refused-else-index-count.ensures ∙ past_count _ _ _ _ _ _ _ (sym n.before.before.sample_count-counted.ensures ∙ n.counted-1.given.1) c.before.if-index-count.false
 
 pub sample_spec : {M : Type 1} → statement M
 sample_spec =

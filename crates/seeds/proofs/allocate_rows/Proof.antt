@@ -12,64 +12,64 @@ use borrow.Author.Rules.{rules}
 use Rattle.seeds.proofs.allocate_rows.Statement.{statement}
 use Rattle.seeds.proofs.allocate_rows.Tie as tie
 
-abbrev invariant_loop : tie.invariant_loop
+abbrev invariant_loop : tie.invariant-loop-k
 invariant_loop map n torques out₀ k₀ out k = (k ≤ 16) × ((length out ≡ 193) × (out ≡ iter (Seeds.allocate_turn map torques) out₀ k))
 
-abbrev decreases_loop : tie.decreases_loop
+abbrev decreases_loop : tie.decreases-loop-k
 decreases_loop map n torques out₀ k₀ out k = 16 - k
 
-loop-holds : tie.Need-loop-init invariant_loop decreases_loop
+loop-holds : tie.Need-loop-k-init invariant_loop decreases_loop
 loop-holds c = (search rules, (omega arith, iter_none _ _))
 
 -- a row ends within the decision
 room : (k n : ℕ) → k < 16 → n ≤ 12 → 1 + k * n + n ≤ 193
 room k n h w = omega (arith, row_end k 16 n h)
 
-mul_at : tie.Need-overflow-mul-at invariant_loop decreases_loop
-mul_at c = omega (arith, room c.before.loop.k c.before.before.before.args.n (search rules) c.before.before.before.requires.1.0)
+mul_at : tie.Need-overflow_mul-at invariant_loop decreases_loop
+mul_at c = omega (arith, room c.before.loop-k.k c.before.before.before.args.n (search rules) c.before.before.before.requires.1.0)
 
-add_at : tie.Need-overflow-add-at invariant_loop decreases_loop
-add_at c = omega (arith, room c.before.loop.k c.before.before.before.args.n (search rules) c.before.before.before.requires.1.0)
+add_at : tie.Need-overflow_add-at invariant_loop decreases_loop
+add_at c = omega (arith, room c.before.loop-k.k c.before.before.before.args.n (search rules) c.before.before.before.requires.1.0)
 
-add-end : tie.Need-overflow-add-end invariant_loop decreases_loop
-add-end c = omega (arith, room c.before.loop.k c.before.before.before.args.n (search rules) c.before.before.before.requires.1.0)
+add-end : tie.Need-overflow_add-end invariant_loop decreases_loop
+add-end c = omega (arith, room c.before.loop-k.k c.before.before.before.args.n (search rules) c.before.before.before.requires.1.0)
 
-mul-out : tie.Need-overflow-mul-out invariant_loop decreases_loop
+mul-out : tie.Need-offset_bounds-out-at invariant_loop decreases_loop
 mul-out c =
     let start = c.before.before.before.before in
-    omega (arith, room c.before.before.loop.k start.args.n (search rules) start.requires.1.0)
+    omega (arith, room c.before.before.loop-k.k start.args.n (search rules) start.requires.1.0)
 
-part-out-end : tie.Need-slice-bounds-out-end invariant_loop decreases_loop
+part-out-end : tie.Need-slice_bounds-out-end invariant_loop decreases_loop
 part-out-end c =
     let start = c.before.before.before.before in
-    omega (arith, room c.before.before.loop.k start.args.n (search rules) start.requires.1.0)
+    omega (arith, room c.before.before.loop-k.k start.args.n (search rules) start.requires.1.0)
 
-put-row-requires : tie.Need-put-row-requires invariant_loop decreases_loop
+put-row-requires : tie.Need-put_row-requires invariant_loop decreases_loop
 put-row-requires c κs =
     let looped = c.before.before.before in
     let start = looped.before.before in
     let n = start.args.n in
     let h = start.requires.1.0 in
-    let l = looped.loop in
+    let l = looped.loop-k in
     let r = room l.k n (omega arith) h in
-    omega (arith, length_slice l.out (1 + l.k * n) (1 + l.k * n + n) (omega arith))
+    omega (arith, length_slice l.out-1 (1 + l.k * n) (1 + l.k * n + n) (omega arith))
 
-loop-again : tie.Need-loop-preserved invariant_loop decreases_loop
+loop-again : tie.Need-loop-k-preserved invariant_loop decreases_loop
 loop-again c =
     let after-row-of = c.before.before.before in
     let looped = after-row-of.before.before in
     let start = looped.before.before in
     let s = start in
     let n = s.args.n in
-    let l = looped.loop in
+    let l = looped.loop-k in
     let f = c.before.put_row_law in
     let r = room l.k n (omega arith) s.requires.1.0 in
-    let g = length_slice l.out (1 + l.k * n) (1 + l.k * n + n) (omega arith) in
+    let g = length_slice l.out-1 (1 + l.k * n) (1 + l.k * n + n) (omega arith) in
     let e : 1 + l.k * n + n - (1 + l.k * n) ≡ n = omega arith in
-    (omega arith, (length_pasted l.out f.new.0 (1 + l.k * n) (1 + l.k * n + n) (omega arith) (omega arith) f.auto.0 ∙ l.invariant.1.0, iter_next _ _ _ l.invariant.1.1 (rw (← s.requires.0, f.ensures, g, e, after-row-of.row_of.ensures))))
+    (omega arith, (length_pasted l.out-1 f.new.0 (1 + l.k * n) (1 + l.k * n + n) (omega arith) (omega arith) f.auto.0 ∙ l.invariant.1.0, iter_next _ _ _ l.invariant.1.1 (rw (← s.requires.0, f.ensures, g, e, after-row-of.row_of-u.ensures))))
 
 returns : tie.Need-returns invariant_loop decreases_loop
-returns c = let e : c.before.loop.k ≡ 16 = omega arith in rw (← e) c.before.loop.invariant.1.1
+returns c = let e : c.before.loop-k.k ≡ 16 = omega arith in rw (← e) c.before.loop-k.invariant.1.1
 
 pub allocate_rows_spec : {M : Type 1} → statement M
 allocate_rows_spec =

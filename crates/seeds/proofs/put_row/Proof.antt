@@ -8,22 +8,22 @@ use borrow.Author.Rules.{rules}
 use Rattle.seeds.proofs.put_row.Statement.{statement}
 use Rattle.seeds.proofs.put_row.Tie as tie
 
-abbrev invariant_loop : tie.invariant_loop
+abbrev invariant_loop : tie.invariant-loop-i
 invariant_loop row₀ u i₀ row i = (i ≤ length row₀) × ((length row ≡ length row₀) × (take i row ≡ take i u))
 
-abbrev decreases_loop : tie.decreases_loop
+abbrev decreases_loop : tie.decreases-loop-i
 decreases_loop row₀ u i₀ row i = length row₀ - i
 
-loop-again : tie.Need-loop-preserved invariant_loop decreases_loop
+loop-again : tie.Need-loop-i-preserved invariant_loop decreases_loop
 loop-again c =
-    let l = c.before.loop in
+    let l = c.before.loop-i in
     let s = c.before.before in
-    let e : length s.args.t2 ≡ 20 = s.well-formed.1.0.1.0.1 in
+    let e : length s.args.t2 ≡ 20 = s.well_formed.1.0.1.0.1 in
     (omega arith, (simp length-set (omega arith), taken_more l.row s.args.t2 l.i (omega arith) (omega arith) l.invariant.1.1))
 
 returns : tie.Need-returns invariant_loop decreases_loop
 returns c =
-    let l = c.before.loop in
+    let l = c.before.loop-i in
     let s = c.before.before in
     taken_all l.row s.args.t2 l.i (length s.args.row.now) (omega arith) (omega arith) l.invariant.1.1
 

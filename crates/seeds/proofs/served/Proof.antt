@@ -8,7 +8,7 @@ use Rattle.seeds.proofs.served.Tie as tie
 
 returns : tie.Need-returns
 unfolding Seeds.served Ieee.of_bits
-returns c = rw c.allocate-body-torque.ensures
+returns c = rw c.allocate_body_torque-row.ensures
 
 pub served_spec : {M : Type 1} → statement M
 served_spec = tie.close (tie.spec (λ c κs. search rules) returns)

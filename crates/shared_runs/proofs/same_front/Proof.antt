@@ -11,28 +11,28 @@ use borrow.Author.Rules.{rules}
 use Rattle.shared_runs.proofs.same_front.Statement.{statement}
 use Rattle.shared_runs.proofs.same_front.Tie as tie
 
-abbrev invariant_loop : tie.invariant_loop
+abbrev invariant_loop : tie.invariant-loop-i
 invariant_loop y z e i₀ i = (i ≤ e) × Agree i y z
 
-abbrev decreases_loop : tie.decreases_loop
+abbrev decreases_loop : tie.decreases-loop-i
 decreases_loop y z e i₀ i = e - i
 
-loop-holds : tie.Need-loop-init invariant_loop decreases_loop
+loop-holds : tie.Need-loop-i-init invariant_loop decreases_loop
 loop-holds c = (omega arith, λ i h. absurd (omega arith))
 
-returns : tie.Need-returns invariant_loop decreases_loop
+returns : tie.Need-returns-then-not-same_bits invariant_loop decreases_loop
 returns c = λ h. let z : ◌≡◌ {A = ℕ} 0 1 = cc in absurd (omega arith)
 
-loop-again : tie.Need-loop-preserved invariant_loop decreases_loop
+loop-again : tie.Need-loop-i-preserved invariant_loop decreases_loop
 loop-again c =
-    let l = c.before.before.before.before.before.loop in
+    let l = c.before.before.before.before.before.loop-i in
     let a = c.before.before.before.before.before.before.before.before.args in
-    (omega arith, below_more (λ k. at a.y.now k ≡ at a.z.now k) l.i l.invariant.1 (same_is _ _ (met c.before.same-bits.ensures c.if1.false)))
+    (omega arith, below_more (λ k. at a.y.now k ≡ at a.z.now k) l.i l.invariant.1 (same_is _ _ (met c.before.same_bits.ensures c.if-not-same_bits.false)))
 
-returns_2 : tie.Need-returns-2 invariant_loop decreases_loop
+returns_2 : tie.Need-returns invariant_loop decreases_loop
 returns_2 c =
     let entry = c.before.before.before.before in
-    λ h. let l = c.before.loop in let e : l.i ≡ entry.args.e = omega arith in rw e at l.invariant.1
+    λ h. let l = c.before.loop-i in let e : l.i ≡ entry.args.e = omega arith in rw e at l.invariant.1
 
 pub same_front_spec : {M : Type 1} → statement M
 same_front_spec =

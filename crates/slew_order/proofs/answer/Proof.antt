@@ -8,7 +8,7 @@ returns : tie.Need-returns
 returns c =
     let told = c.before.before in
     let entry = told.before.before.before.before in
-    answers entry.requires told.order-text.ensures
+    answers entry.requires told.order_text.ensures
 
 pub answer_spec : {M : Type 1} → statement M
 answer_spec = tie.close (tie.spec (search rules) (search rules) returns)

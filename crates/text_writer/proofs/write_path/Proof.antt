@@ -6,15 +6,15 @@ use borrow.Author.Rules.{rules}
 use Rattle.text_writer.proofs.write_path.Statement.{statement}
 use Rattle.text_writer.proofs.write_path.Tie as tie
 
-returns : tie.Need-returns
+returns : tie.Need-returns-then-controls-gt12
 unfolding path
-returns c = simp (lt-leb _ _ c.if1.true) (puts_none _ _ _)
+returns c = simp (lt-leb _ _ c.if-controls-gt12.true) (puts_none _ _ _)
 
-returns_2 : tie.Need-returns-2
+returns_2 : tie.Need-returns-then-wheels-gt8
 unfolding path
-returns_2 c = simp (le-leb _ _ c.before.if1.false, lt-leb _ _ c.if2.true) (puts_none _ _ _)
+returns_2 c = simp (le-leb _ _ c.before.if-controls-gt12.false, lt-leb _ _ c.if-wheels-gt8.true) (puts_none _ _ _)
 
-returns_3 : tie.Need-returns-3
+returns_3 : tie.Need-returns
 unfolding path path_text
 returns_3 c =
     let at-put-all = c.before.before in
@@ -23,7 +23,7 @@ returns_3 c =
     let at-put-heading = at-put-rows.before.before.before.before.before in
     let at-if2 = at-put-heading.before.before in
     let at-if1 = at-if2.before in
-    simp (le-leb _ _ at-if1.if1.false, le-leb _ _ at-if2.if2.false) (puts_join (puts_join (puts_join at-put-heading.put-heading.ensures at-put-rows.put-rows.ensures) at-put-nodes.put-nodes.ensures) at-put-all.put_all_lem.ensures)
+    simp (le-leb _ _ at-if1.if-controls-gt12.false, le-leb _ _ at-if2.if-wheels-gt8.false) (puts_join (puts_join (puts_join at-put-heading.put_heading-i.ensures at-put-rows.put_rows-j.ensures) at-put-nodes.put_nodes-k.ensures) at-put-all.put_all_lem.ensures)
 
 pub write_path_spec : {M : Type 1} → statement M
 write_path_spec =

@@ -8,15 +8,15 @@ use lib.ListN.{set, replicate}
 use Rattle.tile_order.proofs.straight.Statement.{statement}
 use Rattle.tile_order.proofs.straight.Tie as tie
 
-abbrev invariant_loop : tie.invariant_loop
+abbrev invariant_loop : tie.invariant-loop-i
 invariant_loop n order₀ i₀ order i = (i ≤ n) × (order ≡ iter (λ k o. set o k k) (replicate 10 0) i)
 
-abbrev decreases_loop : tie.decreases_loop
+abbrev decreases_loop : tie.decreases-loop-i
 decreases_loop n order₀ i₀ order i = n - i
 
 returns : tie.Need-returns invariant_loop decreases_loop
 returns c =
-    let l = c.before.loop in
+    let l = c.before.loop-i in
     let e : l.i ≡ c.before.before.args.n = omega arith in
     rw e at l.invariant.1
 
@@ -31,5 +31,5 @@ straight_spec =
     (λ c. omega arith)
     (λ c. omega arith)
     (λ c. omega arith)
-    (λ c. (omega arith, iter_next _ _ c.before.loop.i c.before.loop.invariant.1 refl))
+    (λ c. (omega arith, iter_next _ _ c.before.loop-i.i c.before.loop-i.invariant.1 refl))
     returns)

@@ -11,23 +11,23 @@ use borrow.Author.Rules.{rules}
 use Rattle.wheel_record.proofs.leading_same.Statement.{statement}
 use Rattle.wheel_record.proofs.leading_same.Tie as tie
 
-abbrev invariant_loop : tie.invariant_loop
+abbrev invariant_loop : tie.invariant-loop-k
 invariant_loop m n k₀ k = (k ≤ 8) × (k ≡ iter (leading_turn m n) 0 k)
 
-abbrev decreases_loop : tie.decreases_loop
+abbrev decreases_loop : tie.decreases-loop-k
 decreases_loop m n k₀ k = 8 - k
 
-loop-holds : tie.Need-loop-init invariant_loop decreases_loop
+loop-holds : tie.Need-loop-k-init invariant_loop decreases_loop
 loop-holds c = (omega arith, iter_none _ _)
 
-returns : tie.Need-returns invariant_loop decreases_loop
-returns c = leading_stays _ _ _ c.before.before.before.loop.invariant.1 c.before.before.before.loop.invariant.0 (unmet c.before.same-wheel.ensures c.if1.true)
+returns : tie.Need-returns-then-not-same_wheel invariant_loop decreases_loop
+returns c = leading_stays _ _ _ c.before.before.before.loop-k.invariant.1 c.before.before.before.loop-k.invariant.0 (unmet c.before.same_wheel.ensures c.if-not-same_wheel.true)
 
-loop-again : tie.Need-loop-preserved invariant_loop decreases_loop
-loop-again c = (omega arith, leading_next _ _ _ c.before.before.before.loop.invariant.1 (met c.before.same-wheel.ensures c.if1.false))
+loop-again : tie.Need-loop-k-preserved invariant_loop decreases_loop
+loop-again c = (omega arith, leading_next _ _ _ c.before.before.before.loop-k.invariant.1 (met c.before.same_wheel.ensures c.if-not-same_wheel.false))
 
-returns_2 : tie.Need-returns-2 invariant_loop decreases_loop
-returns_2 c = leading_whole _ _ _ c.before.loop.invariant.1 (omega arith)
+returns_2 : tie.Need-returns invariant_loop decreases_loop
+returns_2 c = leading_whole _ _ _ c.before.loop-k.invariant.1 (omega arith)
 
 pub leading_same_spec : {M : Type 1} → statement M
 leading_same_spec = tie.close (tie.spec invariant_loop decreases_loop loop-holds (λ c κs. search rules) returns (λ c. search rules) (λ c. search rules) loop-again returns_2)

@@ -3,20 +3,20 @@ use Rattle.whole_mosaic.specs.Rooms.{short_counts, short_times, short_decisions,
 use Rattle.whole_mosaic.proofs.check_rows.Statement.{statement}
 use Rattle.whole_mosaic.proofs.check_rows.Tie as tie
 
-returns : tie.Need-returns
-returns c = short_counts _ _ _ _ _ c.if1.true
+returns : tie.Need-returns-then-counts-legs
+returns c = short_counts _ _ _ _ _ c.if-counts-legs.true
 
-returns_2 : tie.Need-returns-2
-returns_2 c = short_times _ _ _ _ _ c.before.if1.false c.if2.true
+returns_2 : tie.Need-returns-then-times-legs
+returns_2 c = short_times _ _ _ _ _ c.before.if-counts-legs.false c.if-times-legs.true
 
-returns_3 : tie.Need-returns-3
-returns_3 c = short_decisions _ _ _ _ _ c.before.before.if1.false c.before.if2.false c.if3.true
+returns_3 : tie.Need-returns-then-decisions-legs
+returns_3 c = short_decisions _ _ _ _ _ c.before.before.if-counts-legs.false c.before.if-times-legs.false c.if-decisions-legs.true
 
-returns-4 : tie.Need-returns-4
-returns-4 c = short_nodes _ _ _ _ _ c.before.before.before.if1.false c.before.before.if2.false c.before.if3.false c.if4.true
+returns-4 : tie.Need-returns-then-nodes-legs
+returns-4 c = short_nodes _ _ _ _ _ c.before.before.before.if-counts-legs.false c.before.before.if-times-legs.false c.before.if-decisions-legs.false c.if-nodes-legs.true
 
-returns-5 : tie.Need-returns-5
-returns-5 c = enough _ _ _ _ _ c.before.before.before.if1.false c.before.before.if2.false c.before.if3.false c.if4.false
+returns-5 : tie.Need-returns
+returns-5 c = enough _ _ _ _ _ c.before.before.before.if-counts-legs.false c.before.before.if-times-legs.false c.before.if-decisions-legs.false c.if-nodes-legs.false
 
 pub check_rows_spec : {M : Type 1} → statement M
 check_rows_spec = tie.close (tie.spec returns returns_2 returns_3 returns-4 returns-5)

@@ -7,14 +7,14 @@ use borrow.Author.Rules.{rules}
 use Rattle.whole_mosaic.proofs.check_tiles.Statement.{statement}
 use Rattle.whole_mosaic.proofs.check_tiles.Tie as tie
 
-sub-check-rows : tie.Need-overflow-sub-check-rows
-sub-check-rows c = let counted = c.before.before in omega (arith, count_least counted.before.args.tiles (sym counted.check-count.ensures ∙ c.enum_told.given.1))
+sub-check-rows : tie.Need-overflow_sub-tiles
+sub-check-rows c = let counted = c.before.before in omega (arith, count_least counted.before.args.tiles (sym counted.check_count-fate.ensures ∙ c.enum_told-1.given.1))
 
-returns : tie.Need-returns
-returns c = tiles_refused _ _ _ _ _ c.before.before.before.check-count.ensures c.before.fate.given.1
+returns : tie.Need-returns-in-Refused
+returns c = tiles_refused _ _ _ _ _ c.before.before.before.check_count-fate.ensures c.before.fate-1.given.1
 
-returns_2 : tie.Need-returns-2
-returns_2 c = c.check-rows.ensures ∙ tiles_room _ _ _ _ _ c.before.before.before.check-count.ensures c.before.enum_told.given.1
+returns_2 : tie.Need-returns-in-Going
+returns_2 c = c.check_rows.ensures ∙ tiles_room _ _ _ _ _ c.before.before.before.check_count-fate.ensures c.before.enum_told-1.given.1
 
 pub check_tiles_spec : {M : Type 1} → statement M
 check_tiles_spec =

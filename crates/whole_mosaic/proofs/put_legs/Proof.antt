@@ -10,28 +10,28 @@ use borrow.Author.Rules.{rules}
 use Rattle.whole_mosaic.proofs.put_legs.Statement.{statement}
 use Rattle.whole_mosaic.proofs.put_legs.Tie as tie
 
-abbrev invariant_loop : tie.invariant_loop
+abbrev invariant_loop : tie.invariant-loop-k
 invariant_loop p way tiles legs counts₀ times₀ decisions₀ nodes₀ ws₀ c₀ k₀ counts times decisions nodes ws c k =
     (k ≤ legs) × (length counts ≡ length counts₀) × (length times ≡ length times₀) × (length decisions ≡ length decisions₀) × (length nodes ≡ length nodes₀) × (length ws ≡ length ws₀)
     × Filling way p (tile_of tiles) c₀.momenta ws₀ k c counts₀ counts times₀ times decisions₀ decisions nodes₀ nodes ws
 
-abbrev decreases_loop : tie.decreases_loop
+abbrev decreases_loop : tie.decreases-loop-k
 decreases_loop p way tiles legs counts₀ times₀ decisions₀ nodes₀ ws₀ c₀ k₀ counts times decisions nodes ws c k = legs - k
 
-loop-holds : tie.Need-loop-init invariant_loop decreases_loop
-loop-holds c = (omega arith, refl, refl, refl, refl, refl, filling_first _ _ _ _ _ _ _ _ _ (start_own c.start.ensures))
+loop-holds : tie.Need-loop-k-init invariant_loop decreases_loop
+loop-holds c = (omega arith, refl, refl, refl, refl, refl, filling_first _ _ _ _ _ _ _ _ _ (start_own c.start-c.ensures))
 
-returns : tie.Need-returns invariant_loop decreases_loop
+returns : tie.Need-returns-in-Refused invariant_loop decreases_loop
 returns c =
     let made = c.before.before.before.before.before.before in
     let to = made.before.before in
     let from = to.before.before in
     let turn = from.before.before in
     let l = turn.before in
-    filled_from _ _ _ _ _ (ap (λ (x : Cursor). x.momenta) l.before.start.ensures)
-    (filling_cut _ _ _ _ _ l.loop.invariant.6 (omega (arith, turn.loop-test.true, l.before.before.before.requires.most)) from.quat-of.ensures to.quat-of2.ensures made.next.ensures c.enum_told.given.1 turn.loop-test.true)
+    filled_from _ _ _ _ _ (ap (λ (x : Cursor). x.momenta) l.before.start-c.ensures)
+    (filling_cut _ _ _ _ _ l.loop-k.invariant.6 (omega (arith, turn.loop-k-test.true, l.before.before.before.requires.most)) from.quat_of-from.ensures to.quat_of-to.ensures made.next-made.ensures c.enum_told-1.given.1 turn.loop-k-test.true)
 
-loop-again : tie.Need-loop-preserved invariant_loop decreases_loop
+loop-again : tie.Need-loop-k-preserved invariant_loop decreases_loop
 loop-again c =
     let told = c.before.before.before.before.before.before in
     let made = told.before.before.before.before.before.before in
@@ -40,23 +40,23 @@ loop-again c =
     let turn = from.before.before in
     let l = turn.before in
     let lent = l.before.before.before.requires in
-    let less = turn.loop-test.true in
-    let next = filling_next _ _ _ _ _ l.loop.invariant.6 (omega (arith, less, lent.most)) from.quat-of.ensures to.quat-of2.ensures made.next.ensures told.enum-told2.given.1 c.before.before.Counts-of.ensures c.before.times-of.ensures c.rows.ensures
+    let less = turn.loop-k-test.true in
+    let next = filling_next _ _ _ _ _ l.loop-k.invariant.6 (omega (arith, less, lent.most)) from.quat_of-from.ensures to.quat_of-to.ensures made.next-made.ensures told.enum_told-in-Going-1.given.1 c.before.before.counts_of-count.ensures c.before.times_of-time.ensures c.rows-node.ensures
     (omega (arith, less, lent.counts)) (omega (arith, less, lent.times)) (omega (arith, less, lent.decisions)) (omega (arith, less, lent.nodes)) in (
       omega (arith, less),
-      length-set l.loop.counts l.loop.k c.before.before.Counts-of.result ∙ l.loop.invariant.1,
-      length-set l.loop.times l.loop.k c.before.times-of.result ∙ l.loop.invariant.2,
-      length-set l.loop.decisions l.loop.k made.next.result.planned.path.z ∙ l.loop.invariant.3,
-      length-set l.loop.nodes l.loop.k c.rows.result ∙ l.loop.invariant.4,
+      length-set l.loop.counts l.loop.k c.before.before.counts_of-count.result ∙ l.loop-k.invariant.1,
+      length-set l.loop.times l.loop.k c.before.times_of-time.result ∙ l.loop-k.invariant.2,
+      length-set l.loop.decisions l.loop.k made.next-made.result.planned.path.z ∙ l.loop-k.invariant.3,
+      length-set l.loop.nodes l.loop.k c.rows-node.result ∙ l.loop-k.invariant.4,
       filling_size _ _ _ _ _ next,
       next,
     )
 
-returns_2 : tie.Need-returns-2 invariant_loop decreases_loop
+returns_2 : tie.Need-returns invariant_loop decreases_loop
 returns_2 c =
     let l = c.before in
-    let e : l.loop.k ≡ l.before.before.before.args.legs = omega (arith, c.loop-test.false, l.loop.invariant.0) in
-    filled_from _ _ _ _ _ (ap (λ (x : Cursor). x.momenta) l.before.start.ensures) (rw (← e) (filling_whole _ _ _ _ _ l.loop.invariant.6))
+    let e : l.loop.k ≡ l.before.before.before.args.legs = omega (arith, c.loop-k-test.false, l.loop-k.invariant.0) in
+    filled_from _ _ _ _ _ (ap (λ (x : Cursor). x.momenta) l.before.start-c.ensures) (rw (← e) (filling_whole _ _ _ _ _ l.loop-k.invariant.6))
 
 pub put_legs_spec : {M : Type 1} → statement M
 put_legs_spec =
@@ -85,16 +85,16 @@ put_legs_spec =
     (λ c κs. search rules)
     (λ c κs. search rules)
     (λ c κs. search rules)
-    (λ c. omega (arith, c.before.before.before.before.before.before.before.before.before.before.before.before.before.before.before.before.before.before.loop-test.true, c.before.before.before.before.before.before.before.before.before.before.before.before.before.before.before.before.before.before.before.before.before.before.requires.most))
-    (λ c. omega (arith, c.before.before.before.before.before.before.before.before.before.before.before.before.before.before.before.before.before.before.loop-test.true, c.before.before.before.before.before.before.before.before.before.before.before.before.before.before.before.before.before.before.before.before.before.before.requires.counts, c.before.before.before.before.before.before.before.before.before.before.before.before.before.before.before.before.before.before.before.loop.invariant.1))
-    (λ c. omega (arith, c.before.before.before.before.before.before.before.before.before.before.before.before.before.before.before.before.before.before.loop-test.true, c.before.before.before.before.before.before.before.before.before.before.before.before.before.before.before.before.before.before.before.before.before.before.requires.most))
-    (λ c. omega (arith, c.before.before.before.before.before.before.before.before.before.before.before.before.before.before.before.before.before.before.loop-test.true, c.before.before.before.before.before.before.before.before.before.before.before.before.before.before.before.before.before.before.before.before.before.before.requires.times, c.before.before.before.before.before.before.before.before.before.before.before.before.before.before.before.before.before.before.before.loop.invariant.2))
-    (λ c. omega (arith, c.before.before.before.before.before.before.before.before.before.before.before.before.before.before.before.before.before.before.loop-test.true, c.before.before.before.before.before.before.before.before.before.before.before.before.before.before.before.before.before.before.before.before.before.before.requires.most))
-    (λ c. omega (arith, c.before.before.before.before.before.before.before.before.before.before.before.before.before.before.before.before.before.before.loop-test.true, c.before.before.before.before.before.before.before.before.before.before.before.before.before.before.before.before.before.before.before.before.before.before.requires.decisions, c.before.before.before.before.before.before.before.before.before.before.before.before.before.before.before.before.before.before.before.loop.invariant.3))
-    (λ c. omega (arith, c.before.before.before.before.before.before.before.before.before.before.before.before.before.before.before.before.before.before.loop-test.true, c.before.before.before.before.before.before.before.before.before.before.before.before.before.before.before.before.before.before.before.before.before.before.requires.most))
-    (λ c. omega (arith, c.before.before.before.before.before.before.before.before.before.before.before.before.before.before.before.before.before.before.loop-test.true, c.before.before.before.before.before.before.before.before.before.before.before.before.before.before.before.before.before.before.before.before.before.before.requires.nodes, c.before.before.before.before.before.before.before.before.before.before.before.before.before.before.before.before.before.before.before.loop.invariant.4))
-    (λ c. omega (arith, c.before.before.before.before.before.before.before.before.before.before.before.before.before.before.before.before.before.before.loop-test.true, c.before.before.before.before.before.before.before.before.before.before.before.before.before.before.before.before.before.before.before.before.before.before.requires.most))
-    (λ c. omega (arith, c.before.before.before.before.before.before.before.before.before.before.before.before.before.before.before.before.before.before.loop-test.true, c.before.before.before.before.before.before.before.before.before.before.before.before.before.before.before.before.before.before.before.before.before.before.requires.most))
+    (λ c. omega (arith, c.before.before.before.before.before.before.before.before.before.before.before.before.before.before.before.before.before.before.loop-k-test.true, c.before.before.before.before.before.before.before.before.before.before.before.before.before.before.before.before.before.before.before.before.before.before.requires.most))
+    (λ c. omega (arith, c.before.before.before.before.before.before.before.before.before.before.before.before.before.before.before.before.before.before.loop-k-test.true, c.before.before.before.before.before.before.before.before.before.before.before.before.before.before.before.before.before.before.before.before.before.before.requires.counts, c.before.before.before.before.before.before.before.before.before.before.before.before.before.before.before.before.before.before.before.loop-k.invariant.1))
+    (λ c. omega (arith, c.before.before.before.before.before.before.before.before.before.before.before.before.before.before.before.before.before.before.loop-k-test.true, c.before.before.before.before.before.before.before.before.before.before.before.before.before.before.before.before.before.before.before.before.before.before.requires.most))
+    (λ c. omega (arith, c.before.before.before.before.before.before.before.before.before.before.before.before.before.before.before.before.before.before.loop-k-test.true, c.before.before.before.before.before.before.before.before.before.before.before.before.before.before.before.before.before.before.before.before.before.before.requires.times, c.before.before.before.before.before.before.before.before.before.before.before.before.before.before.before.before.before.before.before.loop-k.invariant.2))
+    (λ c. omega (arith, c.before.before.before.before.before.before.before.before.before.before.before.before.before.before.before.before.before.before.loop-k-test.true, c.before.before.before.before.before.before.before.before.before.before.before.before.before.before.before.before.before.before.before.before.before.before.requires.most))
+    (λ c. omega (arith, c.before.before.before.before.before.before.before.before.before.before.before.before.before.before.before.before.before.before.loop-k-test.true, c.before.before.before.before.before.before.before.before.before.before.before.before.before.before.before.before.before.before.before.before.before.before.requires.decisions, c.before.before.before.before.before.before.before.before.before.before.before.before.before.before.before.before.before.before.before.loop-k.invariant.3))
+    (λ c. omega (arith, c.before.before.before.before.before.before.before.before.before.before.before.before.before.before.before.before.before.before.loop-k-test.true, c.before.before.before.before.before.before.before.before.before.before.before.before.before.before.before.before.before.before.before.before.before.before.requires.most))
+    (λ c. omega (arith, c.before.before.before.before.before.before.before.before.before.before.before.before.before.before.before.before.before.before.loop-k-test.true, c.before.before.before.before.before.before.before.before.before.before.before.before.before.before.before.before.before.before.before.before.before.before.requires.nodes, c.before.before.before.before.before.before.before.before.before.before.before.before.before.before.before.before.before.before.before.loop-k.invariant.4))
+    (λ c. omega (arith, c.before.before.before.before.before.before.before.before.before.before.before.before.before.before.before.before.before.before.loop-k-test.true, c.before.before.before.before.before.before.before.before.before.before.before.before.before.before.before.before.before.before.before.before.before.before.requires.most))
+    (λ c. omega (arith, c.before.before.before.before.before.before.before.before.before.before.before.before.before.before.before.before.before.before.loop-k-test.true, c.before.before.before.before.before.before.before.before.before.before.before.before.before.before.before.before.before.before.before.before.before.before.requires.most))
     loop-again
     (λ c. search rules)
     (λ c. search rules)

@@ -5,15 +5,15 @@ use Rattle.actuators.specs.Prepare as Prepare
 use Rattle.actuators.proofs.checks.prepare.Statement.{statement}
 use Rattle.actuators.proofs.checks.prepare.Tie as tie
 
-returns : tie.Need-returns
+returns : tie.Need-returns-then-wheel_count-gt-MAX_WHEELS
 unfolding Prepare.prepare
-returns c = rw (lt-ltb _ _ c.before.if1.true) c.refused.ensures
+returns c = rw (lt-ltb _ _ c.before.if-wheel_count-gt-MAX_WHEELS.true) c.refused.ensures
 
-returns_2 : tie.Need-returns-2
+returns_2 : tie.Need-returns-then-thruster_count-gt-MAX_THRUSTERS
 unfolding Prepare.prepare
-returns_2 c = rw (le-ltb _ _ c.before.before.if1.false, lt-ltb _ _ c.before.if2.true) c.refused2.ensures
+returns_2 c = rw (le-ltb _ _ c.before.before.if-wheel_count-gt-MAX_WHEELS.false, lt-ltb _ _ c.before.if-thruster_count-gt-MAX_THRUSTERS.true) c.refused-then-thruster_count-gt-MAX_THRUSTERS.ensures
 
-returns_3 : tie.Need-returns-3
+returns_3 : tie.Need-returns
 unfolding Prepare.prepare Prepare.filled
 returns_3 c =
     let after-so-far = c.before.before.before in
@@ -21,14 +21,14 @@ returns_3 c =
     let branch2 = after-unfilled.before.before.before in
     let branch1 = branch2.before in
     rw (
-      le-ltb _ _ branch1.if1.false,
-      le-ltb _ _ branch2.if2.false,
+      le-ltb _ _ branch1.if-wheel_count-gt-MAX_WHEELS.false,
+      le-ltb _ _ branch2.if-thruster_count-gt-MAX_THRUSTERS.false,
       ← after-unfilled.unfilled.ensures,
-      ← after-so-far.so_far.ensures,
+      ← after-so-far.so_far-start.ensures,
       ← c.before.before.wheels_checked_law.ensures,
-      ← c.before.thrusters-checked.ensures,
+      ← c.before.thrusters_checked-thrusting.ensures,
     )
-    c.cmgs-turn.ensures
+    c.cmgs_turn.ensures
 
 pub prepare_spec : {M : Type 1} → statement M
 prepare_spec =

@@ -5,10 +5,10 @@ use lib.ListN.{length-set}
 use Rattle.actuators.proofs.checks.put_axis.Statement.{statement}
 use Rattle.actuators.proofs.checks.put_axis.Tie as tie
 
-slice-write-axes-2 : tie.Need-slice-write-axes-2
+slice-write-axes-2 : tie.Need-bounds-axes-k-2
 slice-write-axes-2 c = simp length-set (omega arith)
 
-slice-write-axes-3 : tie.Need-slice-write-axes-3
+slice-write-axes-3 : tie.Need-bounds-axes-k-3
 slice-write-axes-3 c = simp length-set (omega arith)
 
 pub put_axis_spec : {M : Type 1} → statement M

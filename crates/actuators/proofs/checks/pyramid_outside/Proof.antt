@@ -9,7 +9,7 @@ returns : tie.Need-returns
 unfolding Prepare.pyramid_outside Ieee.of_bits
 returns c =
     let outside = c.before.before.before.before.outside in
-    rw (c.outside4.ensures, c.before.outside3.ensures, c.before.before.outside2.ensures, outside.ensures)
+    rw (c.outside-4.ensures, c.before.outside-3.ensures, c.before.before.outside-2.ensures, outside.ensures)
 
 pub pyramid_outside_spec : {M : Type 1} → statement M
 pyramid_outside_spec = tie.close (tie.spec (λ c κs. search rules) (λ c κs. search rules) (λ c κs. search rules) (λ c κs. search rules) returns)

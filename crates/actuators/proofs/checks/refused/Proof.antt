@@ -4,7 +4,7 @@ use Rattle.actuators.proofs.checks.refused.Statement.{statement}
 use Rattle.actuators.proofs.checks.refused.Tie as tie
 
 returns : tie.Need-returns
-returns c = rw c.blank-map.ensures
+returns c = rw c.blank_map-map.ensures
 
 pub refused_spec : {M : Type 1} → statement M
 refused_spec = tie.close (tie.spec (λ c κs. search rules) returns)

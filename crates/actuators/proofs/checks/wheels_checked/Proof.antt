@@ -9,21 +9,21 @@ use borrow.Author.Rules.{rules}
 use Rattle.actuators.proofs.checks.wheels_checked.Statement.{statement}
 use Rattle.actuators.proofs.checks.wheels_checked.Tie as tie
 
-abbrev invariant_loop : tie.invariant_loop
-invariant_loop count wheels prepared₀ k₀ prepared k = (k ≤ count) × (prepared ≡ iter (Prepare.wheel_turn wheels) prepared₀ k)
+abbrev invariant_loop : tie.invariant-loop-k
+invariant_loop count wheels prepared₀ k₀ prepared k = (k ≤ count) × (prepared ≡ iter (Prepare.wheel_turn-prepared wheels) prepared₀ k)
 
-abbrev decreases_loop : tie.decreases_loop
+abbrev decreases_loop : tie.decreases-loop-k
 decreases_loop count wheels prepared₀ k₀ prepared k = count - k
 
-loop-holds : tie.Need-loop-init invariant_loop decreases_loop
+loop-holds : tie.Need-loop-k-init invariant_loop decreases_loop
 loop-holds c = (search rules, iter_none _ _)
 
-loop-again : tie.Need-loop-preserved invariant_loop decreases_loop
-loop-again c = (search rules, iter_next _ _ _ c.before.before.before.loop.invariant.1 c.wheel-turn.ensures)
+loop-again : tie.Need-loop-k-preserved invariant_loop decreases_loop
+loop-again c = (search rules, iter_next _ _ _ c.before.before.before.loop-k.invariant.1 c.wheel_turn-prepared.ensures)
 
 returns : tie.Need-returns invariant_loop decreases_loop
 unfolding Prepare.wheels_checked
-returns c = let e : c.before.loop.k ≡ c.before.before.args.count = omega arith in rw (← e) c.before.loop.invariant.1
+returns c = let e : c.before.loop-k.k ≡ c.before.before.args.count = omega arith in rw (← e) c.before.loop-k.invariant.1
 
 pub wheels_checked_spec : {M : Type 1} → statement M
 wheels_checked_spec =

@@ -7,14 +7,14 @@ use Rattle.actuators.specs.Prepare as Prepare
 use Rattle.actuators.proofs.checks.with_thruster.Statement.{statement}
 use Rattle.actuators.proofs.checks.with_thruster.Tie as tie
 
-put-axis-requires : tie.Need-put-axis-requires
+put-axis-requires : tie.Need-put_axis-requires
 put-axis-requires c κs =
     let entry = c.before.before.before.before.before.before in
-    let l : length entry.args.map.thruster_axes ≡ 36 = search rules in omega arith
+    let l : length entry.args.map.thruster_axes-1 ≡ 36 = search rules in omega arith
 
 returns : tie.Need-returns
 unfolding Prepare.with_thruster
-returns c = rw c.before.before.put-axis.ensures
+returns c = rw c.before.before.put_axis.ensures
 
 pub with_thruster_spec : {M : Type 1} → statement M
 with_thruster_spec = tie.close (tie.spec (λ c. search rules) put-axis-requires (λ c. search rules) (λ c. search rules) returns)

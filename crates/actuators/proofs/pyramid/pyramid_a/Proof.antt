@@ -4,15 +4,15 @@ use borrow.Author.Rules.{rules}
 use Rattle.actuators.proofs.pyramid.pyramid_a.Statement.{statement}
 use Rattle.actuators.proofs.pyramid.pyramid_a.Tie as tie
 
-returns : tie.Need-returns
+returns : tie.Need-returns-in-Outside
 unfolding Pyramid.pyramid_a
-returns c = rw (← c.before.before.before.sin-cos.ensures, c.before.enum_told.given.1) c.beyond.ensures
+returns c = rw (← c.before.before.before.sin_cos-pair.ensures, c.before.enum_told-1.given.1) c.beyond.ensures
 
-returns_2 : tie.Need-returns-2
+returns_2 : tie.Need-returns-in-Are
 unfolding Pyramid.pyramid_a
 returns_2 c =
-    let sin-cos = c.before.before.before.before.sin-cos in
-    rw (← sin-cos.ensures, c.before.before.pair.given.1) c.pyramid-from.ensures
+    let sin-cos = c.before.before.before.before.sin_cos-pair in
+    rw (← sin-cos.ensures, c.before.before.pair-1.given.1) c.pyramid_from.ensures
 
 pub pyramid_a_spec : {M : Type 1} → statement M
 pyramid_a_spec =

@@ -4,15 +4,15 @@ use borrow.Author.Rules.{rules}
 use Rattle.actuators.proofs.pyramid.pyramid_measure.Statement.{statement}
 use Rattle.actuators.proofs.pyramid.pyramid_measure.Tie as tie
 
-returns : tie.Need-returns
+returns : tie.Need-returns-in-Refused
 unfolding Pyramid.pyramid_measure
-returns c = rw (← c.before.before.before.pyramid-a.ensures, c.enum_told.given.1)
+returns c = rw (← c.before.before.before.pyramid_a-jacobian.ensures, c.enum_told-1.given.1)
 
-returns_2 : tie.Need-returns-2
+returns_2 : tie.Need-returns-in-Going
 unfolding Pyramid.pyramid_measure
 returns_2 c =
-    let pyramid-a = c.before.before.before.before.pyramid-a in
-    rw (← pyramid-a.ensures, c.before.enum-told2.given.1, c.singularity-of.ensures)
+    let pyramid-a = c.before.before.before.before.pyramid_a-jacobian in
+    rw (← pyramid-a.ensures, c.before.enum_told-in-Going-1.given.1, c.singularity_of.ensures)
 
 pub pyramid_measure_spec : {M : Type 1} → statement M
 pyramid_measure_spec = tie.close (tie.spec (λ c κs. search rules) (λ c. search rules) (λ c. search rules) (λ c κs. search rules) returns returns_2)

@@ -7,62 +7,62 @@ use Rattle.angles.proofs.ArcEnds.{run_kept, run_stops, run_goes, some_more}
 use Rattle.angles.proofs.arc.arc_terms.Statement.{statement}
 use Rattle.angles.proofs.arc.arc_terms.Tie as tie
 
-abbrev invariant_loop : tie.invariant_loop
+abbrev invariant_loop : tie.invariant-loop-n
 invariant_loop h from to a₀ n₀ a n =
     (n ≤ to) × ArcFits n a × (1 ≤ n) × ((s : ℕ) → ArcAt h s from a₀ → ((j : ℕ) → j < from → arc_part h s j ≡ 0 → ⊥) → ArcAt h s n a × ((j : ℕ) → j < n → arc_part h s j ≡ 0 → ⊥))
 
-abbrev decreases_loop : tie.decreases_loop
+abbrev decreases_loop : tie.decreases-loop-n
 decreases_loop h from to a₀ n₀ a n = to - n
 
-returns : tie.Need-returns invariant_loop decreases_loop
+returns : tie.Need-returns-then-start-ne0 invariant_loop decreases_loop
 returns c =
     let b = c.before.before in
-    (record { room = omega (arith, b.requires.3.room); small = omega (arith, mul-zero (2 * b.args.to + 1)) }, λ s r. run_kept b.args.h s b.requires.0 b.args.from b.args.to b.args.start b.requires.1 c.if1.true r)
+    (record { room = omega (arith, b.requires.3.room); small = omega (arith, mul-zero (2 * b.args.to + 1)) }, λ s r. run_kept b.args.h s b.requires.0 b.args.from b.args.to b.args.start b.requires.1 c.if-start-ne0.true r)
 
-loop-holds : tie.Need-loop-init invariant_loop decreases_loop
+loop-holds : tie.Need-loop-n-init invariant_loop decreases_loop
 loop-holds c = let b = c.before.before in (b.requires.1, b.requires.3, b.requires.4, λ s t f. (t, f))
 
-mul-if2 : tie.Need-overflow-mul-if2 invariant_loop decreases_loop
+mul-if2 : tie.Need-overflow_mul-n invariant_loop decreases_loop
 mul-if2 c = omega arith
 
-add-if2 : tie.Need-overflow-add-if2 invariant_loop decreases_loop
+add-if2 : tie.Need-overflow_add-n invariant_loop decreases_loop
 add-if2 c = omega arith
 
-add-t11 : tie.Need-overflow-add-t11 invariant_loop decreases_loop
+add-t11 : tie.Need-overflow_add-result invariant_loop decreases_loop
 add-t11 c = omega arith
 
 -- what the loop knows of s
-known : (c : tie.At-loop invariant_loop decreases_loop) (s : ℕ) → ArcRun c.before.before.before.args.h s c.before.before.before.args.from c.before.before.before.args.start → ArcAt c.before.before.before.args.h s c.loop.n c.loop.a × ((j : ℕ) → j < c.loop.n → arc_part c.before.before.before.args.h s j ≡ 0 → ⊥)
-known c s r = c.loop.invariant.3 s (record { summed = r.summed; next = r.next c.before.if1.false }) (r.going c.before.if1.false)
+known : (c : tie.At-loop-n invariant_loop decreases_loop) (s : ℕ) → ArcRun c.before.before.before.args.h s c.before.before.before.args.from c.before.before.before.args.start → ArcAt c.before.before.before.args.h s c.loop.n c.loop.a × ((j : ℕ) → j < c.loop.n → arc_part c.before.before.before.args.h s j ≡ 0 → ⊥)
+known c s r = c.loop-n.invariant.3 s (record { summed = r.summed; next = r.next c.before.if-start-ne0.false }) (r.going c.before.if-start-ne0.false)
 
-returns_2 : tie.Need-returns-2 invariant_loop decreases_loop
+returns_2 : tie.Need-returns-then-a-n invariant_loop decreases_loop
 returns_2 c =
     let l = c.before.before.before in
     let b = l.before.before.before in
-    (record { room = omega (arith, l.loop.invariant.1.room); small = omega (arith, mul-zero (2 * b.args.to + 1)) }, λ s r. let k = known l s r in run_stops b.args.h s b.requires.0 l.loop.n b.args.to l.loop.a c.before.before.loop-test.true b.requires.2 c.if2.true k.0 k.1)
+    (record { room = omega (arith, l.loop-n.invariant.1.room); small = omega (arith, mul-zero (2 * b.args.to + 1)) }, λ s r. let k = known l s r in run_stops b.args.h s b.requires.0 l.loop.n b.args.to l.loop.a c.before.before.loop-n-test.true b.requires.2 c.if-a-n.true k.0 k.1)
 
-arc-term-requires : tie.Need-arc-term-requires invariant_loop decreases_loop
-arc-term-requires c κs = let l = c.before.before.before in let b = l.before.before.before in (b.requires.0, omega arith, l.loop.invariant.1, l.loop.invariant.2)
+arc-term-requires : tie.Need-arc_term-a-requires invariant_loop decreases_loop
+arc-term-requires c κs = let l = c.before.before.before in let b = l.before.before.before in (b.requires.0, omega arith, l.loop-n.invariant.1, l.loop-n.invariant.2)
 
-add-n : tie.Need-overflow-add-n invariant_loop decreases_loop
+add-n : tie.Need-overflow_add-n-in-loop-n invariant_loop decreases_loop
 add-n c = omega arith
 
-loop-less : tie.Need-loop-smaller invariant_loop decreases_loop
+loop-less : tie.Need-loop-n-smaller invariant_loop decreases_loop
 loop-less c = omega arith
 
-loop-again : tie.Need-loop-preserved invariant_loop decreases_loop
+loop-again : tie.Need-loop-n-preserved invariant_loop decreases_loop
 loop-again c =
     let e = c.before in
     let l = e.before.before.before in
     let b = l.before.before.before in
-    (omega arith, c.arc-term.ensures.0, omega arith, λ s t f. let k = l.loop.invariant.3 s t f in (c.arc-term.ensures.1 s k.0, some_more b.args.h s b.requires.0 l.loop.n l.loop.a e.if2.false k.0 k.1))
+    (omega arith, c.arc_term-a.ensures.0, omega arith, λ s t f. let k = l.loop-n.invariant.3 s t f in (c.arc_term-a.ensures.1 s k.0, some_more b.args.h s b.requires.0 l.loop.n l.loop.a e.if-a-n.false k.0 k.1))
 
-returns_3 : tie.Need-returns-3 invariant_loop decreases_loop
+returns_3 : tie.Need-returns invariant_loop decreases_loop
 returns_3 c =
     let l = c.before in
     let b = l.before.before.before in
     let e : l.loop.n ≡ b.args.to = omega arith in
-    (subst (λ (n : ℕ). ArcFits n l.loop.a) e l.loop.invariant.1, λ s r. let k = known l s r in run_goes b.args.h s b.requires.0 b.args.to l.loop.a (subst (λ (n : ℕ). ArcAt b.args.h s n l.loop.a) e k.0) (subst (λ (n : ℕ). (j : ℕ) → j < n → arc_part b.args.h s j ≡ 0 → ⊥) e k.1))
+    (subst (λ (n : ℕ). ArcFits n l.loop.a) e l.loop-n.invariant.1, λ s r. let k = known l s r in run_goes b.args.h s b.requires.0 b.args.to l.loop.a (subst (λ (n : ℕ). ArcAt b.args.h s n l.loop.a) e k.0) (subst (λ (n : ℕ). (j : ℕ) → j < n → arc_part b.args.h s j ≡ 0 → ⊥) e k.1))
 
 pub arc_terms_spec : {M : Type 1} → statement M
 arc_terms_spec =

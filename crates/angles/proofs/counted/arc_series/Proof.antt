@@ -15,23 +15,23 @@ by : (w : Float) (b : Bool) → in_unit w ≡ b → cond b (Series.Ends (end_of 
 unfolding arc_series
 by w b e = ap (λ (b : Bool). cond b (Series.Ends (end_of (arc_at w)).sum (end_of (arc_at w)).terms) Series.None) (sym e)
 
-arc-ended-requires : tie.Need-arc-ended-requires
+arc-ended-requires : tie.Need-arc_ended-e-requires
 unfolding in_unit
-arc-ended-requires c κs = sym (and_yes _ _ c.before.if1.true) ∙ c.if2.true
+arc-ended-requires c κs = sym (and_yes _ _ c.before.if-w.true) ∙ c.if-w-2.true
 
-returns : tie.Need-returns
+returns : tie.Need-returns-then-w-2
 unfolding in_unit
 returns c =
     let t = c.before in
-    ap (λ (e : Ended). Series.Ends e.sum e.terms) c.arc-ended.ensures.0 ∙ by _ true (sym (and_yes _ _ t.before.if1.true) ∙ t.if2.true)
+    ap (λ (e : Ended). Series.Ends e.sum e.terms) c.arc_ended-e.ensures.0 ∙ by _ true (sym (and_yes _ _ t.before.if-w.true) ∙ t.if-w-2.true)
 
-returns_2 : tie.Need-returns-2
+returns_2 : tie.Need-returns-else-w-2
 unfolding in_unit
-returns_2 c = by _ false (sym (and_yes _ _ c.before.if1.true) ∙ c.if2.false)
+returns_2 c = by _ false (sym (and_yes _ _ c.before.if-w.true) ∙ c.if-w-2.false)
 
-returns_3 : tie.Need-returns-3
+returns_3 : tie.Need-returns-else-w
 unfolding in_unit
-returns_3 c = by _ false (sym (and_no _ _ c.if1.false))
+returns_3 c = by _ false (sym (and_no _ _ c.if-w.false))
 
 pub arc_series_spec : {M : Type 1} → statement M
 arc_series_spec = tie.close (tie.spec arc-ended-requires returns returns_2 returns_3)

@@ -7,23 +7,23 @@ use Rattle.angles.proofs.Answered.{both_series_by, sine_ends, cosine_ends}
 use Rattle.angles.proofs.counted.both_series.Statement.{statement}
 use Rattle.angles.proofs.counted.both_series.Tie as tie
 
-reduced-requires : tie.Need-reduced-requires
-reduced-requires c κs = sym c.before.before.region.ensures ∙ c.enum-told3.given.1
+reduced-requires : tie.Need-reduced-t-requires
+reduced-requires c κs = sym c.before.before.region-zone.ensures ∙ c.enum_told-in-Inside-1.given.1
 
-returns : tie.Need-returns
-returns c = both_series_by _ c.before.before.region.ensures c.enum_told.given.1
+returns : tie.Need-returns-in-Outside
+returns c = both_series_by _ c.before.before.region-zone.ensures c.enum_told-1.given.1
 
-returns_2 : tie.Need-returns-2
-returns_2 c = both_series_by _ c.before.before.region.ensures c.enum-told2.given.1
+returns_2 : tie.Need-returns-in-Tiny
+returns_2 c = both_series_by _ c.before.before.region-zone.ensures c.enum_told-in-Tiny-1.given.1
 
-returns_3 : tie.Need-returns-3
+returns_3 : tie.Need-returns-in-Inside
 returns_3 c =
     let d = c.before in
     let a = d.before in
     let z = a.before.before in
-    let t = d.reduced.ensures in
-    ap₂ (λ (i j : Ended). pair (series_by Zone.Inside i) (series_by Zone.Inside j)) (sine_ends t (λ b. (c.both-sizes.ensures b).0)) (cosine_ends t (λ b. (c.both-sizes.ensures b).1))
-    ∙ both_series_by _ z.region.ensures a.enum-told3.given.1
+    let t = d.reduced-t.ensures in
+    ap₂ (λ (i j : Ended). pair (series_by Zone.Inside i) (series_by Zone.Inside j)) (sine_ends t (λ b. (c.both_sizes-e.ensures b).0)) (cosine_ends t (λ b. (c.both_sizes-e.ensures b).1))
+    ∙ both_series_by _ z.region-zone.ensures a.enum_told-in-Inside-1.given.1
 
 pub both_series_spec : {M : Type 1} → statement M
 both_series_spec =

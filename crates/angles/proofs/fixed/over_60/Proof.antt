@@ -3,10 +3,10 @@ use Rattle.angles.proofs.Rounding.{upper_in, lower_in, over_60_law}
 use Rattle.angles.proofs.fixed.over_60.Statement.{statement}
 use Rattle.angles.proofs.fixed.over_60.Tie as tie
 
-int-to-float-result : tie.Need-int-to-float-result
+int-to-float-result : tie.Need-int_to_float-result
 int-to-float-result c = upper_in c.before.args.n c.before.ranges.n.fits
 
-int-to-float-result-2 : tie.Need-int-to-float-result-2
+int-to-float-result-2 : tie.Need-int_to_float-result-2
 int-to-float-result-2 c = lower_in c.before.before.args.n
 
 returns : tie.Need-returns

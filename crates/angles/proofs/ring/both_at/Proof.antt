@@ -16,11 +16,11 @@ returns c =
     let v = z.before in
     let s = v.before in
     let a = s.args in
-    let e = v.both-sizes.ensures false in
+    let e = v.both_sizes-sums.ensures false in
     let i = ap (λ (e : Ended). e.sum) e.0 ∙ sine_size a.u s.requires.1 in
     let k = ap (λ (e : Ended). e.sum) e.1 ∙ cosine_size a.u s.requires.1 in (
-      placed a.q a.below a.u s.requires.0 s.requires.1 n.negative-at.ensures (z.size_of.ensures a.u i k) f.to-float.ensures,
-      placed _ a.below a.u (next_four a.q) s.requires.1 n2.negative-at2.ensures (z2.size-of2.ensures a.u i k) c.to-float2.ensures,
+      placed a.q a.below a.u s.requires.0 s.requires.1 n.negative_at.ensures (z.size_of.ensures a.u i k) f.to_float.ensures,
+      placed _ a.below a.u (next_four a.q) s.requires.1 n2.negative_at-2.ensures (z2.size_of-2.ensures a.u i k) c.to_float-2.ensures,
     )
 
 pub both_at_spec : {M : Type 1} → statement M

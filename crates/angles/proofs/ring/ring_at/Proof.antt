@@ -9,7 +9,7 @@ returns c =
     let n = c.before in
     let z = n.before in
     let s = z.before in
-    placed s.args.q s.args.below s.args.u s.requires.0 s.requires.1 n.negative-at.ensures z.size-at.ensures c.to-float.ensures
+    placed s.args.q s.args.below s.args.u s.requires.0 s.requires.1 n.negative_at.ensures z.size_at.ensures c.to_float.ensures
 
 pub ring_at_spec : {M : Type 1} → statement M
 ring_at_spec = tie.close (tie.spec (λ c κs. search rules) (λ c κs. search rules) (λ c κs. search rules) returns)

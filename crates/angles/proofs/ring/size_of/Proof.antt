@@ -4,11 +4,11 @@ use Rattle.angles.proofs.Places.{even_size, odd_size}
 use Rattle.angles.proofs.ring.size_of.Statement.{statement}
 use Rattle.angles.proofs.ring.size_of.Tie as tie
 
-returns : tie.Need-returns
-returns c u s k = s ∙ even_size c.before.args.q u c.before.requires c.if1.true
+returns : tie.Need-returns-then-q-eq0
+returns c u s k = s ∙ even_size c.before.args.q u c.before.requires c.if-q-eq0.true
 
-returns_2 : tie.Need-returns-2
-returns_2 c u s k = k ∙ odd_size c.before.args.q u c.before.requires c.if1.false
+returns_2 : tie.Need-returns-else-q-eq0
+returns_2 c u s k = k ∙ odd_size c.before.args.q u c.before.requires c.if-q-eq0.false
 
 pub size_of_spec : {M : Type 1} → statement M
 size_of_spec = tie.close (tie.spec returns returns_2)

@@ -6,54 +6,54 @@ use Rattle.angles.proofs.Stages.{count_is}
 use Rattle.angles.proofs.series.cosine_size.Statement.{statement}
 use Rattle.angles.proofs.series.cosine_size.Tie as tie
 
-cosine-step-requires : tie.Need-cosine-step-requires
-cosine-step-requires c κs = (lit≤ tt, c.before.before.requires, c.before.square-of.ensures, c.cosine-start.ensures _)
+cosine-step-requires : tie.Need-cosine_step-p1-requires
+cosine-step-requires c κs = (lit≤ tt, c.before.before.requires, c.before.square_of-square.ensures, c.cosine_start-p0.ensures _)
 
-cosine-step-requires-2 : tie.Need-cosine-step-requires-2
-cosine-step-requires-2 c κs = (lit≤ tt, c.before.before.before.requires, c.before.before.square-of.ensures, c.cosine-step.ensures)
+cosine-step-requires-2 : tie.Need-cosine_step-p2-requires
+cosine-step-requires-2 c κs = (lit≤ tt, c.before.before.before.requires, c.before.before.square_of-square.ensures, c.cosine_step-p1.ensures)
 
-cosine-step-requires-3 : tie.Need-cosine-step-requires-3
+cosine-step-requires-3 : tie.Need-cosine_step-p3-requires
 cosine-step-requires-3 c κs =
     let entry = c.before.before.before.before in
-    (lit≤ tt, entry.requires, c.before.before.before.square-of.ensures, c.cosine-step2.ensures)
+    (lit≤ tt, entry.requires, c.before.before.before.square_of-square.ensures, c.cosine_step-p2.ensures)
 
-cosine-step-requires-4 : tie.Need-cosine-step-requires-4
+cosine-step-requires-4 : tie.Need-cosine_step-p4-requires
 cosine-step-requires-4 c κs =
     let entry = c.before.before.before.before.before in
-    let square-of = c.before.before.before.before.square-of in
-    (lit≤ tt, entry.requires, square-of.ensures, c.cosine-step3.ensures)
+    let square-of = c.before.before.before.before.square_of-square in
+    (lit≤ tt, entry.requires, square-of.ensures, c.cosine_step-p3.ensures)
 
-cosine-step-requires-5 : tie.Need-cosine-step-requires-5
+cosine-step-requires-5 : tie.Need-cosine_step-p5-requires
 cosine-step-requires-5 c κs =
     let entry = c.before.before.before.before.before.before in
-    let square-of = c.before.before.before.before.before.square-of in
-    (lit≤ tt, entry.requires, square-of.ensures, c.cosine-step4.ensures)
+    let square-of = c.before.before.before.before.before.square_of-square in
+    (lit≤ tt, entry.requires, square-of.ensures, c.cosine_step-p4.ensures)
 
-cosine-step-requires-6 : tie.Need-cosine-step-requires-6
+cosine-step-requires-6 : tie.Need-cosine_step-p6-requires
 cosine-step-requires-6 c κs =
     let entry = c.before.before.before.before.before.before.before in
-    let square-of = c.before.before.before.before.before.before.square-of in
-    (lit≤ tt, entry.requires, square-of.ensures, c.cosine-step5.ensures)
+    let square-of = c.before.before.before.before.before.before.square_of-square in
+    (lit≤ tt, entry.requires, square-of.ensures, c.cosine_step-p5.ensures)
 
-cosine-step-requires-7 : tie.Need-cosine-step-requires-7
+cosine-step-requires-7 : tie.Need-cosine_step-p7-requires
 cosine-step-requires-7 c κs =
     let entry = c.before.before.before.before.before.before.before.before in
-    let square-of = c.before.before.before.before.before.before.before.square-of in
-    (lit≤ tt, entry.requires, square-of.ensures, c.cosine-step6.ensures)
+    let square-of = c.before.before.before.before.before.before.before.square_of-square in
+    (lit≤ tt, entry.requires, square-of.ensures, c.cosine_step-p6.ensures)
 
-cosine-step-requires-8 : tie.Need-cosine-step-requires-8
+cosine-step-requires-8 : tie.Need-cosine_step-p8-requires
 cosine-step-requires-8 c κs =
     let entry = c.before.before.before.before.before.before.before.before.before in
-    let square-of = c.before.before.before.before.before.before.before.before.square-of in
-    (lit≤ tt, entry.requires, square-of.ensures, c.cosine-step7.ensures)
+    let square-of = c.before.before.before.before.before.before.before.before.square_of-square in
+    (lit≤ tt, entry.requires, square-of.ensures, c.cosine_step-p7.ensures)
 
 closed-requires : tie.Need-closed-requires
-closed-requires c κs = subst (λ (q : Stage). q.terms ≤ 9) (sym c.cosine-step8.ensures) (count_is 0 _ 8).within
+closed-requires c κs = subst (λ (q : Stage). q.terms ≤ 9) (sym c.cosine_step-p8.ensures) (count_is 0 _ 8).within
 
 returns : tie.Need-returns
 returns c =
     let h = c.before.before.before.before.before.before.before.before.before.before.before.requires in
-    let e = c.closed.ensures 0 _ h c.before.cosine-step8.ensures in
+    let e = c.closed.ensures 0 _ h c.before.cosine_step-p8.ensures in
     λ b. cosine_end b _ _ _ h e.sum e.terms
 
 pub cosine_size_spec : {M : Type 1} → statement M

@@ -4,7 +4,7 @@ use Rattle.angles.proofs.Division.{share_fits, as_product}
 use Rattle.angles.proofs.series.quotient.Statement.{statement}
 use Rattle.angles.proofs.series.quotient.Tie as tie
 
-add-high-product : tie.Need-overflow-add-high-product
+add-high-product : tie.Need-overflow_add-d
 add-high-product c = omega (arith, share_fits c.args.d c.requires.0)
 
 returns : tie.Need-returns

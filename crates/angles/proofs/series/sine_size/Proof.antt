@@ -6,54 +6,54 @@ use Rattle.angles.proofs.Stages.{count_is}
 use Rattle.angles.proofs.series.sine_size.Statement.{statement}
 use Rattle.angles.proofs.series.sine_size.Tie as tie
 
-sine-step-requires : tie.Need-sine-step-requires
-sine-step-requires c κs = (lit≤ tt, c.before.before.requires, c.before.square-of.ensures, c.sine-start.ensures)
+sine-step-requires : tie.Need-sine_step-p1-requires
+sine-step-requires c κs = (lit≤ tt, c.before.before.requires, c.before.square_of-square.ensures, c.sine_start-p0.ensures)
 
-sine-step-requires-2 : tie.Need-sine-step-requires-2
-sine-step-requires-2 c κs = (lit≤ tt, c.before.before.before.requires, c.before.before.square-of.ensures, c.sine-step.ensures)
+sine-step-requires-2 : tie.Need-sine_step-p2-requires
+sine-step-requires-2 c κs = (lit≤ tt, c.before.before.before.requires, c.before.before.square_of-square.ensures, c.sine_step-p1.ensures)
 
-sine-step-requires-3 : tie.Need-sine-step-requires-3
+sine-step-requires-3 : tie.Need-sine_step-p3-requires
 sine-step-requires-3 c κs =
     let entry = c.before.before.before.before in
-    (lit≤ tt, entry.requires, c.before.before.before.square-of.ensures, c.sine-step2.ensures)
+    (lit≤ tt, entry.requires, c.before.before.before.square_of-square.ensures, c.sine_step-p2.ensures)
 
-sine-step-requires-4 : tie.Need-sine-step-requires-4
+sine-step-requires-4 : tie.Need-sine_step-p4-requires
 sine-step-requires-4 c κs =
     let entry = c.before.before.before.before.before in
-    let square-of = c.before.before.before.before.square-of in
-    (lit≤ tt, entry.requires, square-of.ensures, c.sine-step3.ensures)
+    let square-of = c.before.before.before.before.square_of-square in
+    (lit≤ tt, entry.requires, square-of.ensures, c.sine_step-p3.ensures)
 
-sine-step-requires-5 : tie.Need-sine-step-requires-5
+sine-step-requires-5 : tie.Need-sine_step-p5-requires
 sine-step-requires-5 c κs =
     let entry = c.before.before.before.before.before.before in
-    let square-of = c.before.before.before.before.before.square-of in
-    (lit≤ tt, entry.requires, square-of.ensures, c.sine-step4.ensures)
+    let square-of = c.before.before.before.before.before.square_of-square in
+    (lit≤ tt, entry.requires, square-of.ensures, c.sine_step-p4.ensures)
 
-sine-step-requires-6 : tie.Need-sine-step-requires-6
+sine-step-requires-6 : tie.Need-sine_step-p6-requires
 sine-step-requires-6 c κs =
     let entry = c.before.before.before.before.before.before.before in
-    let square-of = c.before.before.before.before.before.before.square-of in
-    (lit≤ tt, entry.requires, square-of.ensures, c.sine-step5.ensures)
+    let square-of = c.before.before.before.before.before.before.square_of-square in
+    (lit≤ tt, entry.requires, square-of.ensures, c.sine_step-p5.ensures)
 
-sine-step-requires-7 : tie.Need-sine-step-requires-7
+sine-step-requires-7 : tie.Need-sine_step-p7-requires
 sine-step-requires-7 c κs =
     let entry = c.before.before.before.before.before.before.before.before in
-    let square-of = c.before.before.before.before.before.before.before.square-of in
-    (lit≤ tt, entry.requires, square-of.ensures, c.sine-step6.ensures)
+    let square-of = c.before.before.before.before.before.before.before.square_of-square in
+    (lit≤ tt, entry.requires, square-of.ensures, c.sine_step-p6.ensures)
 
-sine-step-requires-8 : tie.Need-sine-step-requires-8
+sine-step-requires-8 : tie.Need-sine_step-p8-requires
 sine-step-requires-8 c κs =
     let entry = c.before.before.before.before.before.before.before.before.before in
-    let square-of = c.before.before.before.before.before.before.before.before.square-of in
-    (lit≤ tt, entry.requires, square-of.ensures, c.sine-step7.ensures)
+    let square-of = c.before.before.before.before.before.before.before.before.square_of-square in
+    (lit≤ tt, entry.requires, square-of.ensures, c.sine_step-p7.ensures)
 
 closed-requires : tie.Need-closed-requires
-closed-requires c κs = subst (λ (q : Stage). q.terms ≤ 9) (sym c.sine-step8.ensures) (count_is 1 _ 8).within
+closed-requires c κs = subst (λ (q : Stage). q.terms ≤ 9) (sym c.sine_step-p8.ensures) (count_is 1 _ 8).within
 
 returns : tie.Need-returns
 returns c =
     let h = c.before.before.before.before.before.before.before.before.before.before.before.requires in
-    let e = c.closed.ensures 1 _ h c.before.sine-step8.ensures in
+    let e = c.closed.ensures 1 _ h c.before.sine_step-p8.ensures in
     λ b. sine_end b _ _ _ h e.sum e.terms
 
 pub sine_size_spec : {M : Type 1} → statement M

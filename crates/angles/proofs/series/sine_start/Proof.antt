@@ -6,11 +6,11 @@ use Rattle.angles.proofs.Stages.{tally_some}
 use Rattle.angles.proofs.series.sine_start.Statement.{statement}
 use Rattle.angles.proofs.series.sine_start.Tie as tie
 
-returns : tie.Need-returns
+returns : tie.Need-returns-then-u-eq0
 unfolding sum_of term_of count_of
-returns c = ap (λ (x : ℕ). record { sum = x; term = x; terms = tally x }) (sym c.if1.true)
+returns c = ap (λ (x : ℕ). record { sum = x; term = x; terms = tally x }) (sym c.if-u-eq0.true)
 
-returns_2 : tie.Need-returns-2
+returns_2 : tie.Need-returns-else-u-eq0
 unfolding sum_of term_of count_of
 returns_2 c = ap (λ (k : ℕ). record { sum = c.before.args.u; term = c.before.args.u; terms = k }) (tally_some c.before.args.u (omega arith))
 

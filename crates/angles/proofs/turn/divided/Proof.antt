@@ -5,43 +5,43 @@ use Rattle.angles.proofs.Division.{few_quarters, doubled}
 use Rattle.angles.proofs.turn.divided.Statement.{statement}
 use Rattle.angles.proofs.turn.divided.Tie as tie
 
-abbrev invariant_loop : tie.invariant_loop
+abbrev invariant_loop : tie.invariant-loop-i
 invariant_loop x n k₀ r₀ i₀ k r i = (x * 2 ^ i ≡ k * Q + r) × (r < Q) × (i ≤ n) × (k < 4096)
 
-abbrev decreases_loop : tie.decreases_loop
+abbrev decreases_loop : tie.decreases-loop-i
 decreases_loop x n k₀ r₀ i₀ k r i = n - i
 
-loop-holds : tie.Need-loop-init invariant_loop decreases_loop
+loop-holds : tie.Need-loop-i-init invariant_loop decreases_loop
 loop-holds c = (mul-one c.args.x ∙ sym (div-add-mod' c.args.x Q), mod-lt c.args.x (lit< tt), omega arith, omega arith)
 
-mul-k : tie.Need-overflow-mul-k invariant_loop decreases_loop
+mul-k : tie.Need-overflow_mul-k invariant_loop decreases_loop
 mul-k c = omega arith
 
-mul_r : tie.Need-overflow-mul-r invariant_loop decreases_loop
+mul_r : tie.Need-overflow_mul-r invariant_loop decreases_loop
 mul_r c = omega arith
 
-add-k : tie.Need-overflow-add-k invariant_loop decreases_loop
+add-k : tie.Need-overflow_add-k invariant_loop decreases_loop
 add-k c = omega arith
 
-add-i : tie.Need-overflow-add-i invariant_loop decreases_loop
+add-i : tie.Need-overflow_add-i invariant_loop decreases_loop
 add-i c = omega arith
 
-loop-less : tie.Need-loop-smaller invariant_loop decreases_loop
+loop-less : tie.Need-loop-i-smaller invariant_loop decreases_loop
 loop-less c = omega arith
 
-loop-again : tie.Need-loop-preserved invariant_loop decreases_loop
+loop-again : tie.Need-loop-i-preserved invariant_loop decreases_loop
 loop-again c =
     let a = c.before.before.before.args in
-    let i = c.before.before.loop.i in
+    let i = c.before.before.loop-i.i in
     let d : a.x * 2 ^ (i + 1) ≡ a.x * 2 ^ i * 2 = doubled a.x i in
-    let e : a.x * 2 ^ (i + 1) ≡ c.if1.k * Q + c.if1.r = ⊎_elim (λ w. omega arith) (λ w. omega arith) c.if1.branch in
-    (e, ⊎_elim (λ w. omega arith) (λ w. omega arith) c.if1.branch, omega arith, few_quarters a.x (i + 1) c.if1.k c.if1.r c.before.before.before.ranges.x.fits (omega arith) e)
+    let e : a.x * 2 ^ (i + 1) ≡ c.if-r-ge-QUARTER.k * Q + c.if-r-ge-QUARTER.r = ⊎_elim (λ w. omega arith) (λ w. omega arith) c.if-r-ge-QUARTER.branch in
+    (e, ⊎_elim (λ w. omega arith) (λ w. omega arith) c.if-r-ge-QUARTER.branch, omega arith, few_quarters a.x (i + 1) c.if-r-ge-QUARTER.k c.if-r-ge-QUARTER.r c.before.before.before.ranges.x.fits (omega arith) e)
 
 returns : tie.Need-returns invariant_loop decreases_loop
 returns c =
     let n = c.before.before.args.n in
-    let e : n ≡ c.before.loop.i = omega arith in
-    (ap (λ (j : ℕ). c.before.before.args.x * 2 ^ j) e ∙ c.before.loop.invariant.0, omega arith, omega arith)
+    let e : n ≡ c.before.loop-i.i = omega arith in
+    (ap (λ (j : ℕ). c.before.before.args.x * 2 ^ j) e ∙ c.before.loop-i.invariant.0, omega arith, omega arith)
 
 pub divided_spec : {M : Type 1} → statement M
 divided_spec =

@@ -9,37 +9,37 @@ abbrev x : tie.Start → Float
 x c = c.args.a
 
 held : (c : tie.Start) → T (fits binary64 (x c))
-held c = subst T (sym c.well-formed.0.1) tt
+held c = subst T (sym c.well_formed.0.1) tt
 
-float-to-bits-bits : tie.Need-float-to-bits-bits
+float-to-bits-bits : tie.Need-float_to_bits-bits
 float-to-bits-bits c =
     let s = c in
     is_no_nan (x s) (held s) s.requires.0 s.requires.1
 
-shr-divided : tie.Need-overflow-shr-divided
+shr-divided : tie.Need-overflow_shr-digits
 shr-divided c =
     let s = c.before in
     omega (arith, field_low (x s) (held s) s.requires.0 s.requires.1)
 
-returns : tie.Need-returns
+returns : tie.Need-returns-then-e-le1015
 returns c =
     let s = c.before.before in
-    (cut_down (x s) (held s) s.requires.0 s.requires.1 c.before.if1.true ∙ sym (mul-one _) ∙ c.divided.ensures.0, c.divided.ensures.1, c.divided.ensures.2)
+    (cut_down (x s) (held s) s.requires.0 s.requires.1 c.before.if-e-le1015.true ∙ sym (mul-one _) ∙ c.divided.ensures.0, c.divided.ensures.1, c.divided.ensures.2)
 
-returns_2 : tie.Need-returns-2
+returns_2 : tie.Need-returns-then-s-le10
 returns_2 c =
     let s = c.before.before.before in
-    (cut_up (x s) (held s) s.requires.0 s.requires.1 c.before.before.if1.false ∙ sym (no_loss (x s) (held s) s.requires.0 s.requires.1 _ c.before.if2.true) ∙ sym (mul-one _) ∙ c.divided2.ensures.0, c.divided2.ensures.1, c.divided2.ensures.2)
+    (cut_up (x s) (held s) s.requires.0 s.requires.1 c.before.before.if-e-le1015.false ∙ sym (no_loss (x s) (held s) s.requires.0 s.requires.1 _ c.before.if-s-le10.true) ∙ sym (mul-one _) ∙ c.divided-then-s-le10.ensures.0, c.divided-then-s-le10.ensures.1, c.divided-then-s-le10.ensures.2)
 
-divided-requires-3 : tie.Need-divided-requires-3
+divided-requires-3 : tie.Need-divided-requires-2
 divided-requires-3 c κs =
     let s = c.before.before in
     omega (arith, field_high (x s) (held s) s.requires.0 s.requires.1)
 
-returns_3 : tie.Need-returns-3
+returns_3 : tie.Need-returns
 returns_3 c =
     let s = c.before.before.before in
-    (cut_up (x s) (held s) s.requires.0 s.requires.1 c.before.before.if1.false ∙ in_steps (x s) (held s) s.requires.0 s.requires.1 c.before.if2.false ∙ ap (λ (n : ℕ). n * 2 ^ (to_bits binary64 (x s) / 2 ^ 52 - 1015 - 10)) (sym (no_loss (x s) (held s) s.requires.0 s.requires.1 10 (lit≤ tt))) ∙ c.divided3.ensures.0, c.divided3.ensures.1, c.divided3.ensures.2)
+    (cut_up (x s) (held s) s.requires.0 s.requires.1 c.before.before.if-e-le1015.false ∙ in_steps (x s) (held s) s.requires.0 s.requires.1 c.before.if-s-le10.false ∙ ap (λ (n : ℕ). n * 2 ^ (to_bits binary64 (x s) / 2 ^ 52 - 1015 - 10)) (sym (no_loss (x s) (held s) s.requires.0 s.requires.1 10 (lit≤ tt))) ∙ c.divided-2.ensures.0, c.divided-2.ensures.1, c.divided-2.ensures.2)
 
 pub split_spec : {M : Type 1} → statement M
 split_spec =

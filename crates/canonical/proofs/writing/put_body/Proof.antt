@@ -16,7 +16,7 @@ returns c =
     let args = first.before.before.before.args in
     let j = inertia_line args.inertia in
     let l = torques_line args.limit in
-    puts_most (omega arith) (puts_pieces (j ++ l) (slew_line args.slew) (puts_pieces j l first.put-inertia.ensures torques.put-torques.ensures) last.put-slew.ensures)
+    puts_most (omega arith) (puts_pieces (j ++ l) (slew_line args.slew) (puts_pieces j l first.put_inertia-i.ensures torques.put_torques-j.ensures) last.put_slew.ensures)
 
 pub put_body_spec : {M : Type 1} → statement M
 put_body_spec = tie.close (tie.spec (search rules) (search rules) (search rules) (search rules) returns)

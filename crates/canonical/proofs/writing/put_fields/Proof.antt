@@ -16,14 +16,14 @@ returns c =
     let limited = weighed.before.before.before.before in
     let turned = limited.before.before.before.before in
     let p = turned.before.before.before.before.before.before.before.before.args.p in
-    let turn = attitudes p.q0 p.qf in
-    let limits = body p.inertia p.torque_limit p.slew in
-    let costs = weights_line p.weights in
+    let turn = attitudes p.q0-1 p.qf-1 in
+    let limits = body p.inertia-1 p.torque_limit p.slew in
+    let costs = weights_line p.weights-1 in
     let tolerances = tolerances_line p.norm_tolerance p.tie_tolerance in
     puts_most (omega arith)
     (puts_pieces (turn ++ limits ++ costs) tolerances
-    (puts_pieces (turn ++ limits) costs (puts_pieces turn limits turned.put-attitudes.ensures limited.put-body.ensures) weighed.put-weights.ensures)
-    last.put-tolerances.ensures)
+    (puts_pieces (turn ++ limits) costs (puts_pieces turn limits turned.put_attitudes-i.ensures limited.put_body-j.ensures) weighed.put_weights-k.ensures)
+    last.put_tolerances.ensures)
 
 pub put_fields_spec : {M : Type 1} → statement M
 put_fields_spec = tie.close (tie.spec (search rules) (search rules) (search rules) (search rules) (search rules) returns)

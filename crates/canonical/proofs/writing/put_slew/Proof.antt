@@ -19,8 +19,8 @@ returns c =
     let tail = lit (bytes ")\n") in
     puts_most (omega arith)
     (puts_pieces (head ∷ limit slew ∷ []) (tail ∷ [])
-    (puts_pieces (head ∷ []) (limit slew ∷ []) (puts_piece head begun.put_all_lem.ensures) limited.put-limit.ensures)
-    (puts_piece tail last.put-all2.ensures))
+    (puts_pieces (head ∷ []) (limit slew ∷ []) (puts_piece head begun.put_all_lem.ensures) limited.put_limit-j.ensures)
+    (puts_piece tail last.put_all.ensures))
 
 pub put_slew_spec : {M : Type 1} → statement M
 put_slew_spec = tie.close (tie.spec (search rules) (search rules) (search rules) (search rules) (search rules) (search rules) returns)

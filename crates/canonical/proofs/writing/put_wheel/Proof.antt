@@ -17,12 +17,12 @@ returns c =
     let powered = last.before.before.before.before.before in
     let lined = powered.before.before.before.before in
     let w = lined.before.before.before.before.before.before.before.args.w in
-    let v = get_or w.axis 0 nan ∷ get_or w.axis 1 nan ∷ get_or w.axis 2 nan ∷ w.max_torque_nm ∷ w.max_momentum_nms ∷ [] in
+    let v = get_or w.axis-1 0 nan ∷ get_or w.axis-1 1 nan ∷ get_or w.axis-1 2 nan ∷ w.max_torque_nm ∷ w.max_momentum_nms ∷ [] in
     let numbers = line (bytes "\n  (wheel") v [] in
     let power = limit w.max_power_w ∷ [] in
     puts_most (omega arith)
     (puts_pieces (numbers ++ power) (lit (bytes ")") ∷ [])
-    (puts_pieces numbers power lined.put-line.ensures powered.put-limit.ensures)
+    (puts_pieces numbers power lined.put_line-i.ensures powered.put_limit-j.ensures)
     last.put_all_lem.ensures)
 
 pub put_wheel_spec : {M : Type 1} → statement M

@@ -9,23 +9,23 @@ use borrow.Author.Rules.{rules}
 use Rattle.canonical.proofs.writing.put_wheels.Statement.{statement}
 use Rattle.canonical.proofs.writing.put_wheels.Tie as tie
 
-abbrev invariant_loop : tie.invariant_loop
+abbrev invariant_loop : tie.invariant-loop-k
 invariant_loop b₀ at n wheels i₀ k₀ b i k = PutsFirst (λ j. entry_text (wheel (get_or wheels j no_wheel))) 112 n b₀ at k b i
 
-abbrev decreases_loop : tie.decreases_loop
+abbrev decreases_loop : tie.decreases-loop-k
 decreases_loop b₀ at n wheels i₀ k₀ b i k = n - k
 
-loop-again : tie.Need-loop-preserved invariant_loop decreases_loop
+loop-again : tie.Need-loop-k-preserved invariant_loop decreases_loop
 loop-again c =
     let put = c.before.before in
-    let l = put.before.before.before.before.loop in
-    first_next l.invariant (omega arith) put.put-wheel.ensures put.put-wheel.auto.0
+    let l = put.before.before.before.before.loop-k in
+    first_next l.invariant (omega arith) put.put_wheel-i.ensures put.put-wheel.auto.0
 
 returns : tie.Need-returns invariant_loop decreases_loop
 unfolding wheels_text
-returns c = first_all c.before.loop.invariant (omega arith)
+returns c = first_all c.before.loop-k.invariant (omega arith)
 
 pub put_wheels_spec : {M : Type 1} → statement M
 put_wheels_spec =
     tie.close
-    (tie.spec invariant_loop decreases_loop (λ c. first_none) (search rules) (search rules) (search rules) (search rules) (search rules) loop-again (λ c. c.before.loop.invariant.same) returns)
+    (tie.spec invariant_loop decreases_loop (λ c. first_none) (search rules) (search rules) (search rules) (search rules) (search rules) loop-again (λ c. c.before.loop-k.invariant.same) returns)

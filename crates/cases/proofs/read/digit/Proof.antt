@@ -4,19 +4,19 @@ use Rattle.cases.proofs.Digits.{digit_low, digit_decimal, digit_between, digit_l
 use Rattle.cases.proofs.read.digit.Statement.{statement}
 use Rattle.cases.proofs.read.digit.Tie as tie
 
-returns : tie.Need-returns
+returns : tie.Need-returns-in-48-to-57
 returns c = ap (λ x. x - 48) c.wide.ensures ∙ sym (digit_decimal _ (omega arith) (omega arith))
 
-returns_2 : tie.Need-returns-2
-returns_2 c = ap (λ x. x - 87) c.wide2.ensures ∙ sym (digit_letter _ (omega arith) (omega arith))
+returns_2 : tie.Need-returns-in-97-to-102
+returns_2 c = ap (λ x. x - 87) c.wide-in-97-to-102.ensures ∙ sym (digit_letter _ (omega arith) (omega arith))
 
-returns_3 : tie.Need-returns-3
+returns_3 : tie.Need-returns-in_default
 returns_3 c = sym (digit_low _ (omega arith))
 
-returns-4 : tie.Need-returns-4
+returns-4 : tie.Need-returns-in_default-2
 returns-4 c = sym (digit_between _ (omega arith) (omega arith))
 
-returns-5 : tie.Need-returns-5
+returns-5 : tie.Need-returns-in_default-3
 returns-5 c = sym (digit_high _ (omega arith))
 
 pub digit_spec : {M : Type 1} → statement M

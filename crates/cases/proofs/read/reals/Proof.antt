@@ -3,13 +3,13 @@ use Rattle.std.proofs.Common.{◌≡◌, ◌-◌, ◌≤◌, length, length-set,
 use Rattle.cases.proofs.read.reals.Statement.{statement}
 use Rattle.cases.proofs.read.reals.Tie as tie
 
-abbrev invariant_loop : tie.invariant_loop
+abbrev invariant_loop : tie.invariant-loop-i
 invariant_loop v k out₀ n i₀ out i = (i ≤ n) × (length out ≡ length out₀)
 
-abbrev decreases_loop : tie.decreases_loop
+abbrev decreases_loop : tie.decreases-loop-i
 decreases_loop v k out₀ n i₀ out i = n - i
 
-loop-again : tie.Need-loop-preserved invariant_loop decreases_loop
+loop-again : tie.Need-loop-i-preserved invariant_loop decreases_loop
 loop-again c = (search rules, simp length-set (search rules))
 
 pub reals_spec : {M : Type 1} → statement M

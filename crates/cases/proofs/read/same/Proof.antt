@@ -4,14 +4,14 @@ use Rattle.cases.proofs.Floats.{equals_itself, by_bits, by_nan}
 use Rattle.cases.proofs.read.same.Statement.{statement}
 use Rattle.cases.proofs.read.same.Tie as tie
 
-float-to-bits-result : tie.Need-float-to-bits-result
-float-to-bits-result c = equals_itself _ c.if1.true
+float-to-bits-result : tie.Need-float_to_bits-result
+float-to-bits-result c = equals_itself _ c.if-x.true
 
-returns : tie.Need-returns
-returns c = by_bits _ _ _ c.before.at.ensures c.if1.true
+returns : tie.Need-returns-then-x
+returns c = by_bits _ _ _ c.before.at-w.ensures c.if-x.true
 
-returns_2 : tie.Need-returns-2
-returns_2 c = by_nan _ _ _ c.before.before.at.ensures c.before.if1.false _ c.Real-of.ensures
+returns_2 : tie.Need-returns
+returns_2 c = by_nan _ _ _ c.before.before.at-w.ensures c.before.if-x.false _ c.real_of-y.ensures
 
 pub same_spec : {M : Type 1} → statement M
 same_spec = tie.close (tie.spec (λ c κs. search rules) float-to-bits-result returns (λ c κs. search rules) returns_2)

@@ -5,23 +5,23 @@ use Rattle.cases.proofs.Taking.{shut, past, by_digit, by_other}
 use Rattle.cases.proofs.read.taken.Statement.{statement}
 use Rattle.cases.proofs.read.taken.Tie as tie
 
-returns : tie.Need-returns
-returns c = shut _ _ c.if1.true
+returns : tie.Need-returns-then-not-w
+returns c = shut _ _ c.if-not-w.true
 
-returns_2 : tie.Need-returns-2
-returns_2 c = past _ _ c.before.if1.false c.if2.true
+returns_2 : tie.Need-returns-then-at-s
+returns_2 c = past _ _ c.before.if-not-w.false c.if-at-s.true
 
-returns_3 : tie.Need-returns-3
+returns_3 : tie.Need-returns-then-d-lt16
 returns_3 c =
     let read = c.before.before.before in
-    let is = c.before.before.digit.ensures ∙ ap digit read.byte.ensures in
-    by_digit _ _ read.before.before.if1.false read.before.if2.false _ is c.before.if3.true
+    let is = c.before.before.digit-d.ensures ∙ ap digit read.byte.ensures in
+    by_digit _ _ read.before.before.if-not-w.false read.before.if-at-s.false _ is c.before.if-d-lt16.true
 
-returns-4 : tie.Need-returns-4
+returns-4 : tie.Need-returns
 returns-4 c =
     let read = c.before.before in
-    let is = c.before.digit.ensures ∙ ap digit read.byte.ensures in
-    by_other _ _ read.before.before.if1.false read.before.if2.false _ is c.if3.false
+    let is = c.before.digit-d.ensures ∙ ap digit read.byte.ensures in
+    by_other _ _ read.before.before.if-not-w.false read.before.if-at-s.false _ is c.if-d-lt16.false
 
 pub taken_spec : {M : Type 1} → statement M
 taken_spec =

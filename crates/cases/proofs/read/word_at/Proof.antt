@@ -6,21 +6,21 @@ use Rattle.cases.specs.Words.{taken, word_at}
 use Rattle.cases.proofs.read.word_at.Statement.{statement}
 use Rattle.cases.proofs.read.word_at.Tie as tie
 
-abbrev invariant_loop : tie.invariant_loop
+abbrev invariant_loop : tie.invariant-loop-k
 invariant_loop s at w₀ k₀ w k = (k ≤ 17) × (w ≡ iter (λ j. taken s) (record { value = 0; next = at; going = true }) k)
 
-abbrev decreases_loop : tie.decreases_loop
+abbrev decreases_loop : tie.decreases-loop-k
 decreases_loop s at w₀ k₀ w k = 17 - k
 
-loop-holds : tie.Need-loop-init invariant_loop decreases_loop
+loop-holds : tie.Need-loop-k-init invariant_loop decreases_loop
 loop-holds c = (omega arith, iter_none _ _)
 
-loop-again : tie.Need-loop-preserved invariant_loop decreases_loop
-loop-again c = (omega arith, iter_next _ _ _ c.before.before.loop.invariant.1 c.taken.ensures)
+loop-again : tie.Need-loop-k-preserved invariant_loop decreases_loop
+loop-again c = (omega arith, iter_next _ _ _ c.before.before.loop-k.invariant.1 c.taken-w.ensures)
 
 returns : tie.Need-returns invariant_loop decreases_loop
 unfolding word_at
-returns c = let l = c.before.loop in let e : l.k ≡ 17 = omega arith in l.invariant.1 ∙ ap (iter _ _) e
+returns c = let l = c.before.loop-k in let e : l.k ≡ 17 = omega arith in l.invariant.1 ∙ ap (iter _ _) e
 
 pub word_at_spec : {M : Type 1} → statement M
 word_at_spec =

@@ -3,10 +3,10 @@ use Rattle.std.proofs.Common.{◌-◌, ◌≤◌, arith, rules}
 use Rattle.cases.proofs.read.words.Statement.{statement}
 use Rattle.cases.proofs.read.words.Tie as tie
 
-abbrev invariant_loop : tie.invariant_loop
+abbrev invariant_loop : tie.invariant-loop-i
 invariant_loop s at count out₀ i₀ next₀ out i next = i ≤ 1024
 
-abbrev decreases_loop : tie.decreases_loop
+abbrev decreases_loop : tie.decreases-loop-i
 decreases_loop s at count out₀ i₀ next₀ out i next = 1024 - i
 
 pub words_spec : {M : Type 1} → statement M

@@ -9,30 +9,30 @@ use borrow.Author.Rules.{rules}
 use Rattle.drive_numbers.proofs.lists.put_rows.Statement.{statement}
 use Rattle.drive_numbers.proofs.lists.put_rows.Tie as tie
 
-abbrev invariant_loop : tie.invariant_loop
+abbrev invariant_loop : tie.invariant-loop-k
 invariant_loop inertia tolerance duration nodes requested alpha count out₀ k₀ out k = (k ≤ count) × (length out ≡ length out₀) × Going (drive_sample inertia tolerance duration nodes requested alpha) k out₀ out
 
-abbrev decreases_loop : tie.decreases_loop
+abbrev decreases_loop : tie.decreases-loop-k
 decreases_loop inertia tolerance duration nodes requested alpha count out₀ k₀ out k = count - k
 
-loop-holds : tie.Need-loop-init invariant_loop decreases_loop
+loop-holds : tie.Need-loop-k-init invariant_loop decreases_loop
 loop-holds c = (omega arith, refl, goes_first _ _)
 
-returns : tie.Need-returns invariant_loop decreases_loop
+returns : tie.Need-returns-in-Refused invariant_loop decreases_loop
 returns c =
     let driven = c.before.before.before.before in
-    let l = driven.before.before.loop in
-    goes_cut _ l.invariant.2 driven.drive-sample.ensures (omega arith) c.before.fate.given.1
+    let l = driven.before.before.loop-k in
+    goes_cut _ l.invariant.2 driven.drive_sample-d.ensures (omega arith) c.before.fate-1.given.1
 
-loop-again : tie.Need-loop-preserved invariant_loop decreases_loop
+loop-again : tie.Need-loop-k-preserved invariant_loop decreases_loop
 loop-again c =
     let driven = c.before.before.before in
-    let l = driven.before.before.loop in
+    let l = driven.before.before.loop-k in
     let start = driven.before.before.before in
-    (omega arith, length-set l.out l.k driven.drive-sample.result.numbers ∙ l.invariant.1, goes_next _ l.invariant.2 driven.drive-sample.ensures (omega (arith, start.requires)) c.enum_told.given.1)
+    (omega arith, length-set l.out l.k driven.drive_sample-d.result.numbers ∙ l.invariant.1, goes_next _ l.invariant.2 driven.drive_sample-d.ensures (omega (arith, start.requires)) c.enum_told-1.given.1)
 
-returns_2 : tie.Need-returns-2 invariant_loop decreases_loop
-returns_2 c = let e : c.before.loop.k ≡ c.before.before.args.count = omega arith in rw (← e) (goes_whole _ c.before.loop.invariant.2)
+returns_2 : tie.Need-returns invariant_loop decreases_loop
+returns_2 c = let e : c.before.loop-k.k ≡ c.before.before.args.count = omega arith in rw (← e) (goes_whole _ c.before.loop-k.invariant.2)
 
 pub put_rows_spec : {M : Type 1} → statement M
 put_rows_spec =

@@ -10,14 +10,14 @@ use native.Mathlib.Omega.{arith}
 use Rattle.elimination.proofs.columns.take_right.Statement.{statement}
 use Rattle.elimination.proofs.columns.take_right.Tie as tie
 
-abbrev invariant_loop : tie.invariant_loop
+abbrev invariant_loop : tie.invariant-loop-i
 invariant_loop b₀ col k y i₀ b i = (i ≤ length b₀) × (length b ≡ length b₀) × (Filled (λ x. sub binary64 (at b₀ x) (mul binary64 (at col x) (at b₀ k))) 0 i (at b₀) (at b))
 
-abbrev decreases_loop : tie.decreases_loop
+abbrev decreases_loop : tie.decreases-loop-i
 decreases_loop b₀ col k y i₀ b i = length b₀ - i
 
-loop-again : tie.Need-loop-preserved invariant_loop decreases_loop
-loop-again c = let l = c.before.before.before.loop in
+loop-again : tie.Need-loop-i-preserved invariant_loop decreases_loop
+loop-again c = let l = c.before.before.before.loop-i in
     let a = c.before.before.before.before.before.args in (
       omega arith,
       simp length-set (omega arith),
@@ -26,7 +26,7 @@ loop-again c = let l = c.before.before.before.loop in
     )
 
 returns : tie.Need-returns invariant_loop decreases_loop
-returns c = let l = c.before.loop in
+returns c = let l = c.before.loop-i in
     let a = c.before.before.before.args in
     let e : l.i ≡ length a.b.now = omega arith in
     right_put a.b.now l.b a.col.now a.k (omega arith) l.invariant.1 (rw e at l.invariant.2)

@@ -10,19 +10,19 @@ use native.Mathlib.Omega.{arith}
 use Rattle.elimination.proofs.pivots.column_at.Statement.{statement}
 use Rattle.elimination.proofs.pivots.column_at.Tie as tie
 
-abbrev invariant_loop : tie.invariant_loop
+abbrev invariant_loop : tie.invariant-loop-i
 invariant_loop col₀ a k n i₀ col i = (i ≤ length col₀) × (length col ≡ length col₀) × (Filled (λ x. at a (x * length col₀ + k)) 0 i (at col₀) (at col))
 
-abbrev decreases_loop : tie.decreases_loop
+abbrev decreases_loop : tie.decreases-loop-i
 decreases_loop col₀ a k n i₀ col i = length col₀ - i
 
-loop-again : tie.Need-loop-preserved invariant_loop decreases_loop
-loop-again c = let l = c.before.before.loop in
+loop-again : tie.Need-loop-i-preserved invariant_loop decreases_loop
+loop-again c = let l = c.before.before.loop-i in
     let a = c.before.before.before.args in
     (omega arith, simp length-set (omega arith), filled_set _ 0 l.i a.col.now l.col _ (omega arith) (omega arith) l.invariant.2 refl)
 
 returns : tie.Need-returns invariant_loop decreases_loop
-returns c i h = let l = c.before.loop in
+returns c i h = let l = c.before.loop-i in
     let a = c.before.before.args in
     let n : ℕ = length a.col.now in
     l.invariant.2.done i (omega arith) (omega arith) ∙ sym (cell_rows n n a.a.now i a.k h (omega arith))
@@ -34,10 +34,10 @@ column_at_spec =
     invariant_loop
     decreases_loop
     (λ c. (omega arith, refl, filled_none _ _ _))
-    (λ c. let a = c.before.before.args in omega (arith, row_end c.before.loop.i (length a.col.now) (length a.col.now) (omega arith)))
-    (λ c. let a = c.before.before.args in omega (arith, row_end c.before.loop.i (length a.col.now) (length a.col.now) (omega arith)))
-    (λ c. let a = c.before.before.args in omega (arith, row_end c.before.loop.i (length a.col.now) (length a.col.now) (omega arith)))
-    (λ c. let a = c.before.before.before.args in omega (arith, row_end c.before.before.loop.i (length a.col.now) (length a.col.now) (omega arith)))
+    (λ c. let a = c.before.before.args in omega (arith, row_end c.before.loop-i.i (length a.col.now) (length a.col.now) (omega arith)))
+    (λ c. let a = c.before.before.args in omega (arith, row_end c.before.loop-i.i (length a.col.now) (length a.col.now) (omega arith)))
+    (λ c. let a = c.before.before.args in omega (arith, row_end c.before.loop-i.i (length a.col.now) (length a.col.now) (omega arith)))
+    (λ c. let a = c.before.before.before.args in omega (arith, row_end c.before.before.loop-i.i (length a.col.now) (length a.col.now) (omega arith)))
     (λ c. omega arith)
     (λ c. omega arith)
     (λ c. omega arith)

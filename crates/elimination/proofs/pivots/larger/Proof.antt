@@ -7,16 +7,16 @@ use borrow.Author.Rules.{rules}
 use Rattle.elimination.proofs.pivots.larger.Statement.{statement}
 use Rattle.elimination.proofs.pivots.larger.Tie as tie
 
-returns : tie.Need-returns
+returns : tie.Need-returns-then-mag-best
 returns c = let a = c.before.before.before.before.args in
-    let m = c.before.before.abs.ensures ∙ c.before.before.before.positive.ensures in
-    let e : lt a.best.size (Ops.abs a.x) ≡ true = rw m at c.if1.true in
+    let m = c.before.before.abs-mag.ensures ∙ c.before.before.before.positive.ensures in
+    let e : lt a.best.size (Ops.abs-mag a.x) ≡ true = rw m at c.if-mag-best.true in
     (rw e, rw e m)
 
-returns_2 : tie.Need-returns-2
+returns_2 : tie.Need-returns
 returns_2 c = let a = c.before.before.before.before.args in
-    let m = c.before.before.abs.ensures ∙ c.before.before.before.positive.ensures in
-    let e : lt a.best.size (Ops.abs a.x) ≡ false = rw m at c.if1.false in
+    let m = c.before.before.abs-mag.ensures ∙ c.before.before.before.positive.ensures in
+    let e : lt a.best.size (Ops.abs-mag a.x) ≡ false = rw m at c.if-mag-best.false in
     (rw e, rw e)
 
 pub larger_spec : {M : Type 1} → statement M

@@ -15,13 +15,13 @@ use borrow.Author.Rules.{rules}
 use Rattle.elimination.proofs.rows.elim_row.Statement.{statement}
 use Rattle.elimination.proofs.rows.elim_row.Tie as tie
 
-returns_2 : tie.Need-returns-2
+returns_2 : tie.Need-returns
 unfolding Elimination.less
 returns_2 c =
-    let if1 = c.before.before.before.before.before.if1 in
+    let if1 = c.before.before.before.before.before.if-i-k in
     let a = c.before.before.before.before.before.before.before.before.args in
     let n : ℕ = length a.top.now in
-    let v : List Float = a.a.now in
+    let v : List Float = a.a-1.now in
     let s : ℕ = a.i * n in
     let t = c.before.before.take_row in
     let r : List Float = row n v a.i in
@@ -39,7 +39,7 @@ pub elim_row_spec : {M : Type 1} → statement M
 elim_row_spec =
     tie.close
     (tie.spec
-    (λ c. record { own = simp (eq-eqb _ _ c.if1.true); others = λ x ne. refl })
+    (λ c. record { own = simp (eq-eqb _ _ c.if-i-k.true); others = λ x ne. refl })
     (λ c. search rules)
     (λ c. search rules)
     (λ c. search rules)

@@ -14,17 +14,17 @@ use native.Mathlib.Omega.{arith}
 use Rattle.elimination.proofs.rows.eliminate.Statement.{statement}
 use Rattle.elimination.proofs.rows.eliminate.Tie as tie
 
-abbrev invariant_loop : tie.invariant_loop
+abbrev invariant_loop : tie.invariant-loop-i
 invariant_loop a₀ top k n i₀ a i = (i ≤ length top) × (length a ≡ length a₀) × (Filled (λ x. Elimination.eliminated_row (length top) k top x (row (length top) a₀ x)) 0 i (row (length top) a₀) (row (length top) a))
 
-abbrev decreases_loop : tie.decreases_loop
+abbrev decreases_loop : tie.decreases-loop-i
 decreases_loop a₀ top k n i₀ a i = length top - i
 
-loop-again : tie.Need-loop-preserved invariant_loop decreases_loop
+loop-again : tie.Need-loop-i-preserved invariant_loop decreases_loop
 loop-again c = let a = c.before.before.before.before.before.before.before.before.args in
-    let l = c.before.before.before.before.before.loop in
+    let l = c.before.before.before.before.before.loop-i in
     let n : ℕ = length a.top.now in
-    let f = c.before.before.elim-row in (
+    let f = c.before.before.elim_row in (
       omega arith,
       omega (arith, f.auto.0),
       filled_more _ 0 l.i _ _ _ (omega arith) l.invariant.2
@@ -35,10 +35,10 @@ returns : tie.Need-returns invariant_loop decreases_loop
 unfolding Elimination.eliminate
 returns c =
     let entry = c.before.before.before.before in
-    let l = c.before.loop in
+    let l = c.before.loop-i in
     let a = entry.args in
     let n : ℕ = length a.top.now in
-    let v : List Float = a.a.now in
+    let v : List Float = a.a-1.now in
     tab_same n _ _ (λ x h. l.invariant.2.done x (omega arith) (omega arith)
     ∙ ap (λ t. Elimination.eliminated_row n a.k t x (row n v x)) (entry.requires.2 ∙ sym (line_rows n n v a.k (omega arith)))
     ∙ ap (λ r. Elimination.eliminated_row n a.k (get_or (rows n n v) a.k []) x r) (sym (line_rows n n v x h)))
@@ -50,7 +50,7 @@ eliminate_spec =
     invariant_loop
     decreases_loop
     (λ c. (omega arith, refl, filled_none _ _ _))
-    (λ c κs. let a = c.before.before.before.before.before.args in (omega arith, omega (arith, row_end c.before.before.loop.i (length a.top.now) (length a.top.now) (omega arith))))
+    (λ c κs. let a = c.before.before.before.before.before.args in (omega arith, omega (arith, row_end c.before.before.loop-i.i (length a.top.now) (length a.top.now) (omega arith))))
     (λ c. omega arith)
     (λ c. omega arith)
     loop-again

@@ -11,16 +11,16 @@ use native.Mathlib.Omega.{arith}
 use Rattle.elimination.proofs.rows.eliminate_two.Statement.{statement}
 use Rattle.elimination.proofs.rows.eliminate_two.Tie as tie
 
-abbrev invariant_loop : tie.invariant_loop
+abbrev invariant_loop : tie.invariant-loop-i
 invariant_loop a₀ t u k n i₀ a i = (i ≤ length t) × (length a ≡ length a₀) × (Filled (λ x. Inner.two_row (length t) k t u x (row (length t) a₀ x)) 0 i (row (length t) a₀) (row (length t) a))
 
-abbrev decreases_loop : tie.decreases_loop
+abbrev decreases_loop : tie.decreases-loop-i
 decreases_loop a₀ t u k n i₀ a i = length t - i
 
-loop-again : tie.Need-loop-preserved invariant_loop decreases_loop
+loop-again : tie.Need-loop-i-preserved invariant_loop decreases_loop
 loop-again c = let a = c.before.before.before.before.before.before.before.before.before.args in
-    let l = c.before.before.before.before.before.loop in
-    let f = c.before.before.two-row in (
+    let l = c.before.before.before.before.before.loop-i in
+    let f = c.before.before.two_row in (
       omega arith,
       omega (arith, f.auto.0),
       filled_more _ 0 l.i _ _ _ (omega arith) l.invariant.2
@@ -29,7 +29,7 @@ loop-again c = let a = c.before.before.before.before.before.before.before.before
 
 returns : tie.Need-returns invariant_loop decreases_loop
 unfolding Inner.eliminate_two
-returns c = let l = c.before.loop in
+returns c = let l = c.before.loop-i in
     let a = c.before.before.before.before.before.args in
     tab_same (length a.t.now) _ _ (λ x h. l.invariant.2.done x (omega arith) (omega arith))
 
@@ -40,7 +40,7 @@ eliminate_two_spec =
     invariant_loop
     decreases_loop
     (λ c. (omega arith, refl, filled_none _ _ _))
-    (λ c κs. let a = c.before.before.before.before.before.before.args in (omega arith, omega arith, omega (arith, row_end c.before.before.loop.i (length a.t.now) (length a.t.now) (omega arith))))
+    (λ c κs. let a = c.before.before.before.before.before.before.args in (omega arith, omega arith, omega (arith, row_end c.before.before.loop-i.i (length a.t.now) (length a.t.now) (omega arith))))
     (λ c. omega arith)
     (λ c. omega arith)
     loop-again

@@ -12,14 +12,14 @@ use native.Mathlib.Omega.{arith}
 use Rattle.elimination.proofs.rows.take_row.Statement.{statement}
 use Rattle.elimination.proofs.rows.take_row.Tie as tie
 
-abbrev invariant_loop : tie.invariant_loop
+abbrev invariant_loop : tie.invariant-loop-j
 invariant_loop row₀ top f k j₀ row j = (k ≤ j) × (j ≤ length row₀) × (length row ≡ length row₀) × (Filled (Elimination.less_at k f top row₀) k j (at row₀) (at row))
 
-abbrev decreases_loop : tie.decreases_loop
+abbrev decreases_loop : tie.decreases-loop-j
 decreases_loop row₀ top f k j₀ row j = length row₀ - j
 
-loop-again : tie.Need-loop-preserved invariant_loop decreases_loop
-loop-again c = let l = c.before.before.before.loop in
+loop-again : tie.Need-loop-j-preserved invariant_loop decreases_loop
+loop-again c = let l = c.before.before.before.loop-j in
     let a = c.before.before.before.before.args in (
       omega arith,
       omega arith,
@@ -30,7 +30,7 @@ loop-again c = let l = c.before.before.before.loop in
 
 returns : tie.Need-returns invariant_loop decreases_loop
 unfolding Elimination.less
-returns c = let l = c.before.loop in
+returns c = let l = c.before.loop-j in
     let a = c.before.before.args in
     let v : List Float = a.row.now in
     let e : l.j ≡ length v = omega arith in

@@ -12,14 +12,14 @@ use Rattle.elimination.proofs.rows.take_two.Statement.{statement}
 use Rattle.elimination.proofs.rows.take_two.Tie as tie
 
 -- row₀ is the row with its number k done
-abbrev invariant_loop : tie.invariant_loop
+abbrev invariant_loop : tie.invariant-loop-j
 invariant_loop row₀ t u k l f g j₀ row j = (k + 1 ≤ j) × (j ≤ length t) × (length row ≡ length t) × (Filled (λ x. sub binary64 (sub binary64 (at row₀ x) (mul binary64 f (at t x))) (mul binary64 g (at u x))) (k + 1) j (at row₀) (at row))
 
-abbrev decreases_loop : tie.decreases_loop
+abbrev decreases_loop : tie.decreases-loop-j
 decreases_loop row₀ t u k l f g j₀ row j = length t - j
 
-loop-again : tie.Need-loop-preserved invariant_loop decreases_loop
-loop-again c = let l = c.before.before.before.before.loop in
+loop-again : tie.Need-loop-j-preserved invariant_loop decreases_loop
+loop-again c = let l = c.before.before.before.before.loop-j in
     let a = c.before.before.before.before.before.before.before.before.before.args in
     let r : List Float = a.row.now in
     let f : Float = at r a.k in
@@ -32,7 +32,7 @@ loop-again c = let l = c.before.before.before.before.loop in
     )
 
 returns : tie.Need-returns invariant_loop decreases_loop
-returns c = let l = c.before.loop in
+returns c = let l = c.before.loop-j in
     let a = c.before.before.before.before.before.before.args in
     let e : l.j ≡ length a.row.now = omega arith in
     two_put a.k a.t.now a.u.now a.row.now l.row (omega arith) (omega arith) (rw e at l.invariant.3)

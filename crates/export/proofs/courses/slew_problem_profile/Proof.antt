@@ -4,17 +4,17 @@ use borrow.Author.Rules.{rules}
 use Rattle.export.proofs.courses.slew_problem_profile.Statement.{statement}
 use Rattle.export.proofs.courses.slew_problem_profile.Tie as tie
 
-returns : tie.Need-returns
+returns : tie.Need-returns-in-Refused
 returns c =
     let checked = c.before.before.before in
-    rw (← checked.before.problem_of_law.ensures, ← checked.check.ensures, c.before.fate.given.1)
+    rw (← checked.before.problem_of_law.ensures, ← checked.check-checked.ensures, c.before.fate-1.given.1)
     (record { number_is = refl; place_is = refl; value_is = refl })
 
-returns_2 : tie.Need-returns-2
+returns_2 : tie.Need-returns-in-Going
 returns_2 c =
     let told = c.before.before.before.before in
     let checked = told.before.before in
-    rw (← checked.before.problem_of_law.ensures, ← checked.check.ensures, told.enum_told.given.1) c.put-checked.ensures
+    rw (← checked.before.problem_of_law.ensures, ← checked.check-checked.ensures, told.enum_told-1.given.1) c.put_checked.ensures
 
 pub slew_problem_profile_spec : {M : Type 1} → statement M
 slew_problem_profile_spec =

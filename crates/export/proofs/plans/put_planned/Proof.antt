@@ -11,7 +11,7 @@ returns c =
     let told = of_plan placed.before.before.before.before.before.args.r in
     record {
       number_is = c.number_of_lem.ensures ∙ told.number;
-      counts_are = rw (placed.place_of.ensures, told.place, ← told.runs);
+      counts_are = rw (placed.place_of-place.ensures, told.place, ← told.runs);
       duration_is = search rules;
       defect_is = search rules;
       decision_is = search rules;

@@ -10,33 +10,33 @@ use Rattle.common.specs.IterLaws.{iter_none, iter_next}
 use Rattle.common.specs.Iter.{iter}
 use Rattle.export_reference.specs.Rows as Rows
 
-abbrev invariant_loop : tie.invariant_loop
+abbrev invariant_loop : tie.invariant-loop-k
 invariant_loop r n out₀ k₀ out k = (k ≤ n) × ((length out ≡ length out₀) × (out ≡ iter (Rows.put_row r) out₀ k))
 
-abbrev decreases_loop : tie.decreases_loop
+abbrev decreases_loop : tie.decreases-loop-k
 decreases_loop r n out₀ k₀ out k = n - k
 
-loop-holds : tie.Need-loop-init invariant_loop decreases_loop
+loop-holds : tie.Need-loop-k-init invariant_loop decreases_loop
 loop-holds c = (omega arith, (refl, iter_none _ _))
 
-row-of-requires : tie.Need-row-of-requires invariant_loop decreases_loop
+row-of-requires : tie.Need-row_of-row-requires invariant_loop decreases_loop
 row-of-requires c κs = (c.before.before.requires.0, (omega (arith, c.before.before.requires.1.0, c.before.before.requires.1.1.0), c.before.before.requires.1.0))
 
-mul-row : tie.Need-overflow-mul-row invariant_loop decreases_loop
+mul-row : tie.Need-offset_bounds-out-k invariant_loop decreases_loop
 mul-row c = omega (arith, c.before.before.before.requires.1.0, c.before.before.before.requires.1.1.0)
 
-slice-set-from-row : tie.Need-slice-set-from-row invariant_loop decreases_loop
-slice-set-from-row c = omega (arith, c.before.before.loop.invariant.1.0, c.before.before.before.requires.1.1.1)
+slice-set-from-row : tie.Need-bounds-out-k invariant_loop decreases_loop
+slice-set-from-row c = omega (arith, c.before.before.loop-k.invariant.1.0, c.before.before.before.requires.1.1.1)
 
-loop-again : tie.Need-loop-preserved invariant_loop decreases_loop
-loop-again c = (omega arith, (length-set c.before.before.loop.out c.before.before.loop.k c.row_of.result ∙ c.before.before.loop.invariant.1.0, iter_next _ _ c.before.before.loop.k c.before.before.loop.invariant.1.1 (ap (set c.before.before.loop.out c.before.before.loop.k) c.row_of.ensures)))
+loop-again : tie.Need-loop-k-preserved invariant_loop decreases_loop
+loop-again c = (omega arith, (length-set c.before.before.loop-k.out c.before.before.loop-k.k c.row_of-row.result ∙ c.before.before.loop-k.invariant.1.0, iter_next _ _ c.before.before.loop-k.k c.before.before.loop-k.invariant.1.1 (ap (set c.before.before.loop-k.out c.before.before.loop-k.k) c.row_of-row.ensures)))
 
-same_length : tie.Need-same-length invariant_loop decreases_loop
-same_length c = c.before.loop.invariant.1.0
+same_length : tie.Need-shape_of-out invariant_loop decreases_loop
+same_length c = c.before.loop-k.invariant.1.0
 
 returns : tie.Need-returns invariant_loop decreases_loop
 unfolding Rows.written
-returns c = let e : c.before.loop.k ≡ c.before.before.args.n = omega arith in rw (← e) c.before.loop.invariant.1.1
+returns c = let e : c.before.loop-k.k ≡ c.before.before.args.n = omega arith in rw (← e) c.before.loop-k.invariant.1.1
 
 pub put_rows_spec : {M : Type 1} → statement M
 put_rows_spec =

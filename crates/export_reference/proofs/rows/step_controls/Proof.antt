@@ -6,12 +6,12 @@ use Rattle.export_reference.proofs.rows.step_controls.Tie as tie
 use Rattle.reference_checks.specs.Checks as Checks
 use Rattle.export_reference.specs.RowLaws.{controls_step, controls_last}
 
-returns : tie.Need-returns
+returns : tie.Need-returns-then-k-steps
 unfolding Checks.controls_of
-returns c = rw (c.controls.ensures, c.before.before.before.sample-of2.ensures, c.before.before.before.before.sample-of.ensures) (controls_step _ _ c.before.before.before.before.before.if1.true)
+returns c = rw (c.controls.ensures, c.before.before.before.sample_of-next.ensures, c.before.before.before.before.sample_of-first.ensures) (controls_step _ _ c.before.before.before.before.before.if-k-steps.true)
 
-returns_2 : tie.Need-returns-2
-returns_2 c = controls_last _ _ c.if1.false
+returns_2 : tie.Need-returns-else-k-steps
+returns_2 c = controls_last _ _ c.if-k-steps.false
 
 pub step_controls_spec : {M : Type 1} → statement M
 step_controls_spec =

@@ -4,13 +4,13 @@ use borrow.Author.Rules.{rules}
 use Rattle.export_runs.proofs.rigs.put_projected.Statement.{statement}
 use Rattle.export_runs.proofs.rigs.put_projected.Tie as tie
 
-returns : tie.Need-returns
+returns : tie.Need-returns-in-Going
 returns c =
-    rw c.before.before.before.before.enum_told.given.1
-    (record { number_is = refl; place_is = refl; value_is = c.before.before.project-controls.ensures })
+    rw c.before.before.before.before.enum_told-1.given.1
+    (record { number_is = refl; place_is = refl; value_is = c.before.before.project_controls.ensures })
 
-returns_2 : tie.Need-returns-2
-returns_2 c = rw c.before.fate.given.1 (record { number_is = refl; place_is = refl; value_is = refl })
+returns_2 : tie.Need-returns-in-Refused
+returns_2 c = rw c.before.fate-1.given.1 (record { number_is = refl; place_is = refl; value_is = refl })
 
 pub put_projected_spec : {M : Type 1} → statement M
 put_projected_spec =

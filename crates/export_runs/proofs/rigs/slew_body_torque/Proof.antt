@@ -8,10 +8,10 @@ returns : tie.Need-returns
 returns c =
     let first = c.before.before.before in
     let made = first.before.before in
-    let prepared = made.before.before.before.before.before.prepared-of in
-    let x = made.body-torque.result in
-    let told = rw (first.first-refusal.ensures, first_refused x.tau prepared.result.fate x.fate) at c.put_three.ensures in
-    rw (made.body-torque.ensures, prepared.ensures) at told
+    let prepared = made.before.before.before.before.before.prepared_of-prepared in
+    let x = made.body_torque-t.result in
+    let told = rw (first.first_refusal.ensures, first_refused x.tau-1 prepared.result.fate x.fate) at c.put_three.ensures in
+    rw (made.body_torque-t.ensures, prepared.ensures) at told
 
 pub slew_body_torque_spec : {M : Type 1} → statement M
 slew_body_torque_spec = tie.close (tie.spec (λ c κs. search rules) (λ c κs. search rules) (λ c κs. search rules) (λ c κs. search rules) returns)

@@ -8,49 +8,49 @@ use native.Mathlib.Omega.{arith}
 use Rattle.export_runs.proofs.systems.slew_damped_step.Statement.{statement}
 use Rattle.export_runs.proofs.systems.slew_damped_step.Tie as tie
 
-returns : tie.Need-returns
-returns c = record { answer = rw (lt-ltb 193 _ c.if1.true); left = rw (lt-ltb 193 _ c.if1.true) (refl, refl) }
+returns : tie.Need-returns-then-n-gt193
+returns c = record { answer = rw (lt-ltb 193 _ c.if-n-gt193.true); left = rw (lt-ltb 193 _ c.if-n-gt193.true) (refl, refl) }
 
-returns_2 : tie.Need-returns-2
+returns_2 : tie.Need-returns-then-m-gt193
 returns_2 c = record {
-  answer = rw (le-ltb 193 _ c.before.if1.false, lt-ltb 193 _ c.if2.true);
-  left = rw (le-ltb 193 _ c.before.if1.false, lt-ltb 193 _ c.if2.true) (refl, refl);
+  answer = rw (le-ltb 193 _ c.before.if-n-gt193.false, lt-ltb 193 _ c.if-m-gt193.true);
+  left = rw (le-ltb 193 _ c.before.if-n-gt193.false, lt-ltb 193 _ c.if-m-gt193.true) (refl, refl);
 }
 
-returns_3 : tie.Need-returns-3
+returns_3 : tie.Need-returns-then-r-m
 returns_3 c = record {
-  answer = rw (le-ltb 193 _ c.before.before.if1.false, le-ltb 193 _ c.before.if2.false, lt-ltb _ _ c.if3.true);
-  left = rw (le-ltb 193 _ c.before.before.if1.false, le-ltb 193 _ c.before.if2.false, lt-ltb _ _ c.if3.true) (refl, refl);
+  answer = rw (le-ltb 193 _ c.before.before.if-n-gt193.false, le-ltb 193 _ c.before.if-m-gt193.false, lt-ltb _ _ c.if-r-m.true);
+  left = rw (le-ltb 193 _ c.before.before.if-n-gt193.false, le-ltb 193 _ c.before.if-m-gt193.false, lt-ltb _ _ c.if-r-m.true) (refl, refl);
 }
 
 -- at most 193 rows of at most 193
-mul-if4 : tie.Need-overflow-mul-if4
-mul-if4 c = let few = c.before in omega (arith, mul-le-mul few.before.if1.false few.if2.false)
+mul-if4 : tie.Need-overflow_mul-n
+mul-if4 c = let few = c.before in omega (arith, mul-le-mul few.before.if-n-gt193.false few.if-m-gt193.false)
 
-mul-if4-2 : tie.Need-overflow-mul-if4-2
-mul-if4-2 c = let n = c.before.before.if1.false in omega (arith, mul-le-mul n n)
+mul-if4-2 : tie.Need-overflow_mul-n-2
+mul-if4-2 c = let n = c.before.before.if-n-gt193.false in omega (arith, mul-le-mul n n)
 
-add-if4 : tie.Need-overflow-add-if4
-add-if4 c = let few = c.before in let n = few.before.if1.false in omega (arith, mul-le-mul n few.if2.false, mul-le-mul n n)
+add-if4 : tie.Need-overflow_add-n
+add-if4 c = let few = c.before in let n = few.before.if-n-gt193.false in omega (arith, mul-le-mul n few.if-m-gt193.false, mul-le-mul n n)
 
-returns-4 : tie.Need-returns-4
+returns-4 : tie.Need-returns-then-v-n
 returns-4 c =
     let few = c.before.before in
     record {
-      answer = rw (le-ltb 193 _ few.before.if1.false, le-ltb 193 _ few.if2.false, le-ltb _ _ c.before.if3.false, ne_eqb _ _ c.if4.true);
-      left = rw (le-ltb 193 _ few.before.if1.false, le-ltb 193 _ few.if2.false, le-ltb _ _ c.before.if3.false, ne_eqb _ _ c.if4.true) (refl, refl);
+      answer = rw (le-ltb 193 _ few.before.if-n-gt193.false, le-ltb 193 _ few.if-m-gt193.false, le-ltb _ _ c.before.if-r-m.false, ne_eqb _ _ c.if-v-n.true);
+      left = rw (le-ltb 193 _ few.before.if-n-gt193.false, le-ltb 193 _ few.if-m-gt193.false, le-ltb _ _ c.before.if-r-m.false, ne_eqb _ _ c.if-v-n.true) (refl, refl);
     }
 
-returns-5 : tie.Need-returns-5
+returns-5 : tie.Need-returns
 returns-5 c =
     let stepped = c.before.before.before.before in
     let fits = stepped.before.before.before in
     let enough = fits.before in
     let few = enough.before in
-    let done = stepped.damped-step.ensures in
+    let done = stepped.damped_step.ensures in
     record {
-      answer = rw (le-ltb 193 _ few.before.if1.false, le-ltb 193 _ few.if2.false, le-ltb _ _ enough.if3.false, eq-eqb _ _ fits.if4.false) (told_step done);
-      left = rw (le-ltb 193 _ few.before.if1.false, le-ltb 193 _ few.if2.false, le-ltb _ _ enough.if3.false, eq-eqb _ _ fits.if4.false) done;
+      answer = rw (le-ltb 193 _ few.before.if-n-gt193.false, le-ltb 193 _ few.if-m-gt193.false, le-ltb _ _ enough.if-r-m.false, eq-eqb _ _ fits.if-v-n.false) (told_step done);
+      left = rw (le-ltb 193 _ few.before.if-n-gt193.false, le-ltb 193 _ few.if-m-gt193.false, le-ltb _ _ enough.if-r-m.false, eq-eqb _ _ fits.if-v-n.false) done;
     }
 
 pub slew_damped_step_spec : {M : Type 1} → statement M

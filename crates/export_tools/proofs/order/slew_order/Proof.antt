@@ -7,16 +7,16 @@ use borrow.Author.Rules.{rules}
 use Rattle.export_tools.proofs.order.slew_order.Statement.{statement}
 use Rattle.export_tools.proofs.order.slew_order.Tie as tie
 
-abbrev ordered : tie.After-number-of → tie.After-order
+abbrev ordered : tie.After-number_of → tie.After-order-answer
 ordered c = c.before.before.before.before.before
 
 returns : tie.Need-returns
 returns c =
-    let is = (ordered c).order.ensures.is in
+    let is = (ordered c).order-answer.ensures.is in
     record {
       number_is = rw (c.number_of_lem.ensures, is);
       order_is = rw is;
-      numbers_are = rw (c.before.before.flag.ensures, is);
+      numbers_are = rw (c.before.before.flag-exhausted.ensures, is);
       promised = λ e. order_promised _ _ _ (rw (c.number_of_lem.ensures, is) at e);
     }
 

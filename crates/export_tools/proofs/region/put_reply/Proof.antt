@@ -6,17 +6,17 @@ use borrow.Author.Rules.{rules}
 use Rattle.export_tools.proofs.region.put_reply.Statement.{statement}
 use Rattle.export_tools.proofs.region.put_reply.Tie as tie
 
-returns : tie.Need-returns
-returns c = rw c.before.d.given.1 (record {
+returns : tie.Need-returns-in-With
+returns c = rw c.before.d-1.given.1 (record {
   number_is = refl;
-  value_is = to_z-of_z {w = w64} (record { sfits = c.known-told.given.0.1 });
+  value_is = to_z-of_z {w = w64} (record { sfits = c.known_told-1.given.0.1 });
 })
 
-returns_2 : tie.Need-returns-2
-returns_2 c = rw c.enum_told.given.1 (record { number_is = refl; value_is = refl })
+returns_2 : tie.Need-returns-in-Without
+returns_2 c = rw c.enum_told-1.given.1 (record { number_is = refl; value_is = refl })
 
-returns_3 : tie.Need-returns-3
-returns_3 c = rw c.enum-told2.given.1 (record { number_is = refl; value_is = refl })
+returns_3 : tie.Need-returns-in-Outside
+returns_3 c = rw c.enum_told-in-Outside-1.given.1 (record { number_is = refl; value_is = refl })
 
 pub put_reply_spec : {M : Type 1} → statement M
 put_reply_spec = tie.close (tie.spec (λ c. search rules) (λ c. search rules) (λ c. search rules) returns returns_2 returns_3)

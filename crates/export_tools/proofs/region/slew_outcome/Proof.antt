@@ -9,7 +9,7 @@ returns c =
     let told = c.before.before.before in
     let start = told.before in
     let e = rw (to_z-of_z start.ranges.angle, to_z-of_z start.ranges.rate) at told.outcome.ensures.0 in
-    rw (← e) c.put-start.ensures
+    rw (← e) c.put_start.ensures
 
 pub slew_outcome_spec : {M : Type 1} → statement M
 slew_outcome_spec = tie.close (tie.spec (λ c κs. search rules) (λ c κs. search rules) returns)

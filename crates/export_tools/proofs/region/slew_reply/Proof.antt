@@ -9,7 +9,7 @@ returns c =
     let told = c.before.before in
     let start = told.before in
     let e = rw (to_z-of_z start.ranges.angle, to_z-of_z start.ranges.rate, to_z-of_z start.ranges.choice) at told.reply.ensures.0 in
-    rw (← e) c.put-reply.ensures
+    rw (← e) c.put_reply.ensures
 
 pub slew_reply_spec : {M : Type 1} → statement M
 slew_reply_spec = tie.close (tie.spec (λ c κs. search rules) (λ c κs. search rules) returns)

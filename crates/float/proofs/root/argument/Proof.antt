@@ -4,7 +4,7 @@ use Rattle.float.proofs.Settled.{radicand_range}
 use Rattle.float.proofs.root.argument.Statement.{statement}
 use Rattle.float.proofs.root.argument.Tie as tie
 
-mul-result : tie.Need-overflow-mul-result
+mul-result : tie.Need-overflow_mul-result
 mul-result c = let h = radicand_range c.args.g c.requires in omega arith
 
 pub argument_spec : {M : Type 1} → statement M

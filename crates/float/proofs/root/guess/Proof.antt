@@ -5,8 +5,8 @@ use Rattle.wide.proofs.Patterns.{above_no_nan}
 use Rattle.float.proofs.root.guess.Statement.{statement}
 use Rattle.float.proofs.root.guess.Tie as tie
 
-float-to-bits-wrapping-sub-u64 : tie.Need-float-to-bits-wrapping-sub-u64
-float-to-bits-wrapping-sub-u64 c = ⊎_elim (λ w. rw w.1 (above_no_nan _ _ w.0.taken)) (λ w. rw w.1 (unfold is_nan of_bits in tt)) c.if1.branch
+float-to-bits-wrapping-sub-u64 : tie.Need-float_to_bits-a
+float-to-bits-wrapping-sub-u64 c = ⊎_elim (λ w. rw w.1 (above_no_nan _ _ w.0.taken)) (λ w. rw w.1 (unfold is_nan of_bits in tt)) c.if-v.branch
 
 pub guess_spec : {M : Type 1} → statement M
 guess_spec =

@@ -3,7 +3,7 @@ use Rattle.float.proofs.Shapes.{shift_ok}
 use Rattle.float.proofs.root.norm_shift.Statement.{statement}
 use Rattle.float.proofs.root.norm_shift.Tie as tie
 
-sub-result : tie.Need-overflow-sub-result
+sub-result : tie.Need-overflow_sub-result
 sub-result c = (shift_ok c.args.v c.requires.0 c.requires.1 c.ranges.v.fits).0
 
 returns : tie.Need-returns

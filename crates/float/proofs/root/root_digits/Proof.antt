@@ -4,30 +4,30 @@ use Rattle.float.proofs.Settled.{radicand_range, digits_range}
 use Rattle.float.proofs.root.root_digits.Statement.{statement}
 use Rattle.float.proofs.root.root_digits.Tie as tie
 
-rest-requires : tie.Need-rest-requires
+rest-requires : tie.Need-rest-w-requires
 rest-requires c κs =
     let w = radicand_range c.before.before.args.g c.before.before.requires in
-    (c.before.guess.ensures.0, c.before.guess.ensures.1, rw c.argument.ensures (omega arith))
+    (c.before.guess-s.ensures.0, c.before.guess-s.ensures.1, rw c.argument-e.ensures (omega arith))
 
 settled-requires : tie.Need-settled-requires
 settled-requires c κs =
-    let s = c.before.before.before.guess.ensures in
-    (s.0, s.1, (c.before.rest.ensures c.if1.true).1)
+    let s = c.before.before.before.guess-s.ensures in
+    (s.0, s.1, (c.before.rest-w.ensures c.if-w.true).1)
 
-slow-root-requires : tie.Need-slow-root-requires
+slow-root-requires : tie.Need-slow_root-requires
 slow-root-requires c κs =
     let entry = c.before.before.before.before in
-    rw c.before.before.argument.ensures (radicand_range _ entry.requires)
+    rw c.before.before.argument-e.ensures (radicand_range _ entry.requires)
 
-returns : tie.Need-returns
+returns : tie.Need-returns-then-w
 returns c =
     let entry = c.before.before.before.before.before in
-    digits_range _ _ entry.requires (rw c.before.before.before.argument.ensures at (c.settled.ensures _ (c.before.before.rest.ensures c.before.if1.true).0))
+    digits_range _ _ entry.requires (rw c.before.before.before.argument-e.ensures at (c.settled.ensures _ (c.before.before.rest-w.ensures c.before.if-w.true).0))
 
-returns_2 : tie.Need-returns-2
+returns_2 : tie.Need-returns-else-w
 returns_2 c =
     let entry = c.before.before.before.before.before in
-    digits_range _ _ entry.requires (rw c.before.before.before.argument.ensures at c.slow-root.ensures)
+    digits_range _ _ entry.requires (rw c.before.before.before.argument-e.ensures at c.slow_root.ensures)
 
 pub root_digits_spec : {M : Type 1} → statement M
 root_digits_spec =

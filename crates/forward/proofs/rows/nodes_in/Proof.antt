@@ -12,33 +12,33 @@ use borrow.Author.Rules.{rules}
 use Rattle.forward.proofs.rows.nodes_in.Statement.{statement}
 use Rattle.forward.proofs.rows.nodes_in.Tie as tie
 
-abbrev invariant_loop : tie.invariant_loop
+abbrev invariant_loop : tie.invariant-loop-k
 invariant_loop rows nodes₀ k₀ nodes k = ((1 ≤ k) × (k ≤ 17)) × ((length nodes ≡ 17) × ((i : ℕ) → i < k → get_or nodes i no_node ≡ node_from (row_at rows i)))
 
-abbrev decreases_loop : tie.decreases_loop
+abbrev decreases_loop : tie.decreases-loop-k
 decreases_loop rows nodes₀ k₀ nodes k = 17 - k
 
-loop-holds : tie.Need-loop-init invariant_loop decreases_loop
-loop-holds c = ((omega arith, omega arith), (search rules, λ i h. let e : i ≡ 0 = omega arith in rw e c.Node-in.ensures))
+loop-holds : tie.Need-loop-k-init invariant_loop decreases_loop
+loop-holds c = ((omega arith, omega arith), (search rules, λ i h. let e : i ≡ 0 = omega arith in rw e c.node_in-first.ensures))
 
-loop-again : tie.Need-loop-preserved invariant_loop decreases_loop
+loop-again : tie.Need-loop-k-preserved invariant_loop decreases_loop
 loop-again c =
     let entry = c.before.before.before.before.before.before in
-    let l = c.before.before.before.loop in
+    let l = c.before.before.before.loop-k in
     let rows = entry.args.rows.now in (
       (omega arith, omega arith),
       (
         search rules,
-        below_more (λ i. get_or (set l.nodes l.k c.node-in2.result) i no_node ≡ node_from (row_at rows i)) l.k
+        below_more (λ i. get_or (set l.nodes l.k c.node_in-node.result) i no_node ≡ node_from (row_at rows i)) l.k
             (λ i b. get_or-set_other l.nodes l.k i _ no_node (λ e. omega arith) ∙ l.invariant.1.1 i b)
-            (get_or-set_same l.nodes l.k _ no_node (omega (arith, l.invariant.1.0)) ∙ c.node-in2.ensures),
+            (get_or-set_same l.nodes l.k _ no_node (omega (arith, l.invariant.1.0)) ∙ c.node_in-node.ensures),
       ),
     )
 
 returns : tie.Need-returns invariant_loop decreases_loop
 returns c =
     let entry = c.before.before.before.before in
-    let l = c.before.loop in
+    let l = c.before.loop-k in
     let rows = entry.args.rows.now in
     let long : length rows ≡ 17 = entry.requires in
     ext_get_or no_node l.nodes (nodes_from rows) (l.invariant.1.0 ∙ sym (nodes_length rows ∙ long))

@@ -6,29 +6,29 @@ use borrow.Author.Rules.{rules}
 use Rattle.forward.proofs.runs.next_dynamics.Statement.{statement}
 use Rattle.forward.proofs.runs.next_dynamics.Tie as tie
 
-mul_at : tie.Need-overflow-mul-at
+mul_at : tie.Need-overflow_mul-at
 mul_at c = omega (arith, row_end c.before.before.before.args.i 16 c.before.before.before.args.n (omega (arith, c.before.before.before.requires.1.1.0)), c.before.before.before.requires.1.0.0)
 
-add_at : tie.Need-overflow-add-at
+add_at : tie.Need-overflow_add-at
 add_at c = omega (arith, row_end c.before.before.before.args.i 16 c.before.before.before.args.n (omega (arith, c.before.before.before.requires.1.1.0)), c.before.before.before.requires.1.0.0)
 
-add-past : tie.Need-overflow-add-past
+add-past : tie.Need-overflow_add-past
 add-past c = omega (arith, row_end c.before.before.before.args.i 16 c.before.before.before.args.n (omega (arith, c.before.before.before.requires.1.1.0)), c.before.before.before.requires.1.0.0)
 
-mul-dynamics : tie.Need-overflow-mul-dynamics
+mul-dynamics : tie.Need-offset_bounds-z-at
 mul-dynamics c =
     let entry = c.before.before.before.before.before in
     omega (arith, row_end entry.args.i 16 entry.args.n (omega (arith, entry.requires.1.1.0)), entry.requires.1.0.0)
 
-part-dynamics-end : tie.Need-slice-bounds-dynamics-end
+part-dynamics-end : tie.Need-slice_bounds-dynamics-end
 part-dynamics-end c =
     let entry = c.before.before.before.before.before in
     omega (arith, row_end entry.args.i 16 entry.args.n (omega (arith, entry.requires.1.1.0)), entry.requires.1.0.0, entry.requires.1.0.1)
 
-returns : tie.Need-returns
+returns : tie.Need-returns-then-i-end
 returns c = record { dynamics = λ h. c.dynamics.ensures; stays = λ h. absurd (omega arith) }
 
-returns_2 : tie.Need-returns-2
+returns_2 : tie.Need-returns
 returns_2 c = record { dynamics = λ h m. absurd (omega arith); stays = λ h. refl }
 
 pub next_dynamics_spec : {M : Type 1} → statement M

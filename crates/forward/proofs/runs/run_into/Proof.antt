@@ -13,30 +13,30 @@ use borrow.Author.Rules.{rules}
 use Rattle.forward.proofs.runs.run_into.Statement.{statement}
 use Rattle.forward.proofs.runs.run_into.Tie as tie
 
-start-requires : tie.Need-start-requires
+start-requires : tie.Need-start-from-requires
 start-requires c κs =
     let entry = c.before.before.before.before in
-    (dim_sized Once _ entry.requires.0).wheels
+    (dim_sized Once _ entry.requires.0).wheels-1
 
-run-on-requires : tie.Need-run-on-requires
-unfolding Runs.start Ieee.of_bits
+run-on-requires : tie.Need-run_on-requires
+unfolding Runs.start-from Ieee.of_bits
 run-on-requires c κs =
     let u = c.before.before.before.before in
     let l = u.before.before.before in
     let s = l.before in
     let start = s.before.before.before.before.before in
     let pre = start.requires in
-    let made = start_goes _ l.start-gimbals.ensures c.before.before.enum-told2.given.1 in
-    (record { sized = pre.0; narrow = pre.1.0; angles = (made.0, none_known start.args.p.map.cmgs); sound = rw (u.unbegun.ensures, s.start.ensures) (record { matrix = made.1; plus = tt }) }, omega arith)
+    let made = start_goes _ l.start_gimbals-l.ensures c.before.before.enum_told-in-Going-1.given.1 in
+    (record { sized = pre.0; narrow = pre.1.0; angles = (made.0, none_known start.args.p.map.cmgs); sound = rw (u.unbegun-c.ensures, s.start-from.ensures) (record { matrix = made.1; plus = tt }) }, omega arith)
 
-returns : tie.Need-returns
-unfolding told Runs.run_under Runs.start
+returns : tie.Need-returns-in-Refused
+unfolding told Runs.run_under Runs.start-from
 returns c =
     let entry = c.before.before.before.before.before.before.before.before.before.before.before in
-    let start-gimbals = c.before.before.before.before.before.start-gimbals in
-    (start_refused _ _ _ _ refl start-gimbals.ensures c.enum_told.given.1, entry.requires.1.1)
+    let start-gimbals = c.before.before.before.before.before.start_gimbals-l in
+    (start_refused _ _ _ _ refl start-gimbals.ensures c.enum_told-1.given.1, entry.requires.1.1)
 
-returns_2 : tie.Need-returns-2
+returns_2 : tie.Need-returns-in-Going
 unfolding Runs.run_under Ieee.of_bits
 returns_2 c =
     let u = c.before.before.before.before.before in
@@ -44,8 +44,8 @@ returns_2 c =
     let s = l.before in
     let nodes = s.before.before.before.before.before.args.nodes.now in
     let long = s.before.before.before.before.before.requires.1.1 in
-    let whole = c.run_on.ensures.whole s.start.result (rw u.unbegun.ensures (stands_first _ _ _ s.start.result l.start-gimbals.result.a nodes long)) in
-    (rw (whole, s.start.ensures), c.run_on.ensures.size ∙ long)
+    let whole = c.run_on.ensures.whole s.start-from.result (rw u.unbegun-c.ensures (stands_first _ _ _ s.start-from.result l.start_gimbals-l.result.a-1 nodes long)) in
+    (rw (whole, s.start-from.ensures), c.run_on.ensures.size ∙ long)
 
 pub run_into_spec : {M : Type 1} → statement M
 run_into_spec =

@@ -6,17 +6,17 @@ use borrow.Author.Rules.{rules}
 use Rattle.forward.proofs.runs.run_on.Statement.{statement}
 use Rattle.forward.proofs.runs.run_on.Tie as tie
 
-steps-under-requires : tie.Need-steps-under-requires
+steps-under-requires : tie.Need-steps_under-w-requires
 steps-under-requires c κs = let pre = c.before.before.requires in (pre.0, (pre.1, omega arith))
 
-returns : tie.Need-returns
-returns c = let t = c.before.before in ran_refused _ _ _ _ _ _ t.before.before.before.requires.1 t.steps-under.ensures c.enum_told.given.1
+returns : tie.Need-returns-in-Refused
+returns c = let t = c.before.before in ran_refused _ _ _ _ _ _ t.before.before.before.requires.1 t.steps_under-w.ensures c.enum_told-1.given.1
 
-returns_2 : tie.Need-returns-2
+returns_2 : tie.Need-returns
 unfolding Ieee.of_bits
 returns_2 c =
     let t = c.before.before.before.before.before.before.before.before in
-    ran_going _ _ _ _ _ _ t.before.before.before.requires.1 t.steps-under.ensures c.Node-row.result c.before.before.torque-in.ensures c.Node-row.ensures
+    ran_going _ _ _ _ _ _ t.before.before.before.requires.1 t.steps_under-w.ensures c.node_row-last.result c.before.before.torque_in-tau.ensures c.node_row-last.ensures
 
 pub run_on_spec : {M : Type 1} → statement M
 run_on_spec =

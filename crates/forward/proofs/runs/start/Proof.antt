@@ -6,7 +6,7 @@ use Rattle.forward.proofs.runs.start.Tie as tie
 
 returns : tie.Need-returns
 unfolding Runs.start
-returns c = rw c.body-momentum.ensures
+returns c = rw c.body_momentum-h.ensures
 
 pub start_spec : {M : Type 1} → statement M
 start_spec = tie.close (tie.spec (λ c. search rules) (λ c κs. search rules) returns)

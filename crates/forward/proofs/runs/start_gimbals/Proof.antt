@@ -4,12 +4,12 @@ use borrow.Author.Rules.{rules}
 use Rattle.forward.proofs.runs.start_gimbals.Statement.{statement}
 use Rattle.forward.proofs.runs.start_gimbals.Tie as tie
 
-returns : tie.Need-returns
+returns : tie.Need-returns-in-Without
 unfolding GimbalStartInner.start_gimbals
-returns c = rw c.enum_told.given.1
+returns c = rw c.enum_told-1.given.1
 
-returns_2 : tie.Need-returns-2
-returns_2 c = rw c.before.before.c.given.1 c.start-pyramid.ensures
+returns_2 : tie.Need-returns-in-With
+returns_2 c = rw c.before.before.c-1.given.1 c.start_pyramid.ensures
 
 pub start_gimbals_spec : {M : Type 1} → statement M
 start_gimbals_spec = tie.close (tie.spec (λ c. search rules) (λ c. search rules) (λ c κs. search rules) returns returns_2)

@@ -6,18 +6,18 @@ use borrow.Author.Rules.{rules}
 use Rattle.forward.proofs.runs.start_pyramid.Statement.{statement}
 use Rattle.forward.proofs.runs.start_pyramid.Tie as tie
 
-returns : tie.Need-returns
+returns : tie.Need-returns-in-Outside
 unfolding GimbalStartInner.start_gimbals
-returns c = rw (← c.before.before.sin-cos.ensures, c.enum_told.given.1)
+returns c = rw (← c.before.before.sin_cos-pair.ensures, c.enum_told-1.given.1)
 
-pyramid-known-requires : tie.Need-pyramid-known-requires
+pyramid-known-requires : tie.Need-pyramid_known-m-requires
 pyramid-known-requires c κs = none_known (With c.before.before.before.before.before.args.p)
 
-returns_2 : tie.Need-returns-2
+returns_2 : tie.Need-returns-in-Are
 unfolding GimbalStartInner.start_gimbals
 returns_2 c =
     let pair = c.before.before.before.before in
-    rw (← pair.before.before.sin-cos.ensures, pair.pair.given.1, c.before.pyramid-known.ensures)
+    rw (← pair.before.before.sin_cos-pair.ensures, pair.pair-1.given.1, c.before.pyramid_known-m.ensures)
 
 pub start_pyramid_spec : {M : Type 1} → statement M
 start_pyramid_spec =

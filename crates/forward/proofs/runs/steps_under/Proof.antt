@@ -5,13 +5,13 @@ use borrow.Author.Rules.{rules}
 use Rattle.forward.proofs.runs.steps_under.Statement.{statement}
 use Rattle.forward.proofs.runs.steps_under.Tie as tie
 
-steps-on-requires : tie.Need-steps-on-requires
+steps-on-requires : tie.Need-steps_on-requires
 steps-on-requires c κs =
     let g = c.before.before.before.before.before.before.before.before in
     let d = g.before in
     let pre = d.before.before.before.requires in (
-      rw (g.rig-under.ensures, d.control-dim.ensures) (dim_sized _ _ pre.0.sized),
-      (rw d.control-dim.ensures pre.0.narrow, (rw g.rig-under.ensures pre.0.angles, (rw g.rig-under.ensures pre.0.sound, pre.1))),
+      rw (g.rig_under-rig.ensures, d.control_dim-n.ensures) (dim_sized _ _ pre.0.sized),
+      (rw d.control_dim-n.ensures pre.0.narrow, (rw g.rig_under-rig.ensures pre.0.angles, (rw g.rig_under-rig.ensures pre.0.sound, pre.1))),
     )
 
 returns : tie.Need-returns
@@ -19,7 +19,7 @@ unfolding Ieee.of_bits
 returns c =
     let f = c.before.before.before.before in
     let g = f.before.before.before.before.before in
-    rw (← g.rig-under.ensures, ← g.before.control-dim.ensures, ← f.frame-of.ensures) c.steps_on.ensures
+    rw (← g.rig_under-rig.ensures, ← g.before.control_dim-n.ensures, ← f.frame_of-f.ensures) c.steps_on.ensures
 
 pub steps_under_spec : {M : Type 1} → statement M
 steps_under_spec =

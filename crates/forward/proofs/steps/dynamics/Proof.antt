@@ -4,17 +4,17 @@ use borrow.Author.Rules.{rules}
 use Rattle.forward.proofs.steps.dynamics.Statement.{statement}
 use Rattle.forward.proofs.steps.dynamics.Tie as tie
 
-finish-dynamics-requires : tie.Need-finish-dynamics-requires
+finish-dynamics-requires : tie.Need-finish_dynamics-requires
 finish-dynamics-requires c κs =
     let entry = c.before.before.before.before.before.before.before.before.before.before.before.before in
     (entry.requires.0, entry.requires.1)
 
 returns : tie.Need-returns
 returns c =
-    let row-torque = c.before.before.before.before.before.before.row-torque in
-    let rate-dot = c.before.before.before.before.before.rate-dot in
-    let rate-next = c.before.before.before.before.rate-next in
-    λ m. dynamics_finished _ _ _ _ _ (rw c.before.dynamics-at.ensures at c.finish-dynamics.ensures) m row-torque.ensures rate-dot.ensures rate-next.ensures c.before.before.before.defect-square.ensures c.before.before.turn_of_law.ensures
+    let row-torque = c.before.before.before.before.before.before.row_torque-tau in
+    let rate-dot = c.before.before.before.before.before.rate_dot-wd in
+    let rate-next = c.before.before.before.before.rate_next-w2 in
+    λ m. dynamics_finished _ _ _ _ _ (rw c.before.dynamics_at-l.ensures at c.finish_dynamics.ensures) m row-torque.ensures rate-dot.ensures rate-next.ensures c.before.before.before.defect_square-square.ensures c.before.before.turn_of_law.ensures
 
 pub dynamics_spec : {M : Type 1} → statement M
 dynamics_spec =

@@ -9,42 +9,42 @@ use borrow.Author.Rules.{rules}
 use Rattle.forward.proofs.steps.finish_dynamics.Statement.{statement}
 use Rattle.forward.proofs.steps.finish_dynamics.Tie as tie
 
-abbrev entry : tie.After-step-gimbals → tie.Start
+abbrev entry : tie.After-step_gimbals-g → tie.Start
 entry c = c.before.before.before.before.before.before
 
 -- the wheels' part stands in the row
 room : (s : tie.Start) → s.args.r.wheel_count ≤ length s.args.u.now
 room s = omega (arith, row_room _ _ s.requires.0)
 
-sub-step-gimbals : tie.Need-overflow-sub-step-gimbals
+sub-step-gimbals : tie.Need-slice_bounds-step_gimbals-count
 sub-step-gimbals c = omega (arith, row_room _ _ c.before.before.before.before.requires.0)
 
-part-step-gimbals-start : tie.Need-slice-bounds-step-gimbals-start
+part-step-gimbals-start : tie.Need-slice_bounds-step_gimbals-start
 part-step-gimbals-start c = omega (arith, row_room _ _ c.before.before.before.before.requires.0)
 
-step-gimbals-requires : tie.Need-step-gimbals-requires
+step-gimbals-requires : tie.Need-step_gimbals-g-requires
 step-gimbals-requires c κs =
     let start = c.before.before.before.before.before in
     (omega (arith, row_room _ _ start.requires.0), start.requires.1)
 
-returns : tie.Need-returns
+returns : tie.Need-returns-in-Refused
 returns c =
     let g = c.before.before.before.before in
-    finished_refused _ _ _ _ _ c.refuse-dynamics.ensures (λ q q2. ends_gimbals _ _ _ (with_attitude q (entry g).args.s) _ _ _ q2 g.step-gimbals.ensures c.before.before.fate.given.1)
+    finished_refused _ _ _ _ _ c.refuse_dynamics.ensures (λ q q2. ends_gimbals _ _ _ (with_attitude q (entry g).args.s) _ _ _ q2 g.step_gimbals-g.ensures c.before.before.fate-1.given.1)
 
-part-power-dynamics-end : tie.Need-slice-bounds-power-dynamics-end
+part-power-dynamics-end : tie.Need-slice_bounds-power_dynamics-end
 part-power-dynamics-end c = room (entry c.before.before)
 
-power-dynamics-requires : tie.Need-power-dynamics-requires
+power-dynamics-requires : tie.Need-power_dynamics-requires
 power-dynamics-requires c κs =
     let s = entry c.before.before.before in
     wheel_room _ _ (room s) s.pre.0.wheels
 
-returns_2 : tie.Need-returns-2
+returns_2 : tie.Need-returns-in-Going
 returns_2 c =
     let told = c.before.before in
     let g = told.before.before in
-    finished_powered _ _ _ _ _ g.step-gimbals.ensures told.enum_told.given.1 (wheel_row _ _ (room (entry g))) c.power-dynamics.ensures
+    finished_powered _ _ _ _ _ g.step_gimbals-g.ensures told.enum_told-1.given.1 (wheel_row _ _ (room (entry g))) c.power_dynamics.ensures
 
 pub finish_dynamics_spec : {M : Type 1} → statement M
 finish_dynamics_spec =

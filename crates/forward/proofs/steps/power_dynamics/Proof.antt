@@ -6,17 +6,17 @@ use borrow.Author.Rules.{rules}
 use Rattle.forward.proofs.steps.power_dynamics.Statement.{statement}
 use Rattle.forward.proofs.steps.power_dynamics.Tie as tie
 
-returns : tie.Need-returns
+returns : tie.Need-returns-then-over_power
 unfolding power_dynamics Ieee.of_bits
-returns c = rw (c.refuse-dynamics.ensures, sym c.before.before.over-power.ensures ∙ c.before.if1.true) refl
+returns c = rw (c.refuse_dynamics.ensures, sym c.before.before.over_power.ensures ∙ c.before.if-over_power.true) refl
 
-returns_2 : tie.Need-returns-2
+returns_2 : tie.Need-returns
 unfolding power_dynamics Ieee.of_bits
 returns_2 c =
     let body-momentum = c.before.before.before.before.before.before.before.before in
     let momenta_next_law = body-momentum.before.before in
     let if1 = momenta_next_law.before.before in
-    rw (c.dynamics-from.ensures, sym if1.before.over-power.ensures ∙ if1.if1.false, body-momentum.body-momentum.ensures, momenta_next_law.momenta_next_law.ensures) refl
+    rw (c.dynamics_from.ensures, sym if1.before.over_power.ensures ∙ if1.if-over_power.false, body-momentum.body_momentum-h2.ensures, momenta_next_law.momenta_next_law.ensures) refl
 
 pub power_dynamics_spec : {M : Type 1} → statement M
 power_dynamics_spec =

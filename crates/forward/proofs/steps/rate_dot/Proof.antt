@@ -10,7 +10,7 @@ returns : tie.Need-returns
 unfolding Steps.rate_dot
 returns c =
     let tensor = c.before.before.before.before.tensor in
-    rw (c.apply-tensor.ensures, c.before.sub3.ensures, c.before.before.tensor2.ensures, c.before.before.before.euler-lhs.ensures, tensor.ensures)
+    rw (c.apply_tensor.ensures, c.before.sub3.ensures, c.before.before.tensor-2.ensures, c.before.before.before.euler_lhs-gyro.ensures, tensor.ensures)
 
 pub rate_dot_spec : {M : Type 1} → statement M
 rate_dot_spec =

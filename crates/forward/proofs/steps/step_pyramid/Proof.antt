@@ -8,28 +8,28 @@ use borrow.Author.Rules.{rules}
 use Rattle.forward.proofs.steps.step_pyramid.Statement.{statement}
 use Rattle.forward.proofs.steps.step_pyramid.Tie as tie
 
-returns : tie.Need-returns
+returns : tie.Need-returns-then-singularity_of-p
 unfolding Ieee.of_bits
 returns c =
     let entry = c.before.before.before.before.before.before.before.before.before.before.before in
-    let gimbals-next = c.before.before.before.before.before.before.before.before.gimbals-next in
-    let pyramid-known = c.before.before.before.before.before.before.before.pyramid-known in
-    let enum-told2 = c.before.before.before.before.before.enum-told2 in
-    rw (← pyramid_steps entry.args.p entry.args.u.now entry.args.d entry.args.dt entry.args.k entry.args.skew entry.requires.1.0 gimbals-next.ensures pyramid-known.ensures, enum-told2.given.1, ← c.before.before.before.singularity-of.ensures, c.before.if1.true) c.refuse-gimbals2.ensures
+    let gimbals-next = c.before.before.before.before.before.before.before.before.gimbals_next-e in
+    let pyramid-known = c.before.before.before.before.before.before.before.pyramid_known-m in
+    let enum-told2 = c.before.before.before.before.before.enum_told-in-Going-1 in
+    rw (← pyramid_steps entry.args.p entry.args.u.now entry.args.d entry.args.dt entry.args.k entry.args.skew entry.requires.1.0 gimbals-next.ensures pyramid-known.ensures, enum-told2.given.1, ← c.before.before.before.singularity_of.ensures, c.before.if-singularity_of-p.true) c.refuse_gimbals-then-singularity_of-p.ensures
 
-returns_2 : tie.Need-returns-2
+returns_2 : tie.Need-returns-in-Refused
 returns_2 c =
     let entry = c.before.before.before.before.before.before.before in
-    let gimbals-next = c.before.before.before.before.gimbals-next in
-    rw (← pyramid_steps entry.args.p entry.args.u.now entry.args.d entry.args.dt entry.args.k entry.args.skew entry.requires.1.0 gimbals-next.ensures c.before.before.before.pyramid-known.ensures, c.before.enum_told.given.1) c.refuse-gimbals.ensures
+    let gimbals-next = c.before.before.before.before.gimbals_next-e in
+    rw (← pyramid_steps entry.args.p entry.args.u.now entry.args.d entry.args.dt entry.args.k entry.args.skew entry.requires.1.0 gimbals-next.ensures c.before.before.before.pyramid_known-m.ensures, c.before.enum_told-1.given.1) c.refuse_gimbals.ensures
 
-returns_3 : tie.Need-returns-3
+returns_3 : tie.Need-returns-else-singularity_of-p
 returns_3 c =
     let entry = c.before.before.before.before.before.before.before.before.before.before in
-    let gimbals-next = c.before.before.before.before.before.before.before.gimbals-next in
-    let pyramid-known = c.before.before.before.before.before.before.pyramid-known in
-    let enum-told2 = c.before.before.before.before.enum-told2 in
-    rw (← pyramid_steps entry.args.p entry.args.u.now entry.args.d entry.args.dt entry.args.k entry.args.skew entry.requires.1.0 gimbals-next.ensures pyramid-known.ensures, enum-told2.given.1, ← c.before.before.singularity-of.ensures, c.if1.false)
+    let gimbals-next = c.before.before.before.before.before.before.before.gimbals_next-e in
+    let pyramid-known = c.before.before.before.before.before.before.pyramid_known-m in
+    let enum-told2 = c.before.before.before.before.enum_told-in-Going-1 in
+    rw (← pyramid_steps entry.args.p entry.args.u.now entry.args.d entry.args.dt entry.args.k entry.args.skew entry.requires.1.0 gimbals-next.ensures pyramid-known.ensures, enum-told2.given.1, ← c.before.before.singularity_of.ensures, c.if-singularity_of-p.false)
 
 pub step_pyramid_spec : {M : Type 1} → statement M
 step_pyramid_spec =

@@ -4,13 +4,13 @@ use Rattle.geom.specs.Quats.{normalized}
 use Rattle.geom.proofs.Quat.normalized.Statement.{statement}
 use Rattle.geom.proofs.Quat.normalized.Tie as tie
 
-returns : tie.Need-returns
+returns : tie.Need-returns-then-is_finite
 unfolding normalized
-returns c = rw (c.normal-by.ensures, c.before.norm.ensures, ← c.before.before.before.is_finite.ensures, c.before.before.if1.true)
+returns c = rw (c.normal_by.ensures, c.before.norm.ensures, ← c.before.before.before.is_finite.ensures, c.before.before.if-is_finite.true)
 
-returns_2 : tie.Need-returns-2
+returns_2 : tie.Need-returns-else-is_finite
 unfolding normalized
-returns_2 c = rw (← c.before.is_finite.ensures, c.if1.false)
+returns_2 c = rw (← c.before.is_finite.ensures, c.if-is_finite.false)
 
 pub normalized_spec : {M : Type 1} → statement M
 normalized_spec = tie.close (tie.spec (λ c κs. search rules) (λ c κs. search rules) (λ c κs. search rules) returns returns_2)

@@ -6,10 +6,10 @@ use borrow.Author.Rules.{rules}
 use Rattle.mosaic_answer.proofs.lines.tile_after.Statement.{statement}
 use Rattle.mosaic_answer.proofs.lines.tile_after.Tie as tie
 
-returns_2 : tie.Need-returns-2
+returns_2 : tie.Need-returns
 returns_2 c =
     let tiles = c.before.before.args.tiles in
-    c.tile-at2.ensures ∙ get_or-eq_default tiles _ (omega arith) ∙ sym (get_or-eq_default tiles _ (omega (arith, c.before.if1.false)))
+    c.tile_at-2.ensures ∙ get_or-eq_default tiles _ (omega arith) ∙ sym (get_or-eq_default tiles _ (omega (arith, c.before.if-k-lt64.false)))
 
 pub tile_after_spec : {M : Type 1} → statement M
 tile_after_spec = tie.close (tie.spec (search rules) (search rules) (λ c. search rules) (search rules) returns_2)

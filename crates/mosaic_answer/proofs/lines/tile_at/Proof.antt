@@ -7,7 +7,7 @@ use borrow.Author.Rules.{rules}
 use Rattle.mosaic_answer.proofs.lines.tile_at.Statement.{statement}
 use Rattle.mosaic_answer.proofs.lines.tile_at.Tie as tie
 
-returns_2 : tie.Need-returns-2
+returns_2 : tie.Need-returns
 unfolding Ieee.div Ieee.of_bits
 returns_2 c = sym (get_or-eq_default c.before.args.t1 _ (omega arith))
 

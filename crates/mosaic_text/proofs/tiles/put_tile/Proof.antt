@@ -6,7 +6,7 @@ use borrow.Author.Rules.{rules}
 use Rattle.mosaic_text.proofs.tiles.put_tile.Statement.{statement}
 use Rattle.mosaic_text.proofs.tiles.put_tile.Tie as tie
 
-returns : tie.Need-returns
+returns : tie.Need-returns-then-k-ge64
 returns c = sym (set_out _ _ _ (omega arith))
 
 pub put_tile_spec : {M : Type 1} → statement M

@@ -9,14 +9,14 @@ use native.Mathlib.Omega.{arith}
 use Rattle.normal_equations.proofs.matrix.mirror.Statement.{statement}
 use Rattle.normal_equations.proofs.matrix.mirror.Tie as tie
 
-abbrev invariant_loop : tie.invariant_loop
+abbrev invariant_loop : tie.invariant-loop-d
 invariant_loop a c row₀ n d₀ row d = (d ≤ c) × (length row ≡ length row₀) × (n ≡ length row₀) × (Filled (λ x. at a (x * length row₀ + c)) 0 d (at row₀) (at row))
 
-abbrev decreases_loop : tie.decreases_loop
+abbrev decreases_loop : tie.decreases-loop-d
 decreases_loop a c row₀ n d₀ row d = c - d
 
-loop-again : tie.Need-loop-preserved invariant_loop decreases_loop
-loop-again c = let l = c.before.before.loop in
+loop-again : tie.Need-loop-d-preserved invariant_loop decreases_loop
+loop-again c = let l = c.before.before.loop-d in
     let a = c.before.before.before.args in (
       omega arith,
       simp length-set (omega arith),
@@ -25,7 +25,7 @@ loop-again c = let l = c.before.before.loop in
     )
 
 returns : tie.Need-returns invariant_loop decreases_loop
-returns c = let l = c.before.loop in
+returns c = let l = c.before.loop-d in
     let e : l.d ≡ c.before.before.args.c = omega arith in rw e at l.invariant.3
 
 pub mirror_spec : {M : Type 1} → statement M
@@ -35,10 +35,10 @@ mirror_spec =
     invariant_loop
     decreases_loop
     (λ c. (omega arith, refl, refl, filled_none _ _ _))
-    (λ c. omega (arith, row_end c.before.loop.d (length c.before.before.args.row.now) (length c.before.before.args.row.now) (omega arith)))
-    (λ c. omega (arith, row_end c.before.loop.d (length c.before.before.args.row.now) (length c.before.before.args.row.now) (omega arith)))
-    (λ c. omega (arith, row_end c.before.loop.d (length c.before.before.args.row.now) (length c.before.before.args.row.now) (omega arith)))
-    (λ c. omega (arith, row_end c.before.before.loop.d (length c.before.before.before.args.row.now) (length c.before.before.before.args.row.now) (omega arith)))
+    (λ c. omega (arith, row_end c.before.loop-d.d (length c.before.before.args.row.now) (length c.before.before.args.row.now) (omega arith)))
+    (λ c. omega (arith, row_end c.before.loop-d.d (length c.before.before.args.row.now) (length c.before.before.args.row.now) (omega arith)))
+    (λ c. omega (arith, row_end c.before.loop-d.d (length c.before.before.args.row.now) (length c.before.before.args.row.now) (omega arith)))
+    (λ c. omega (arith, row_end c.before.before.loop-d.d (length c.before.before.before.args.row.now) (length c.before.before.before.args.row.now) (omega arith)))
     (λ c. omega arith)
     (λ c. omega arith)
     (λ c. omega arith)

@@ -13,7 +13,7 @@ returns c = let a = c.before.before.before.before.before.before.args in
     let t = c.before.before.copy in
     let n : ℕ = length a.line.now in
     let whole : length t.new.0 ≡ n = ap length t.ensures in
-    record { own = row_same n a.a.now t.new.0 a.c (omega arith) whole ∙ t.ensures; others = row_other n a.a.now t.new.0 a.c (omega arith) whole }
+    record { own = row_same n a.a-1.now t.new.0 a.c (omega arith) whole ∙ t.ensures; others = row_other n a.a-1.now t.new.0 a.c (omega arith) whole }
 
 pub put_row_spec : {M : Type 1} → statement M
 put_row_spec =

@@ -8,18 +8,18 @@ use native.Mathlib.Omega.{arith}
 use Rattle.normal_equations.proofs.sums.dot.Statement.{statement}
 use Rattle.normal_equations.proofs.sums.dot.Tie as tie
 
-abbrev invariant_loop : tie.invariant_loop
+abbrev invariant_loop : tie.invariant-loop-i
 invariant_loop p q s₀ i₀ s i = (i ≤ length p) × (s ≡ Normal.dot i p q)
 
-abbrev decreases_loop : tie.decreases_loop
+abbrev decreases_loop : tie.decreases-loop-i
 decreases_loop p q s₀ i₀ s i = length p - i
 
-loop-again : tie.Need-loop-preserved invariant_loop decreases_loop
-loop-again c = let l = c.before.before.before.loop in
+loop-again : tie.Need-loop-i-preserved invariant_loop decreases_loop
+loop-again c = let l = c.before.before.before.loop-i in
     (omega arith, iter_next _ _ l.i l.invariant.1 refl)
 
 returns : tie.Need-returns invariant_loop decreases_loop
-returns c = let l = c.before.loop in
+returns c = let l = c.before.loop-i in
     let e : l.i ≡ length c.before.before.args.p.now = omega arith in rw e at l.invariant.1
 
 pub dot_spec : {M : Type 1} → statement M

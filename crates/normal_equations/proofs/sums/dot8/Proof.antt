@@ -8,14 +8,14 @@ use native.Mathlib.Omega.{arith}
 use Rattle.normal_equations.proofs.sums.dot8.Statement.{statement}
 use Rattle.normal_equations.proofs.sums.dot8.Tie as tie
 
-abbrev invariant_loop : tie.invariant_loop
+abbrev invariant_loop : tie.invariant-loop-i
 invariant_loop o p q t u v a₀ b₀ c₀ d₀ e₀ f₀ g₀ h₀ i₀ a b c d e f g h i = (i ≤ length o) × (a ≡ Normal.dot i o q) × (b ≡ Normal.dot i o t) × (c ≡ Normal.dot i o u) × (d ≡ Normal.dot i o v) × (e ≡ Normal.dot i p q) × (f ≡ Normal.dot i p t) × (g ≡ Normal.dot i p u) × (h ≡ Normal.dot i p v)
 
-abbrev decreases_loop : tie.decreases_loop
+abbrev decreases_loop : tie.decreases-loop-i
 decreases_loop o p q t u v a₀ b₀ c₀ d₀ e₀ f₀ g₀ h₀ i₀ a b c d e f g h i = length o - i
 
-loop-again : tie.Need-loop-preserved invariant_loop decreases_loop
-loop-again c = let l = c.before.before.before.before.before.before.before.loop in (
+loop-again : tie.Need-loop-i-preserved invariant_loop decreases_loop
+loop-again c = let l = c.before.before.before.before.before.before.before.loop-i in (
   omega arith,
   iter_next _ _ l.i l.invariant.1 refl,
   iter_next _ _ l.i l.invariant.2 refl,
@@ -29,7 +29,7 @@ loop-again c = let l = c.before.before.before.before.before.before.before.loop i
 
 returns : tie.Need-returns invariant_loop decreases_loop
 returns c =
-    let l = c.before.loop in
+    let l = c.before.loop-i in
     let e : l.i ≡ length c.before.before.args.o.now = omega arith in
     let f : l.i ≡ length c.before.before.args.p.now = omega arith in (
       record { first = rw e at l.invariant.1; second = rw e at l.invariant.2; third = rw e at l.invariant.3; fourth = rw e at l.invariant.4 },

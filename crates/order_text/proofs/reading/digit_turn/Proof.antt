@@ -8,36 +8,36 @@ use Rattle.order_text.specs.TileTextLaws.{digit_shut, digit_none, digit_capped, 
 use Rattle.order_text.proofs.reading.digit_turn.Statement.{statement}
 use Rattle.order_text.proofs.reading.digit_turn.Tie as tie
 
-read : (c : tie.After-hex-digit) → let a = c.before.before.before.before.before.args in c.hex-digit.result ≡ digit (get_or a.s.now a.c.at 0)
-read c = rw c.before.byte.ensures at c.hex-digit.ensures
+read : (c : tie.After-hex_digit-d) → let a = c.before.before.before.before.before.args in c.hex_digit-d.result ≡ digit (get_or a.s.now a.c.at 0)
+read c = rw c.before.byte.ensures at c.hex_digit-d.ensures
 
-returns : tie.Need-returns
-returns c = let b = c.before.before.before in digit_shut b.args.s.now b.args.c b.requires.0 b.requires.1 (not-true _ c.if1.true)
+returns : tie.Need-returns-then-not-c
+returns c = let b = c.before.before.before in digit_shut b.args.s.now b.args.c b.requires.0 b.requires.1 (not-true _ c.if-not-c.true)
 
-returns_2 : tie.Need-returns-2
+returns_2 : tie.Need-returns-then-d-ge10
 returns_2 c =
     let h = c.before in
     let e = h.before.before in
     let b = e.before.before.before in
-    digit_none b.args.s.now b.args.c b.requires.0 b.requires.1 (not-false _ e.if1.false) _ (read h) c.if2.true
+    digit_none b.args.s.now b.args.c b.requires.0 b.requires.1 (not-false _ e.if-not-c.false) _ (read h) c.if-d-ge10.true
 
-returns_3 : tie.Need-returns-3
+returns_3 : tie.Need-returns-then-v-gt99999999
 returns_3 c =
     let d = c.before in
     let n = d.before.before in
     let h = n.before in
     let e = h.before.before in
     let b = e.before.before.before in
-    digit_capped b.args.s.now b.args.c b.requires.0 b.requires.1 (not-false _ e.if1.false) _ (d.digit_value.ensures ∙ read h) (rw (← d.digit_value.ensures) at n.if2.false) c.if3.true
+    digit_capped b.args.s.now b.args.c b.requires.0 b.requires.1 (not-false _ e.if-not-c.false) _ (d.digit_value.ensures ∙ read h) (rw (← d.digit_value.ensures) at n.if-d-ge10.false) c.if-v-gt99999999.true
 
-returns-4 : tie.Need-returns-4
+returns-4 : tie.Need-returns
 returns-4 c =
     let d = c.before in
     let n = d.before.before in
     let h = n.before in
     let e = h.before.before in
     let b = e.before.before.before in
-    digit_more b.args.s.now b.args.c b.requires.0 b.requires.1 (not-false _ e.if1.false) _ (d.digit_value.ensures ∙ read h) (rw (← d.digit_value.ensures) at n.if2.false) c.if3.false
+    digit_more b.args.s.now b.args.c b.requires.0 b.requires.1 (not-false _ e.if-not-c.false) _ (d.digit_value.ensures ∙ read h) (rw (← d.digit_value.ensures) at n.if-d-ge10.false) c.if-v-gt99999999.false
 
 pub digit_turn_spec : {M : Type 1} → statement M
 digit_turn_spec =

@@ -9,42 +9,42 @@ use Rattle.order_text.specs.TileTextLaws.{line_none, line_wrong, line_unended, l
 use Rattle.order_text.proofs.reading.line_at.Statement.{statement}
 use Rattle.order_text.proofs.reading.line_at.Tie as tie
 
-returns : tie.Need-returns
-returns c = line_none _ _ _ _ _ _ (sym c.before.is_at.ensures.is ∙ not-true _ c.if1.true)
+returns : tie.Need-overflow_add-at
+returns c = line_none _ _ _ _ _ _ (sym c.before.is_at.ensures.is ∙ not-true _ c.if-not-is_at.true)
 
-returns_2 : tie.Need-returns-2
+returns_2 : tie.Need-ends_at-requires
 returns_2 c =
     let r = c.before.before.before in
     let e = r.before in
-    line_wrong _ _ _ _ _ _ (sym e.before.is_at.ensures.is ∙ not-false _ e.if1.false) r.row_at.ensures (not-true _ c.if2.true)
+    line_wrong _ _ _ _ _ _ (sym e.before.is_at.ensures.is ∙ not-false _ e.if-not-is_at.false) r.row_at-c.ensures (not-true _ c.if-not-c.true)
 
-returns_3 : tie.Need-returns-3
+returns_3 : tie.Need-tail_length-requires
 returns_3 c =
     let a = c.before in
     let o = a.before in
     let r = o.before.before.before in
     let e = r.before in
-    line_unended _ _ _ _ _ _ (sym e.before.is_at.ensures.is ∙ not-false _ e.if1.false) r.row_at.ensures (not-false _ o.if2.false)
-    (sym a.ends_at.ensures.is ∙ not-true _ c.if3.true)
+    line_unended _ _ _ _ _ _ (sym e.before.is_at.ensures.is ∙ not-false _ e.if-not-is_at.false) r.row_at-c.ensures (not-false _ o.if-not-c.false)
+    (sym a.ends_at.ensures.is ∙ not-true _ c.if-not-ends_at.true)
 
 -- a row that is ended lies within the text
-inside : (c : tie.After-tail-length) → let r = c.before.before.before.before.before.before.row_at.result in let b = c.before.before.before.before.before.before.before.before.before.before.before in
-    r.at + c.tail-length.result ≤ length b.args.s.now
-inside c = let z = c.before.before.ends_at.ensures.within (not-false _ c.before.if3.false) in rw c.tail-length.ensures z
+inside : (c : tie.After-tail_length) → let r = c.before.before.before.before.before.before.row_at-c.result in let b = c.before.before.before.before.before.before.before.before.before.before.before in
+    r.at + c.tail_length.result ≤ length b.args.s.now
+inside c = let z = c.before.before.ends_at.ensures.within (not-false _ c.before.if-not-ends_at.false) in rw c.tail_length.ensures z
 
-returns-4 : tie.Need-returns-4
+returns-4 : tie.Need-returns
 returns-4 c =
     let x = c.before in
     let a = x.before in
     let o = a.before in
     let r = o.before.before.before in
     let e = r.before in
-    line_ended _ _ _ _ _ _ (sym e.before.is_at.ensures.is ∙ not-false _ e.if1.false) r.row_at.ensures (not-false _ o.if2.false)
-    (sym a.ends_at.ensures.is ∙ not-false _ x.if3.false) c.tail-length.ensures (inside c)
+    line_ended _ _ _ _ _ _ (sym e.before.is_at.ensures.is ∙ not-false _ e.if-not-is_at.false) r.row_at-c.ensures (not-false _ o.if-not-c.false)
+    (sym a.ends_at.ensures.is ∙ not-false _ x.if-not-ends_at.false) c.tail_length.ensures (inside c)
 
 pub line_at_spec : {M : Type 1} → statement M
 line_at_spec =
     tie.close
-    (tie.spec (search rules) (search rules) returns (λ c. omega (arith, c.before.is_at.ensures.within (not-false _ c.if1.false)))
-    (λ c κs. let b = c.before.before.before.before in (c.before.is_at.ensures.within (not-false _ c.if1.false), b.requires.0, b.requires.1))
+    (tie.spec (search rules) (search rules) returns (λ c. omega (arith, c.before.is_at.ensures.within (not-false _ c.if-not-is_at.false)))
+    (λ c κs. let b = c.before.before.before.before in (c.before.is_at.ensures.within (not-false _ c.if-not-is_at.false), b.requires.0, b.requires.1))
     returns_2 (search rules) returns_3 (search rules) (λ c. omega (arith, inside c)) returns-4)

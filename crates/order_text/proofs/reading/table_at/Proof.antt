@@ -9,21 +9,21 @@ use borrow.Author.Rules.{rules}
 use Rattle.order_text.proofs.reading.table_at.Statement.{statement}
 use Rattle.order_text.proofs.reading.table_at.Tie as tie
 
-abbrev invariant_loop : tie.invariant_loop
+abbrev invariant_loop : tie.invariant-loop-i
 invariant_loop s at n c₀ i₀ c i = (i ≤ n) × (c ≡ iter (table_turn s n) c₀ i)
 
-abbrev decreases_loop : tie.decreases_loop
+abbrev decreases_loop : tie.decreases-loop-i
 decreases_loop s at n c₀ i₀ c i = n - i
 
 returns : tie.Need-returns invariant_loop decreases_loop
 unfolding table_at
 returns c =
-    let l = c.before.loop in
+    let l = c.before.loop-i in
     let e : l.i ≡ c.before.before.before.args.n = omega arith in
     rw e at l.invariant.1
 
 pub table_at_spec : {M : Type 1} → statement M
 table_at_spec =
     tie.close
-    (tie.spec invariant_loop decreases_loop (λ c. (omega arith, iter_none _ _)) (λ c κs. (c.loop-test.true, c.before.before.before.requires)) (search rules)
-    (search rules) (λ c. let l = c.before.before.loop in (omega arith, iter_next _ _ l.i l.invariant.1 c.table-turn.ensures)) returns)
+    (tie.spec invariant_loop decreases_loop (λ c. (omega arith, iter_none _ _)) (λ c κs. (c.loop-i-test.true, c.before.before.before.requires)) (search rules)
+    (search rules) (λ c. let l = c.before.before.loop-i in (omega arith, iter_next _ _ l.i l.invariant.1 c.table_turn-c.ensures)) returns)

@@ -13,18 +13,18 @@ use Rattle.order_text.proofs.reading.table_turn.Tie as tie
 low : (i n m : ℕ) → i < n → n < m → i * n ≤ m * m
 low i n m h l = mul-le-mul (omega arith) (omega arith)
 
-returns : tie.Need-returns
-returns c = table_shut _ _ _ _ c.if1.true
+returns : tie.Need-returns-then-c-ne0
+returns c = table_shut _ _ _ _ c.if-c-ne0.true
 
-returns_2 : tie.Need-returns-2
+returns_2 : tie.Need-returns-then-not-r
 returns_2 c =
     let l = c.before.before.before in
-    table_wrong _ _ _ _ l.before.before.if1.false refl l.line_at_lem.ensures (not-true _ c.if2.true)
+    table_wrong _ _ _ _ l.before.before.if-c-ne0.false refl l.line_at_lem.ensures (not-true _ c.if-not-r.true)
 
-returns_3 : tie.Need-returns-3
+returns_3 : tie.Need-returns
 returns_3 c =
     let l = c.before.before.before in
-    table_more _ _ _ _ l.before.before.if1.false refl l.line_at_lem.ensures (not-false _ c.if2.false)
+    table_more _ _ _ _ l.before.before.if-c-ne0.false refl l.line_at_lem.ensures (not-false _ c.if-not-r.false)
 
 pub table_turn_spec : {M : Type 1} → statement M
 table_turn_spec =

@@ -8,25 +8,25 @@ use borrow.Author.Rules.{rules}
 use Rattle.order_text.proofs.writing.put_tiles.Statement.{statement}
 use Rattle.order_text.proofs.writing.put_tiles.Tie as tie
 
-abbrev invariant_loop : tie.invariant_loop
+abbrev invariant_loop : tie.invariant-loop-k
 invariant_loop b₀ at order n i₀ k₀ b i k = PutsFirst (λ j. tile (get_or order j 0)) 21 n b₀ at k b i
 
-abbrev decreases_loop : tie.decreases_loop
+abbrev decreases_loop : tie.decreases-loop-k
 decreases_loop b₀ at order n i₀ k₀ b i k = n - k
 
-loop-again : tie.Need-loop-preserved invariant_loop decreases_loop
+loop-again : tie.Need-loop-k-preserved invariant_loop decreases_loop
 loop-again c =
     let put = c.before.before in
-    let l = put.before.before.before.before.loop in
-    first_next l.invariant (omega arith) put.put-tile.ensures put.put-tile.auto.0
+    let l = put.before.before.before.before.loop-k in
+    first_next l.invariant (omega arith) put.put_tile-i.ensures put.put-tile.auto.0
 
 returns : tie.Need-returns invariant_loop decreases_loop
 unfolding tiles
-returns c = first_all c.before.loop.invariant (omega arith)
+returns c = first_all c.before.loop-k.invariant (omega arith)
 
 pub put_tiles_spec : {M : Type 1} → statement M
 put_tiles_spec =
     tie.close
     (tie.spec invariant_loop decreases_loop (λ c. first_none) (search rules) (search rules)
-    (λ c κs. let l = c.before.before.before.loop in omega (arith, l.invariant.puts.ends, l.invariant.puts.short)) (search rules) (search rules) loop-again
-    (λ c. c.before.loop.invariant.same) returns)
+    (λ c κs. let l = c.before.before.before.loop-k in omega (arith, l.invariant.puts.ends, l.invariant.puts.short)) (search rules) (search rules) loop-again
+    (λ c. c.before.loop-k.invariant.same) returns)

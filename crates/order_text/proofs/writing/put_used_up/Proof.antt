@@ -5,15 +5,15 @@ use Rattle.text_writer.specs.PutLaws.{puts_most}
 use Rattle.order_text.proofs.writing.put_used_up.Statement.{statement}
 use Rattle.order_text.proofs.writing.put_used_up.Tie as tie
 
-returns : tie.Need-returns
+returns : tie.Need-put_all-requires-2
 returns c =
-    let if1 = c.before.before.before.before.before.if1 in
+    let if1 = c.before.before.before.before.before.if-exhausted in
     rw if1.true (puts_most (omega arith) c.before.before.put_all_lem.ensures)
 
-returns_2 : tie.Need-returns-2
+returns_2 : tie.Need-returns
 returns_2 c =
-    let if1 = c.before.before.before.before.before.if1 in
-    rw if1.false (puts_most (omega arith) c.before.before.put-all2.ensures)
+    let if1 = c.before.before.before.before.before.if-exhausted in
+    rw if1.false (puts_most (omega arith) c.before.before.put_all-2.ensures)
 
 pub put_used_up_spec : {M : Type 1} → statement M
 put_used_up_spec = tie.close (tie.spec (search rules) (search rules) (search rules) returns (search rules) (search rules) (search rules) returns_2)

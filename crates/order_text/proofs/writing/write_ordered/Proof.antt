@@ -7,11 +7,11 @@ use Rattle.order_text.specs.OrderTexts.{ordered_text, ordered}
 use Rattle.order_text.proofs.writing.write_ordered.Statement.{statement}
 use Rattle.order_text.proofs.writing.write_ordered.Tie as tie
 
-returns : tie.Need-returns
+returns : tie.Need-returns-then-n-gt10
 unfolding ordered
-returns c = rw (lt-leb _ _ c.if1.true) (puts_none _ _ _)
+returns c = rw (lt-leb _ _ c.if-n-gt10.true) (puts_none _ _ _)
 
-returns_2 : tie.Need-returns-2
+returns_2 : tie.Need-returns
 unfolding ordered ordered_text
 returns_2 c =
     let z = c.before.before in
@@ -20,9 +20,9 @@ returns_2 c =
     let p = u.before.before.before.before in
     let k = p.before.before.before.before.before in
     let o = k.before.before.before.before.before in
-    rw (le-leb _ _ o.before.before.before.before.if1.false)
+    rw (le-leb _ _ o.before.before.before.before.if-n-gt10.false)
     (puts_most (omega arith)
-    (puts_join (puts_join (puts_join (puts_join (puts_join o.put_order.ensures k.put-counted.ensures) p.put-counted2.ensures) u.put-used-up.ensures) f.put-counted3.ensures) z.put_all_lem.ensures))
+    (puts_join (puts_join (puts_join (puts_join (puts_join o.put_order-i.ensures k.put_counted-j.ensures) p.put_counted-k.ensures) u.put_used_up-l.ensures) f.put_counted-m.ensures) z.put_all_lem.ensures))
 
 pub write_ordered_spec : {M : Type 1} → statement M
 write_ordered_spec =

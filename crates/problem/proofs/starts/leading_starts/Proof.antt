@@ -11,23 +11,23 @@ use borrow.Author.Rules.{rules}
 use Rattle.problem.proofs.starts.leading_starts.Statement.{statement}
 use Rattle.problem.proofs.starts.leading_starts.Tie as tie
 
-abbrev invariant_loop : tie.invariant_loop
+abbrev invariant_loop : tie.invariant-loop-k
 invariant_loop n limits m k₀ k = (k ≤ 8) × (k ≡ iter (leading_turn n limits m) 0 k)
 
-abbrev decreases_loop : tie.decreases_loop
+abbrev decreases_loop : tie.decreases-loop-k
 decreases_loop n limits m k₀ k = 8 - k
 
-loop-holds : tie.Need-loop-init invariant_loop decreases_loop
+loop-holds : tie.Need-loop-k-init invariant_loop decreases_loop
 loop-holds c = (omega arith, iter_none _ _)
 
-returns : tie.Need-returns invariant_loop decreases_loop
-returns c = leading_stays _ _ _ _ c.before.before.before.loop.invariant.1 c.before.before.before.loop.invariant.0 (unmet c.before.wheel-starts.ensures c.if1.true)
+returns : tie.Need-returns-then-not-wheel_starts invariant_loop decreases_loop
+returns c = leading_stays _ _ _ _ c.before.before.before.loop-k.invariant.1 c.before.before.before.loop-k.invariant.0 (unmet c.before.wheel_starts.ensures c.if-not-wheel_starts.true)
 
-loop-again : tie.Need-loop-preserved invariant_loop decreases_loop
-loop-again c = (omega arith, leading_next _ _ _ _ c.before.before.before.loop.invariant.1 (met c.before.wheel-starts.ensures c.if1.false))
+loop-again : tie.Need-loop-k-preserved invariant_loop decreases_loop
+loop-again c = (omega arith, leading_next _ _ _ _ c.before.before.before.loop-k.invariant.1 (met c.before.wheel_starts.ensures c.if-not-wheel_starts.false))
 
-returns_2 : tie.Need-returns-2 invariant_loop decreases_loop
-returns_2 c = leading_whole _ _ _ _ c.before.loop.invariant.1 (omega arith)
+returns_2 : tie.Need-returns invariant_loop decreases_loop
+returns_2 c = leading_whole _ _ _ _ c.before.loop-k.invariant.1 (omega arith)
 
 pub leading_starts_spec : {M : Type 1} → statement M
 leading_starts_spec =

@@ -13,14 +13,14 @@ returns c =
     let after-place-start2 = after-place-start3.before in
     let after-place-start = after-place-start2.before in
     rw (
-      c.place-start8.ensures,
-      c.before.place-start7.ensures,
-      c.before.before.place-start6.ensures,
-      after-place-start5.place-start5.ensures,
-      after-place-start4.place-start4.ensures,
-      after-place-start3.place-start3.ensures,
-      after-place-start2.place-start2.ensures,
-      after-place-start.place-start.ensures,
+      c.place_start-8.ensures,
+      c.before.place_start-7.ensures,
+      c.before.before.place_start-6.ensures,
+      after-place-start5.place_start-5.ensures,
+      after-place-start4.place_start-4.ensures,
+      after-place-start3.place_start-3.ensures,
+      after-place-start2.place_start-2.ensures,
+      after-place-start.place_start.ensures,
     )
 
 pub placed_spec : {M : Type 1} → statement M

@@ -5,31 +5,31 @@ use native.Mathlib.Omega.{arith}
 use Rattle.problem_text.proofs.listing.close_at.Statement.{statement}
 use Rattle.problem_text.proofs.listing.close_at.Tie as tie
 
-add-t13 : tie.Need-overflow-add-t13
-add-t13 c = omega (arith, c.before.is_at.ensures.within c.if1.true)
+add-t13 : tie.Need-returns-then-is_at
+add-t13 c = omega (arith, c.before.is_at.ensures.within c.if-is_at.true)
 
-returns : tie.Need-returns
+returns : tie.Need-is_at-requires-2
 unfolding close_at
-returns c = simp (← c.before.is_at.ensures.is, c.if1.true)
+returns c = simp (← c.before.is_at.ensures.is, c.if-is_at.true)
 
-add-end-at : tie.Need-overflow-add-end-at
-add-end-at c = omega (arith, c.before.is-at2.ensures.within c.if2.true)
+add-end-at : tie.Need-returns-then-is_at-2
+add-end-at c = omega (arith, c.before.is_at-2.ensures.within c.if-is_at-2.true)
 
-returns_2 : tie.Need-returns-2
+returns_2 : tie.Need-returns
 unfolding close_at
 returns_2 c =
     let at-is-at2 = c.before.before in
     let at-if1 = at-is-at2.before.before in
     let at-is-at = at-if1.before in
-    simp (← at-is-at.is_at.ensures.is, at-if1.if1.false, ← at-is-at2.is-at2.ensures.is, c.before.if2.true) c.end-at.ensures
+    simp (← at-is-at.is_at.ensures.is, at-if1.if-is_at.false, ← at-is-at2.is_at-2.ensures.is, c.before.if-is_at-2.true) c.end_at.ensures
 
-returns_3 : tie.Need-returns-3
+returns_3 : tie.Need-returns
 unfolding close_at
 returns_3 c =
     let at-is-at2 = c.before.before in
     let at-if1 = at-is-at2.before.before in
     let at-is-at = at-if1.before in
-    simp (← at-is-at.is_at.ensures.is, at-if1.if1.false, ← at-is-at2.is-at2.ensures.is, c.before.if2.false) c.wrong-line.ensures
+    simp (← at-is-at.is_at.ensures.is, at-if1.if-is_at.false, ← at-is-at2.is_at-2.ensures.is, c.before.if-is_at-2.false) c.wrong_line.ensures
 
 pub close_at_spec : {M : Type 1} → statement M
 close_at_spec =

@@ -5,13 +5,13 @@ use borrow.Author.Rules.{rules}
 use Rattle.problem_text.proofs.listing.end_at.Statement.{statement}
 use Rattle.problem_text.proofs.listing.end_at.Tie as tie
 
-returns : tie.Need-returns
+returns : tie.Need-returns-then-at-s
 unfolding end_at
-returns c = simp (lt-ltb _ _ c.before.if1.true) c.wrong-line.ensures
+returns c = simp (lt-ltb _ _ c.before.if-at-s.true) c.wrong_line.ensures
 
-returns_2 : tie.Need-returns-2
+returns_2 : tie.Need-returns
 unfolding end_at
-returns_2 c = simp (le-ltb _ _ c.if1.false)
+returns_2 c = simp (le-ltb _ _ c.if-at-s.false)
 
 pub end_at_spec : {M : Type 1} → statement M
 end_at_spec = tie.close (tie.spec (search rules) (search rules) returns (search rules) returns_2)

@@ -7,20 +7,20 @@ use native.Mathlib.Omega.{arith}
 use Rattle.problem_text.proofs.listing.first_line.Statement.{statement}
 use Rattle.problem_text.proofs.listing.first_line.Tie as tie
 
-returns : tie.Need-returns
+returns : tie.Need-overflow_add-at
 unfolding first_line
 returns c =
-    let no-actuators = c.before.before.before.before.no-actuators in
-    simp (unmet c.before.before.is_at.ensures.is c.before.if1.true) (rw no-actuators.ensures at c.wrong-line.ensures)
+    let no-actuators = c.before.before.before.before.no_actuators-none in
+    simp (unmet c.before.before.is_at.ensures.is c.before.if-not-is_at.true) (rw no-actuators.ensures at c.wrong_line.ensures)
 
-add-close-at : tie.Need-overflow-add-close-at
-add-close-at c = omega (arith, c.before.is_at.ensures.within (not-false _ c.if1.false))
+add-close-at : tie.Need-close_at-requires
+add-close-at c = omega (arith, c.before.is_at.ensures.within (not-false _ c.if-not-is_at.false))
 
-returns_2 : tie.Need-returns-2
+returns_2 : tie.Need-returns
 unfolding first_line
 returns_2 c =
-    let no-actuators = c.before.before.before.before.no-actuators in
-    simp (met c.before.before.is_at.ensures.is c.before.if1.false) (rw no-actuators.ensures at c.close_at.ensures)
+    let no-actuators = c.before.before.before.before.no_actuators-none in
+    simp (met c.before.before.is_at.ensures.is c.before.if-not-is_at.false) (rw no-actuators.ensures at c.close_at.ensures)
 
 pub first_line_spec : {M : Type 1} → statement M
 first_line_spec = tie.close (tie.spec (search rules) (search rules) (search rules) (search rules) returns add-close-at (search rules) returns_2)

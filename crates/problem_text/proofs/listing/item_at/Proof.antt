@@ -4,28 +4,28 @@ use borrow.Author.Rules.{rules}
 use Rattle.problem_text.proofs.listing.item_at.Statement.{statement}
 use Rattle.problem_text.proofs.listing.item_at.Tie as tie
 
-returns : tie.Need-returns
+returns : tie.Need-returns-then-thruster
 unfolding item_at
-returns c = simp (← c.before.line_at_lem.ensures, c.if1.true)
+returns c = simp (← c.before.line_at_lem.ensures, c.if-wheel.true)
 
-returns_2 : tie.Need-returns-2
+returns_2 : tie.Need-returns
 unfolding item_at
-returns_2 c = let none = c.before.before.before.before in simp (← none.before.line_at_lem.ensures, none.if1.false, ← c.before.line-at2.ensures, c.if2.true)
+returns_2 c = let none = c.before.before.before.before in simp (← none.before.line_at_lem.ensures, none.if-wheel.false, ← c.before.line_at-thruster.ensures, c.if-thruster.true)
 
-returns_3 : tie.Need-returns-3
+returns_3 : tie.Need-returns-then-pyramid
 unfolding item_at
 returns_3 c =
     let second = c.before.before.before.before in
     let none = second.before.before.before.before in
-    simp (← none.before.line_at_lem.ensures, none.if1.false, ← second.before.line-at2.ensures, second.if2.false, ← c.before.line-at3.ensures, c.if3.true)
+    simp (← none.before.line_at_lem.ensures, none.if-wheel.false, ← second.before.line_at-thruster.ensures, second.if-thruster.false, ← c.before.line_at-pyramid.ensures, c.if-pyramid.true)
 
-returns-4 : tie.Need-returns-4
+returns-4 : tie.Need-returns
 unfolding item_at
 returns-4 c =
     let third = c.before in
     let second = third.before.before.before.before in
     let none = second.before.before.before.before in
-    simp (← none.before.line_at_lem.ensures, none.if1.false, ← second.before.line-at2.ensures, second.if2.false, ← third.before.line-at3.ensures, third.if3.false, c.wrong_row.ensures)
+    simp (← none.before.line_at_lem.ensures, none.if-wheel.false, ← second.before.line_at-thruster.ensures, second.if-thruster.false, ← third.before.line_at-pyramid.ensures, third.if-pyramid.false, c.wrong_row.ensures)
 
 pub item_at_spec : {M : Type 1} → statement M
 item_at_spec =

@@ -6,7 +6,7 @@ use borrow.Author.Rules.{rules}
 use Rattle.problem_text.proofs.listing.put_thruster.Statement.{statement}
 use Rattle.problem_text.proofs.listing.put_thruster.Tie as tie
 
-returns : tie.Need-returns
+returns : tie.Need-returns-then-k-ge12
 returns c = sym (set_out _ _ _ (omega arith))
 
 pub put_thruster_spec : {M : Type 1} → statement M

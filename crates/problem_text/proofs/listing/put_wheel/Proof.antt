@@ -6,7 +6,7 @@ use borrow.Author.Rules.{rules}
 use Rattle.problem_text.proofs.listing.put_wheel.Statement.{statement}
 use Rattle.problem_text.proofs.listing.put_wheel.Tie as tie
 
-returns : tie.Need-returns
+returns : tie.Need-returns-then-k-ge8
 returns c = sym (set_out _ _ _ (omega arith))
 
 pub put_wheel_spec : {M : Type 1} → statement M

@@ -4,23 +4,23 @@ use Rattle.profile.specs.Profiles.{angle}
 use Rattle.profile.proofs.Profile.angle.Statement.{statement}
 use Rattle.profile.proofs.Profile.angle.Tie as tie
 
-returns : tie.Need-returns
+returns : tie.Need-returns-then-t-self
 unfolding angle of_bits
-returns c = rw c.before.if1.true
+returns c = rw c.before.if-t-self.true
 
-returns_2 : tie.Need-returns-2
+returns_2 : tie.Need-returns-then-t-t_dec
 unfolding angle of_bits
 returns_2 c =
     let branch2 = c.before.before.before.before.before in
     let branch1 = branch2.before in
-    rw (branch1.if1.false, branch2.if2.true)
+    rw (branch1.if-t-self.false, branch2.if-t-t_dec.true)
 
-returns_3 : tie.Need-returns-3
+returns_3 : tie.Need-returns-else-t-t_dec
 unfolding angle of_bits
 returns_3 c =
     let branch2 = c.before.before.before.before in
     let branch1 = branch2.before in
-    rw (branch1.if1.false, branch2.if2.false)
+    rw (branch1.if-t-self.false, branch2.if-t-t_dec.false)
 
 pub angle_spec : {M : Type 1} → statement M
 angle_spec = tie.close (tie.spec returns returns_2 returns_3)

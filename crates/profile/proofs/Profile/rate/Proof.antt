@@ -3,17 +3,17 @@ use Rattle.profile.specs.Profiles.{rate}
 use Rattle.profile.proofs.Profile.rate.Statement.{statement}
 use Rattle.profile.proofs.Profile.rate.Tie as tie
 
-returns : tie.Need-returns
+returns : tie.Need-returns-then-t-self
 unfolding rate
-returns c = rw c.before.if1.true
+returns c = rw c.before.if-t-self.true
 
-returns_2 : tie.Need-returns-2
+returns_2 : tie.Need-returns-then-t-t_dec
 unfolding rate
-returns_2 c = rw (c.before.if1.false, c.if2.true)
+returns_2 c = rw (c.before.if-t-self.false, c.if-t-t_dec.true)
 
-returns_3 : tie.Need-returns-3
+returns_3 : tie.Need-returns-else-t-t_dec
 unfolding rate
-returns_3 c = rw (c.before.before.before.if1.false, c.before.before.if2.false)
+returns_3 c = rw (c.before.before.before.if-t-self.false, c.before.before.if-t-t_dec.false)
 
 pub rate_spec : {M : Type 1} → statement M
 rate_spec = tie.close (tie.spec returns returns_2 returns_3)

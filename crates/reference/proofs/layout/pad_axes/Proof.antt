@@ -10,21 +10,21 @@ use Rattle.common.specs.IterLaws.{iter_none, iter_next}
 use Rattle.control_rows.specs.Stored.{stored}
 use Rattle.reference.specs.Layouts as Layouts
 
-abbrev invariant_loop : tie.invariant_loop
+abbrev invariant_loop : tie.invariant-loop-i
 invariant_loop t out₀ i₀ out i = (i ≤ 24) × ((length out ≡ 36) × (out ≡ stored (Layouts.copy_at t) out₀ i))
 
-abbrev decreases_loop : tie.decreases_loop
+abbrev decreases_loop : tie.decreases-loop-i
 decreases_loop t out₀ i₀ out i = 24 - i
 
-loop-holds : tie.Need-loop-init invariant_loop decreases_loop
+loop-holds : tie.Need-loop-i-init invariant_loop decreases_loop
 loop-holds c = (search rules, (search rules, iter_none _ _))
 
-loop-again : tie.Need-loop-preserved invariant_loop decreases_loop
-loop-again c = (search rules, (search rules, iter_next _ _ _ c.before.before.loop.invariant.1.1 refl))
+loop-again : tie.Need-loop-i-preserved invariant_loop decreases_loop
+loop-again c = (search rules, (search rules, iter_next _ _ _ c.before.before.loop-i.invariant.1.1 refl))
 
 returns : tie.Need-returns invariant_loop decreases_loop
 unfolding Layouts.pad_axes Ieee.of_bits
-returns c = let e : c.before.loop.i ≡ 24 = omega arith in rw (← e) c.before.loop.invariant.1.1
+returns c = let e : c.before.loop-i.i ≡ 24 = omega arith in rw (← e) c.before.loop-i.invariant.1.1
 
 pub pad_axes_spec : {M : Type 1} → statement M
 pad_axes_spec =

@@ -3,13 +3,13 @@ use Rattle.reference.proofs.layout.power_limit.Statement.{statement}
 use Rattle.reference.proofs.layout.power_limit.Tie as tie
 use lib.Ieee as Ieee
 
-returns : tie.Need-returns
+returns : tie.Need-returns-in-Nothing
 unfolding Ieee.of_bits
-returns c = rw c.enum_told.given.1
+returns c = rw c.enum_told-1.given.1
 
-returns_2 : tie.Need-returns-2
+returns_2 : tie.Need-returns-in-At
 unfolding Ieee.of_bits
-returns_2 c = rw c.before.limit.given.1
+returns_2 c = rw c.before.limit-1.given.1
 
 pub power_limit_spec : {M : Type 1} → statement M
 power_limit_spec =

@@ -5,17 +5,17 @@ use native.Mathlib.Omega.{arith}
 use Rattle.reference.specs.Prepare as Prepare
 use Rattle.reference.specs.SearchLaws.{times_steps}
 
-verify-requires : tie.Need-verify-requires
-unfolding Prepare.with_times
-verify-requires c κs = rw c.with-times.ensures (search rules)
+verify-requires : tie.Need-verify-verdict-requires
+unfolding Prepare.with_times-reference
+verify-requires c κs = rw c.with_times-reference.ensures (search rules)
 
-returns : tie.Need-returns
-unfolding Prepare.with_times
-returns c = (rw (c.before.before.before.duration.given.1, c.verify.ensures.is, c.before.with-times.ensures), record { trials = omega arith; samples = omega (arith, c.verify.ensures.few); few = rw c.before.with-times.ensures c.before.before.before.before.before.requires.0; steps = rw c.before.with-times.ensures c.before.before.before.before.before.requires.1; promised = c.verify.ensures.promised })
+returns : tie.Need-returns-in-At
+unfolding Prepare.with_times-reference
+returns c = (rw (c.before.before.before.duration-1.given.1, c.verify-verdict.ensures.is, c.before.with_times-reference.ensures), record { trials = omega arith; samples = omega (arith, c.verify-verdict.ensures.few); few = rw c.before.with_times-reference.ensures c.before.before.before.before.before.requires.0; steps = rw c.before.with_times-reference.ensures c.before.before.before.before.before.requires.1; promised = c.verify-verdict.ensures.promised })
 
-returns_2 : tie.Need-returns-2
-unfolding Prepare.with_times
-returns_2 c = (rw (c.before.before.enum_told.given.1, c.with-times2.ensures, c.before.shortest.ensures.is), record { trials = c.before.shortest.ensures.trials; samples = omega (arith, c.before.shortest.ensures.samples, times_steps c.before.before.before.before.args.r _ c.before.before.before.before.args.r.steps c.with-times2.ensures); few = rw c.with-times2.ensures c.before.before.before.before.requires.0; steps = rw c.with-times2.ensures c.before.before.before.before.requires.1; promised = λ g. rw c.with-times2.ensures (c.before.shortest.ensures.promised g) })
+returns_2 : tie.Need-returns-in-Nothing
+unfolding Prepare.with_times-reference
+returns_2 c = (rw (c.before.before.enum_told-1.given.1, c.with_times-reference-in-Nothing.ensures, c.before.shortest-found.ensures.is), record { trials = c.before.shortest-found.ensures.trials; samples = omega (arith, c.before.shortest-found.ensures.samples, times_steps c.before.before.before.before.args.r _ c.before.before.before.before.args.r.steps c.with_times-reference-in-Nothing.ensures); few = rw c.with_times-reference-in-Nothing.ensures c.before.before.before.before.requires.0; steps = rw c.with_times-reference-in-Nothing.ensures c.before.before.before.before.requires.1; promised = λ g. rw c.with_times-reference-in-Nothing.ensures (c.before.shortest-found.ensures.promised g) })
 
 pub plan_prepared_spec : {M : Type 1} → statement M
 plan_prepared_spec =

@@ -3,7 +3,7 @@ use Rattle.reference.proofs.plan.refuse.Statement.{statement}
 use Rattle.reference.proofs.plan.refuse.Tie as tie
 
 returns : tie.Need-returns
-returns c = rw c.blank-reference.ensures
+returns c = rw c.blank_reference-reference.ensures
 
 pub refuse_spec : {M : Type 1} → statement M
 refuse_spec =

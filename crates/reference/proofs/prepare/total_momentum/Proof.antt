@@ -5,7 +5,7 @@ use Rattle.reference.specs.Prepare as Prepare
 
 returns : tie.Need-returns
 unfolding Prepare.total_momentum
-returns c = c.body-vector.ensures
+returns c = c.body_vector.ensures
 
 pub total_momentum_spec : {M : Type 1} → statement M
 total_momentum_spec =

@@ -3,13 +3,13 @@ use Rattle.reference.proofs.prepare.vector_or_zero.Statement.{statement}
 use Rattle.reference.proofs.prepare.vector_or_zero.Tie as tie
 use lib.Ieee as Ieee
 
-returns : tie.Need-returns
+returns : tie.Need-returns-in-Outside
 unfolding Ieee.of_bits
-returns c = rw c.enum_told.given.1
+returns c = rw c.enum_told-1.given.1
 
-returns_2 : tie.Need-returns-2
+returns_2 : tie.Need-returns-in-By
 unfolding Ieee.of_bits
-returns_2 c = rw c.before.t.given.1
+returns_2 c = rw c.before.t-1.given.1
 
 pub vector_or_zero_spec : {M : Type 1} → statement M
 vector_or_zero_spec =

@@ -7,15 +7,15 @@ use lib.Ieee as Ieee
 use borrow.Author.Tests.{not-true, not-false}
 use Rattle.reference.specs.SearchLaws.{finish_goes, finish_ends}
 
-returns : tie.Need-returns
-returns c = (c.result-of.ensures ∙ finish_ends _ _ (not-true c.before.before.before.args.s.found c.before.if1.true), rw c.result-of.ensures (omega arith))
+returns : tie.Need-returns-then-not-s
+returns c = (c.result_of.ensures ∙ finish_ends _ _ (not-true c.before.before.before.args.s.found c.before.if-not-s.true), rw c.result_of.ensures (omega arith))
 
-lengthen-repeatedly-requires : tie.Need-lengthen-repeatedly-requires
-lengthen-repeatedly-requires c κs = rw c.fine-trials.ensures (search rules, (search rules, record { trials = omega arith; samples = omega arith }))
+lengthen-repeatedly-requires : tie.Need-lengthen_repeatedly-requires
+lengthen-repeatedly-requires c κs = rw c.fine_trials.ensures (search rules, (search rules, record { trials = omega arith; samples = omega arith }))
 
-returns_2 : tie.Need-returns-2
+returns_2 : tie.Need-returns
 unfolding Ieee.of_bits
-returns_2 c = let h = c.before.lengthen-repeatedly.ensures in let n = rw c.before.before.fine-trials.ensures at h.1.trials in (rw (c.result-of2.ensures, h.0, c.before.before.fine-trials.ensures) (finish_goes _ _ (not-false c.before.before.before.before.before.args.s.found c.before.before.before.if1.false)), rw c.result-of2.ensures (omega (arith, n)))
+returns_2 c = let h = c.before.lengthen_repeatedly.ensures in let n = rw c.before.before.fine_trials.ensures at h.1.trials in (rw (c.result_of-2.ensures, h.0, c.before.before.fine_trials.ensures) (finish_goes _ _ (not-false c.before.before.before.before.before.args.s.found c.before.before.before.if-not-s.false)), rw c.result_of-2.ensures (omega (arith, n)))
 
 pub finish_spec : {M : Type 1} → statement M
 finish_spec =

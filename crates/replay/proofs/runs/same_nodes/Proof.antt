@@ -5,10 +5,10 @@ use native.Mathlib.Omega.{arith}
 use Rattle.replay.proofs.runs.same_nodes.Statement.{statement}
 use Rattle.replay.proofs.runs.same_nodes.Tie as tie
 
-abbrev invariant_loop : tie.invariant_loop
+abbrev invariant_loop : tie.invariant-loop-k
 invariant_loop v nodes all₀ k₀ all k = k ≤ 17
 
-abbrev decreases_loop : tie.decreases_loop
+abbrev decreases_loop : tie.decreases-loop-k
 decreases_loop v nodes all₀ k₀ all k = 17 - k
 
 pub same_nodes_spec : {M : Type 1} → statement M

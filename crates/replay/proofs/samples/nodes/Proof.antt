@@ -5,10 +5,10 @@ use native.Mathlib.Omega.{arith}
 use Rattle.replay.proofs.samples.nodes.Statement.{statement}
 use Rattle.replay.proofs.samples.nodes.Tie as tie
 
-abbrev invariant_loop : tie.invariant_loop
+abbrev invariant_loop : tie.invariant-loop-k
 invariant_loop v rows₀ k₀ rows k = k ≤ 17
 
-abbrev decreases_loop : tie.decreases_loop
+abbrev decreases_loop : tie.decreases-loop-k
 decreases_loop v rows₀ k₀ rows k = 17 - k
 
 pub nodes_spec : {M : Type 1} → statement M

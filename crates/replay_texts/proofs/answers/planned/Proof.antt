@@ -4,10 +4,10 @@ use borrow.Author.Rules.{rules}
 use Rattle.replay_texts.proofs.answers.planned.Statement.{statement}
 use Rattle.replay_texts.proofs.answers.planned.Tie as tie
 
-array-share-prefix-out : tie.Need-array-share-prefix-out
+array-share-prefix-out : tie.Need-slice_bounds-out-end
 array-share-prefix-out c = search rules
 
-slice-aggregate-same : tie.Need-slice-aggregate-same
+slice-aggregate-same : tie.Need-slice_bounds-same-end
 slice-aggregate-same c = let within = array-share-prefix-out c.before in search (rules, within, length-take-le)
 
 pub planned_spec : {M : Type 1} → statement M

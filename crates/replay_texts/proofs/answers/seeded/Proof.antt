@@ -4,10 +4,10 @@ use borrow.Author.Rules.{rules}
 use Rattle.replay_texts.proofs.answers.seeded.Statement.{statement}
 use Rattle.replay_texts.proofs.answers.seeded.Tie as tie
 
-array-share-prefix-seed : tie.Need-array-share-prefix-seed
+array-share-prefix-seed : tie.Need-slice_bounds-seed-end
 array-share-prefix-seed c = search rules
 
-slice-aggregate-planned : tie.Need-slice-aggregate-planned
+slice-aggregate-planned : tie.Need-slice_bounds-planned-end
 slice-aggregate-planned c = let within = array-share-prefix-seed c.before in search (rules, within, length-take-le)
 
 pub seeded_spec : {M : Type 1} → statement M

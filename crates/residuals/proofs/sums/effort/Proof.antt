@@ -9,21 +9,21 @@ use borrow.Author.Rules.{rules}
 use Rattle.residuals.proofs.sums.effort.Statement.{statement}
 use Rattle.residuals.proofs.sums.effort.Tie as tie
 
-abbrev invariant_loop : tie.invariant_loop
+abbrev invariant_loop : tie.invariant-loop-k
 invariant_loop z n sum₀ k₀ sum k = (k ≤ n) × (sum ≡ Sums.squares (λ (i : ℕ). at z (i + 1)) k)
 
-abbrev decreases_loop : tie.decreases_loop
+abbrev decreases_loop : tie.decreases-loop-k
 decreases_loop z n sum₀ k₀ sum k = n - k
 
-loop-holds : tie.Need-loop-init invariant_loop decreases_loop
+loop-holds : tie.Need-loop-k-init invariant_loop decreases_loop
 loop-holds c = (search rules, iter_none _ _)
 
-loop-again : tie.Need-loop-preserved invariant_loop decreases_loop
-loop-again c = (search rules, iter_next _ _ _ c.before.before.loop.invariant.1 refl)
+loop-again : tie.Need-loop-k-preserved invariant_loop decreases_loop
+loop-again c = (search rules, iter_next _ _ _ c.before.before.loop-k.invariant.1 refl)
 
 returns : tie.Need-returns invariant_loop decreases_loop
 unfolding Sums.effort
-returns c = let e : c.before.loop.k ≡ c.before.before.args.n = omega arith in rw (← e) c.before.loop.invariant.1
+returns c = let e : c.before.loop-k.k ≡ c.before.before.args.n = omega arith in rw (← e) c.before.loop-k.invariant.1
 
 pub effort_spec : {M : Type 1} → statement M
 effort_spec =

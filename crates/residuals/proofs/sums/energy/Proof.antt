@@ -10,25 +10,25 @@ use borrow.Author.Rules.{rules}
 use Rattle.residuals.proofs.sums.energy.Statement.{statement}
 use Rattle.residuals.proofs.sums.energy.Tie as tie
 
-abbrev invariant_loop : tie.invariant_loop
+abbrev invariant_loop : tie.invariant-loop-i
 invariant_loop nodes dt k e sum₀ i₀ sum i = (i ≤ 16) × (sum ≡ Sums.energy_over (nodes_from nodes) dt i)
 
-abbrev decreases_loop : tie.decreases_loop
+abbrev decreases_loop : tie.decreases-loop-i
 decreases_loop nodes dt k e sum₀ i₀ sum i = 16 - i
 
-loop-holds : tie.Need-loop-init invariant_loop decreases_loop
+loop-holds : tie.Need-loop-i-init invariant_loop decreases_loop
 loop-holds c = (c.requires.0.0, c.requires.1)
 
-loop-again : tie.Need-loop-preserved invariant_loop decreases_loop
+loop-again : tie.Need-loop-i-preserved invariant_loop decreases_loop
 loop-again c =
     let at = c.before.before.before in
-    let l = at.loop in
+    let l = at.loop-i in
     let start = at.before in
-    (omega arith, iter_next _ _ l.i l.invariant.1 (c.energy-turn.ensures ∙ energy_turns start.args.nodes.now start.args.dt l.i l.sum (omega (arith, start.requires.0.1))))
+    (omega arith, iter_next _ _ l.i l.invariant.1 (c.energy_turn-sum.ensures ∙ energy_turns start.args.nodes.now start.args.dt l.i l.sum (omega (arith, start.requires.0.1))))
 
 returns : tie.Need-returns invariant_loop decreases_loop
 unfolding Sums.energy
-returns c = let e : c.before.loop.i ≡ 16 = omega arith in rw e at c.before.loop.invariant.1
+returns c = let e : c.before.loop-i.i ≡ 16 = omega arith in rw e at c.before.loop-i.invariant.1
 
 pub energy_spec : {M : Type 1} → statement M
 energy_spec =

@@ -9,23 +9,23 @@ use borrow.Author.Rules.{rules}
 use Rattle.residuals.proofs.sums.norm_slice.Statement.{statement}
 use Rattle.residuals.proofs.sums.norm_slice.Tie as tie
 
-abbrev invariant_loop : tie.invariant_loop
+abbrev invariant_loop : tie.invariant-loop-k
 invariant_loop r n sum₀ k₀ sum k = (k ≤ n) × (sum ≡ Sums.squares (at r) k)
 
-abbrev decreases_loop : tie.decreases_loop
+abbrev decreases_loop : tie.decreases-loop-k
 decreases_loop r n sum₀ k₀ sum k = n - k
 
-loop-holds : tie.Need-loop-init invariant_loop decreases_loop
+loop-holds : tie.Need-loop-k-init invariant_loop decreases_loop
 loop-holds c = (search rules, iter_none _ _)
 
-loop-again : tie.Need-loop-preserved invariant_loop decreases_loop
-loop-again c = (search rules, iter_next _ _ _ c.before.before.before.loop.invariant.1 refl)
+loop-again : tie.Need-loop-k-preserved invariant_loop decreases_loop
+loop-again c = (search rules, iter_next _ _ _ c.before.before.before.loop-k.invariant.1 refl)
 
 returns : tie.Need-returns invariant_loop decreases_loop
 unfolding Sums.norm_slice
 returns c =
     let entry = c.before.before.before.before in
-    let e : c.before.before.loop.k ≡ entry.args.n = omega arith in rw (c.sqrt.ensures, c.before.before.loop.invariant.1, e)
+    let e : c.before.before.loop-k.k ≡ entry.args.n = omega arith in rw (c.sqrt.ensures, c.before.before.loop-k.invariant.1, e)
 
 pub norm_slice_spec : {M : Type 1} → statement M
 norm_slice_spec =

@@ -8,7 +8,7 @@ use borrow.Author.Rules.{rules}
 use Rattle.residuals.proofs.sums.sums_next.Statement.{statement}
 use Rattle.residuals.proofs.sums.sums_next.Tie as tie
 
-returns : tie.Need-returns
+returns : tie.Need-returns-then-k-eq0
 returns c =
     let start = c.before.before.before in
     let a = start.args in
@@ -17,11 +17,11 @@ returns c =
     record {
       few = omega arith;
       long = s.long;
-      energy = iter_next _ _ a.k s.energy (c.before.energy-turn.ensures ∙ energy_turns a.nodes.now a.dt a.k a.s.energy (omega (arith, s.long)));
+      energy = iter_next _ _ a.k s.energy (c.before.energy_turn-energy.ensures ∙ energy_turns a.nodes.now a.dt a.k a.s.energy (omega (arith, s.long)));
       smooth = rw e at s.smooth;
     }
 
-returns_2 : tie.Need-returns-2
+returns_2 : tie.Need-returns
 returns_2 c =
     let t = c.before.before.before.before in
     let start = t.before.before in
@@ -31,8 +31,8 @@ returns_2 c =
     record {
       few = omega arith;
       long = s.long;
-      energy = iter_next _ _ a.k s.energy (t.energy-turn.ensures ∙ energy_turns a.nodes.now a.dt a.k a.s.energy (omega (arith, s.long)));
-      smooth = rw e at (iter_next _ _ (a.k - 1) s.smooth (c.smooth-turn.ensures ∙ smooth_turns a.nodes.now a.dt (a.k - 1) a.k a.s.smooth (omega arith) (omega (arith, s.long))));
+      energy = iter_next _ _ a.k s.energy (t.energy_turn-energy.ensures ∙ energy_turns a.nodes.now a.dt a.k a.s.energy (omega (arith, s.long)));
+      smooth = rw e at (iter_next _ _ (a.k - 1) s.smooth (c.smooth_turn-smooth.ensures ∙ smooth_turns a.nodes.now a.dt (a.k - 1) a.k a.s.smooth (omega arith) (omega (arith, s.long))));
     }
 
 pub sums_next_spec : {M : Type 1} → statement M

@@ -24,11 +24,11 @@ smooth-requires c κs =
 returns : tie.Need-returns
 unfolding Residuals.closing Ieee.of_bits node_from
 returns c =
-    let momenta-in = c.before.before.before.before.before.before.before.before.before.before.momenta-in in
+    let momenta-in = c.before.before.before.before.before.before.before.before.before.before.momenta_in-hw in
     let effort = c.before.before.before.before.before.before.before.before.before.effort in
-    let weighted = c.before.before.before.before.before.before.before.before.weighted in
+    let weighted = c.before.before.before.before.before.before.before.before.weighted-control in
     let energy = c.before.before.before.before.before.before.before.energy in
-    let weighted2 = c.before.before.before.before.before.before.weighted2 in
+    let weighted2 = c.before.before.before.before.before.before.weighted-spent in
     let smooth = c.before.before.before.before.smooth in
     let start = c.before.before.before.before.before.before.before.before.before.before.before.before.before.before.before.before in
     rw (
@@ -37,9 +37,9 @@ returns c =
       effort.ensures,
       weighted2.ensures,
       energy.ensures,
-      c.before.before.before.weighted3.ensures,
+      c.before.before.before.weighted-change.ensures,
       smooth.ensures,
-      c.before.sqrt2.ensures,
+      c.before.sqrt-2.ensures,
       c.stored.ensures,
       momenta-in.ensures,
       nodes_at start.args.nodes.now 16 (omega (arith, start.requires.1.1.long)),

@@ -9,7 +9,7 @@ returns : tie.Need-returns
 unfolding Residuals.ends Ieee.of_bits
 returns c =
     let scale3 = c.before.before.before.before.scale3 in
-    rw (c.put32.ensures, c.before.scale32.ensures, c.before.before.before.put3.ensures, scale3.ensures)
+    rw (c.put3-2.ensures, c.before.scale3-2.ensures, c.before.before.before.put3.ensures, scale3.ensures)
 
 pub ends_spec : {M : Type 1} → statement M
 ends_spec =

@@ -10,51 +10,51 @@ use borrow.Author.Rules.{rules}
 use Rattle.residuals.proofs.terms.of_rows.Statement.{statement}
 use Rattle.residuals.proofs.terms.of_rows.Tie as tie
 
-with-pointing-requires : tie.Need-with-pointing-requires
+with-pointing-requires : tie.Need-with_pointing-requires
 unfolding Ieee.of_bits
 with-pointing-requires c κs =
-    let error = c.before.before.before.before.before.before.before.error in
+    let error = c.before.before.before.before.before.before.before.error-1 in
     let f = c.before.before.before.before.before.before.before.before.before in
     let start = f.before.before.before in
     let a = start.args in
     let pre = start.requires in
     let e = f.error_in_law.ensures ∙ error_row a.nodes.now a.t.qf 16 (omega (arith, pre.1.sums.long)) in
-    (pre.0, (pre.1.sums, record { kept = pre.1.kept c.if1.true; end = sym error.given.1 ∙ e }))
+    (pre.0, (pre.1.sums, record { kept = pre.1.kept c.if-weights.true; end = sym error.given.1 ∙ e }))
 
-returns : tie.Need-returns
+returns : tie.Need-returns-then-weights
 unfolding Residuals.of_nodes Ieee.of_bits node_from
 returns c =
-    let error = c.before.before.before.before.before.before.before.before.error in
-    let rate-in = c.before.before.before.before.before.rate-in in
-    let ends = c.before.before.before.before.ends in
+    let error = c.before.before.before.before.before.before.before.before.error-1 in
+    let rate-in = c.before.before.before.before.before.rate_in in
+    let ends = c.before.before.before.before.ends-r in
     let f = c.before.before.before.before.before.before.before.before.before.before in
     let start = f.before.before.before in
     let a = start.args in
     let long = start.requires.1.sums.long in
     let e = f.error_in_law.ensures ∙ error_row a.nodes.now a.t.qf 16 (omega (arith, long)) in
-    rw (← e, error.given.1, c.before.if1.true, c.with-pointing.ensures, ends.ensures, rate-in.ensures, nodes_at a.nodes.now 16 (omega (arith, long)))
+    rw (← e, error.given.1, c.before.if-weights.true, c.with_pointing.ensures, ends.ensures, rate-in.ensures, nodes_at a.nodes.now 16 (omega (arith, long)))
 
-returns_2 : tie.Need-returns-2
+returns_2 : tie.Need-returns-in-Outside
 unfolding Residuals.of_nodes
 returns_2 c =
     let f = c.before.before.before in
     let start = f.before.before.before in
     let a = start.args in
     let e = f.error_in_law.ensures ∙ error_row a.nodes.now a.t.qf 16 (omega (arith, start.requires.1.sums.long)) in
-    rw (← e, c.before.enum_told.given.1) c.refused-residuals.ensures
+    rw (← e, c.before.enum_told-1.given.1) c.refused_residuals.ensures
 
-returns_3 : tie.Need-returns-3
+returns_3 : tie.Need-returns-else-weights
 unfolding Residuals.of_nodes Ieee.of_bits node_from
 returns_3 c =
-    let error = c.before.before.before.before.before.before.before.before.error in
-    let rate-in = c.before.before.before.before.before.rate-in in
-    let ends = c.before.before.before.before.ends in
+    let error = c.before.before.before.before.before.before.before.before.error-1 in
+    let rate-in = c.before.before.before.before.before.rate_in in
+    let ends = c.before.before.before.before.ends-r in
     let f = c.before.before.before.before.before.before.before.before.before.before in
     let start = f.before.before.before in
     let a = start.args in
     let long = start.requires.1.sums.long in
     let e = f.error_in_law.ensures ∙ error_row a.nodes.now a.t.qf 16 (omega (arith, long)) in
-    rw (← e, error.given.1, c.before.if1.false, c.without-pointing.ensures, ends.ensures, rate-in.ensures, nodes_at a.nodes.now 16 (omega (arith, long)))
+    rw (← e, error.given.1, c.before.if-weights.false, c.without_pointing.ensures, ends.ensures, rate-in.ensures, nodes_at a.nodes.now 16 (omega (arith, long)))
 
 pub of_rows_spec : {M : Type 1} → statement M
 of_rows_spec =

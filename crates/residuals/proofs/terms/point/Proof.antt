@@ -3,12 +3,12 @@ use borrow.Author.Rules.{rules}
 use Rattle.residuals.proofs.terms.point.Statement.{statement}
 use Rattle.residuals.proofs.terms.point.Tie as tie
 
-returns : tie.Need-returns
-returns c = rw c.enum_told.given.1
+returns : tie.Need-returns-in-Outside
+returns c = rw c.enum_told-1.given.1
 
-returns_2 : tie.Need-returns-2
+returns_2 : tie.Need-returns-in-By
 returns_2 c =
-    let error = c.before.before.before.before.error in
+    let error = c.before.before.before.before.error-1 in
     rw (error.given.1, c.put3.ensures, c.before.scale3.ensures)
 
 pub point_spec : {M : Type 1} → statement M

@@ -4,7 +4,7 @@ use Rattle.residuals.proofs.terms.stored.Statement.{statement}
 use Rattle.residuals.proofs.terms.stored.Tie as tie
 
 returns : tie.Need-returns
-returns c = c.norm-slice.ensures
+returns c = c.norm_slice.ensures
 
 pub stored_spec : {M : Type 1} → statement M
 stored_spec =

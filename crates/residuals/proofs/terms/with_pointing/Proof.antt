@@ -7,26 +7,26 @@ use borrow.Author.Rules.{rules}
 use Rattle.residuals.proofs.terms.with_pointing.Statement.{statement}
 use Rattle.residuals.proofs.terms.with_pointing.Tie as tie
 
-pointed-requires : tie.Need-pointed-requires
+pointed-requires : tie.Need-pointed-fate-requires
 pointed-requires c κs = let pre = c.before.before.before.before.before.before.requires in (pre.1.0.long, pre.1.1.kept)
 
-returns : tie.Need-returns
+returns : tie.Need-returns-in-Refused
 unfolding Ieee.of_bits
 returns c =
     let t = c.before.before.before.before in
-    c.refused-residuals.ensures ∙ with_refused _ _ _ _ _ _ (rw t.before.before.sqrt.ensures at (rw c.before.before.fate.given.1 at t.pointed.ensures))
+    c.refused_residuals.ensures ∙ with_refused _ _ _ _ _ _ (rw t.before.before.sqrt-scale.ensures at (rw c.before.before.fate-1.given.1 at t.pointed-fate.ensures))
 
 closing-requires : tie.Need-closing-requires
 closing-requires c κs = let pre = c.before.before.before.before.before.before.before.before.before.before.before.before.before.requires in (omega arith, (pre.0, pre.1.0))
 
-returns_2 : tie.Need-returns-2
+returns_2 : tie.Need-returns
 unfolding Ieee.of_bits
 returns_2 c =
-    let enum_told = c.before.before.before.before.before.enum_told in
+    let enum_told = c.before.before.before.before.before.enum_told-1 in
     let t = c.before.before.before.before.before.before.before in
-    let root = t.before.before.sqrt.ensures in
+    let root = t.before.before.sqrt-scale.ensures in
     rw (c.closing.ensures, c.before.before.put3.ensures, c.before.before.before.scale3.ensures, root)
-    (with_going _ _ _ _ _ t.before.before.before.before.before.before.before.args.error (rw root at (rw enum_told.given.1 at t.pointed.ensures)) t.before.before.before.before.before.before.before.requires.1.1.end)
+    (with_going _ _ _ _ _ t.before.before.before.before.before.before.before.args.error (rw root at (rw enum_told.given.1 at t.pointed-fate.ensures)) t.before.before.before.before.before.before.before.requires.1.1.end)
 
 pub with_pointing_spec : {M : Type 1} → statement M
 with_pointing_spec =

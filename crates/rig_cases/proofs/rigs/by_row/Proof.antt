@@ -7,13 +7,13 @@ use Rattle.rig_cases.proofs.Parts.{front_within}
 use Rattle.rig_cases.proofs.rigs.by_row.Statement.{statement}
 use Rattle.rig_cases.proofs.rigs.by_row.Tie as tie
 
-slice-aggregate-with-row : tie.Need-slice-aggregate-with-row
+slice-aggregate-with-row : tie.Need-slice_bounds-with_row-end-2
 slice-aggregate-with-row c = sym (length-take-le _ _ (omega arith))
 
-with-row-requires : tie.Need-with-row-requires
+with-row-requires : tie.Need-with_row-requires
 with-row-requires c κs =
     let read = c.before.before.before.before in
-    front_within 24 c.before.width.result read.reals.new.1.1.0
+    front_within 24 c.before.width-n.result read.reals.new.1.1.0
     (omega (arith, read.reals.auto.1.1.0, read.before.before.before.requires)) (omega arith)
 
 pub by_row_spec : {M : Type 1} → statement M

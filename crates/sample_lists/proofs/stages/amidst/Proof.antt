@@ -20,8 +20,8 @@ returns c =
     let w1 = w.before in
     let w0 = w1.before in
     c.turned_by.ensures
-    ∙ amidst_is _ _ _ _ _ _ w0.before.before.step-time.ensures w0.rate.ensures w1.rate2.ensures w.mean.ensures h0.momentum.ensures h1.momentum2.ensures h.mean2.ensures
-    jw.apply-tensor.ensures l.add3.ensures torque.step-torque.ensures cross.cross.ensures tau.add32.ensures q.attitude.ensures
+    ∙ amidst_is _ _ _ _ _ _ w0.before.before.step_time.ensures w0.rate.ensures w1.rate-2.ensures w.mean-w.ensures h0.momentum.ensures h1.momentum-2.ensures h.mean-h.ensures
+    jw.apply_tensor.ensures l.add3-l.ensures torque.step_torque.ensures cross.cross.ensures tau.add3-tau.ensures q.attitude-q.ensures
 
 pub amidst_spec : {M : Type 1} → statement M
 amidst_spec =

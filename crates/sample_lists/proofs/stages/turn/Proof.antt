@@ -6,7 +6,7 @@ use Rattle.sample_lists.proofs.stages.turn.Tie as tie
 
 returns : tie.Need-returns
 unfolding turning
-returns c = rw c.exp-at.ensures
+returns c = rw c.exp_at-turn.ensures
 
 pub turn_spec : {M : Type 1} → statement M
 turn_spec = tie.close (tie.spec (λ c κs. search rules) returns)

@@ -9,29 +9,29 @@ use borrow.Author.Rules.{rules}
 use Rattle.sample_lists.proofs.stages.walk.Statement.{statement}
 use Rattle.sample_lists.proofs.stages.walk.Tie as tie
 
-abbrev invariant_loop : tie.invariant_loop
+abbrev invariant_loop : tie.invariant-loop-i
 invariant_loop nodes from t i₀ i = (i ≤ 15) × Passed nodes t i
 
-abbrev decreases_loop : tie.decreases_loop
+abbrev decreases_loop : tie.decreases-loop-i
 decreases_loop nodes from t i₀ i = 15 - i
 
-loop-holds : tie.Need-loop-init invariant_loop decreases_loop
+loop-holds : tie.Need-loop-i-init invariant_loop decreases_loop
 loop-holds c = (omega (arith, c.requires), c.requires.1)
 
-returns : tie.Need-returns invariant_loop decreases_loop
+returns : tie.Need-returns-then-not-time-t invariant_loop decreases_loop
 returns c =
-    let l = c.before.before.before.loop in
-    (walk_stops _ _ _ l.invariant.1 c.before.time.ensures (not-true _ c.if1.true) (omega arith), omega arith, l.invariant.1)
+    let l = c.before.before.before.loop-i in
+    (walk_stops _ _ _ l.invariant.1 c.before.time.ensures (not-true _ c.if-not-time-t.true) (omega arith), omega arith, l.invariant.1)
 
-loop-again : tie.Need-loop-preserved invariant_loop decreases_loop
+loop-again : tie.Need-loop-i-preserved invariant_loop decreases_loop
 loop-again c =
     let entry = c.before.before.before.before in
-    let l = c.before.before.before.loop in
-    (omega arith, passed_next entry.args.nodes.now _ _ l.invariant.1 c.before.time.ensures c.before.time.type-inv (not-false _ c.if1.false))
+    let l = c.before.before.before.loop-i in
+    (omega arith, passed_next entry.args.nodes.now _ _ l.invariant.1 c.before.time.ensures c.before.time.type_inv (not-false _ c.if-not-time-t.false))
 
-returns_2 : tie.Need-returns-2 invariant_loop decreases_loop
+returns_2 : tie.Need-returns invariant_loop decreases_loop
 returns_2 c =
-    let l = c.before.loop in
+    let l = c.before.loop-i in
     let e : l.i ≡ 15 = omega arith in
     (walk_ends _ _ _ l.invariant.1 e, omega arith, l.invariant.1)
 

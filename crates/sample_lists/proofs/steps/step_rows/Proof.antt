@@ -23,22 +23,22 @@ put j nodes rows n {row} h e f =
     (below_next (λ k. Vec.row (set rows n row) k ≡ step_row j nodes k) n (get_or-set_same rows n row [] h ∙ e)
     (λ k b. get_or-set_other rows n k row [] (λ q. omega (arith, q, b)) ∙ f k b))
 
-abbrev invariant_loop : tie.invariant_loop
+abbrev invariant_loop : tie.invariant-loop-i
 invariant_loop inertia nodes out₀ i₀ out i = (i ≤ 16) × (length out ≡ 16) × First inertia nodes i out
 
-abbrev decreases_loop : tie.decreases_loop
+abbrev decreases_loop : tie.decreases-loop-i
 decreases_loop inertia nodes out₀ i₀ out i = 16 - i
 
-loop-holds : tie.Need-loop-init invariant_loop decreases_loop
+loop-holds : tie.Need-loop-i-init invariant_loop decreases_loop
 loop-holds c = (search rules, search rules, λ k b. absurd (omega (arith, b)))
 
-loop-again : tie.Need-loop-preserved invariant_loop decreases_loop
+loop-again : tie.Need-loop-i-preserved invariant_loop decreases_loop
 loop-again c =
-    let l = c.before.before.loop in
-    (search rules, length-set l.out l.i c.step_row.result ∙ l.invariant.1, put _ _ l.out l.i (omega (arith, l.invariant.1)) c.step_row.ensures l.invariant.2)
+    let l = c.before.before.loop-i in
+    (search rules, length-set l.out l.i c.step_row-row.result ∙ l.invariant.1, put _ _ l.out l.i (omega (arith, l.invariant.1)) c.step_row-row.ensures l.invariant.2)
 
 returns : tie.Need-returns invariant_loop decreases_loop
-returns c = let e : c.before.loop.i ≡ 16 = omega arith in rw e at c.before.loop.invariant.2
+returns c = let e : c.before.loop-i.i ≡ 16 = omega arith in rw e at c.before.loop-i.invariant.2
 
 pub step_rows_spec : {M : Type 1} → statement M
 step_rows_spec =

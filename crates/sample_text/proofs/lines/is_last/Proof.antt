@@ -5,21 +5,21 @@ use Rattle.std.proofs.Common.{rules}
 use Rattle.sample_text.proofs.lines.is_last.Statement.{statement}
 use Rattle.sample_text.proofs.lines.is_last.Tie as tie
 
-returns : tie.Need-returns
+returns : tie.Need-returns-in-TooMany
 unfolding is_last
-returns c = rw (← c.before.before.sample-count.ensures, c.enum_told.given.1)
+returns c = rw (← c.before.before.sample_count-counted.ensures, c.enum_told-1.given.1)
 
-returns_2 : tie.Need-returns-2
+returns_2 : tie.Need-returns-then-index-count
 unfolding is_last
 returns_2 c =
-    let sample-count = c.before.before.before.before.sample-count in
-    rw (← sample-count.ensures, c.before.before.counted.given.1)
+    let sample-count = c.before.before.before.before.sample_count-counted in
+    rw (← sample-count.ensures, c.before.before.counted-1.given.1)
 
-returns_3 : tie.Need-returns-3
+returns_3 : tie.Need-returns-else-index-count
 unfolding is_last
 returns_3 c =
-    let sample-count = c.before.before.before.before.sample-count in
-    rw (← sample-count.ensures, c.before.before.counted.given.1) (not_last c.if1.false)
+    let sample-count = c.before.before.before.before.sample_count-counted in
+    rw (← sample-count.ensures, c.before.before.counted-1.given.1) (not_last c.if-index-count.false)
 
 pub is_last_spec : {M : Type 1} → statement M
 is_last_spec = tie.close (tie.spec (search rules) (search rules) (search rules) (search rules) returns returns_2 returns_3)

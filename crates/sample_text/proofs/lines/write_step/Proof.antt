@@ -4,17 +4,17 @@ use Rattle.std.proofs.Common.{rules}
 use Rattle.sample_text.proofs.lines.write_step.Statement.{statement}
 use Rattle.sample_text.proofs.lines.write_step.Tie as tie
 
-returns : tie.Need-returns
+returns : tie.Need-returns-in-Refused
 returns c =
     let told = c.before.before.before.before in
     let fate = told.before.before.before.before in
-    steps_refused _ _ _ _ fate.before.before.before.sample-course.ensures fate.before.before.before.before.is-planned.ensures fate.fate.given.1 told.tell-refused.ensures
+    steps_refused _ _ _ _ fate.before.before.before.sample_course-d.ensures fate.before.before.before.before.is_planned-sampled.ensures fate.fate-1.given.1 told.tell_refused.ensures
 
-returns_2 : tie.Need-returns-2
+returns_2 : tie.Need-returns-in-Going
 returns_2 c =
     let put = c.before.before in
     let fate = put.before.before.before.before in
-    steps_given _ _ _ _ fate.before.before.before.sample-course.ensures fate.enum_told.given.1 put.before.before.is_last.ensures put.put-sample.ensures
+    steps_given _ _ _ _ fate.before.before.before.sample_course-d.ensures fate.enum_told-1.given.1 put.before.before.is_last-last.ensures put.put_sample-bytes.ensures
 
 pub write_step_spec : {M : Type 1} → statement M
 write_step_spec =

@@ -5,7 +5,7 @@ use mir.Facts.{to_z_pos}
 use Rattle.samples.proofs.counts.whole.Statement.{statement}
 use Rattle.samples.proofs.counts.whole.Tie as tie
 
-int-to-float-result : tie.Need-int-to-float-result
+int-to-float-result : tie.Need-int_to_float-result
 unfolding in_float
 int-to-float-result c = rw (to_z_pos w64 {n = c.before.args.n} (omega arith)) (le→leb c.before.args.n (2 ^ 53) (omega arith))
 

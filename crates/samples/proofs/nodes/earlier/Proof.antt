@@ -8,26 +8,26 @@ use Rattle.samples.specs.SampleLaws.{walks, stops}
 use Rattle.samples.proofs.nodes.earlier.Statement.{statement}
 use Rattle.samples.proofs.nodes.earlier.Tie as tie
 
-abbrev invariant_loop : tie.invariant_loop
+abbrev invariant_loop : tie.invariant-loop-i
 invariant_loop nodes t i₀ i = (i ≤ 15) × (i ≡ iter (onward nodes t) 0 i)
 
-abbrev decreases_loop : tie.decreases_loop
+abbrev decreases_loop : tie.decreases-loop-i
 decreases_loop nodes t i₀ i = 15 - i
 
-loop-holds : tie.Need-loop-init invariant_loop decreases_loop
+loop-holds : tie.Need-loop-i-init invariant_loop decreases_loop
 loop-holds c = (search rules, iter_none _ _)
 
-returns : tie.Need-returns invariant_loop decreases_loop
-returns c = (stops _ _ _ c.before.before.before.loop.invariant.1 c.before.time.ensures (not-true _ c.if1.true) (omega arith), omega arith)
+returns : tie.Need-returns-then-not-time-t invariant_loop decreases_loop
+returns c = (stops _ _ _ c.before.before.before.loop-i.invariant.1 c.before.time.ensures (not-true _ c.if-not-time-t.true) (omega arith), omega arith)
 
-loop-again : tie.Need-loop-preserved invariant_loop decreases_loop
+loop-again : tie.Need-loop-i-preserved invariant_loop decreases_loop
 loop-again c =
     let entry = c.before.before.before.before in
-    (search rules, walks entry.args.nodes.now _ _ c.before.before.before.loop.invariant.1 c.before.time.ensures (not-false _ c.if1.false))
+    (search rules, walks entry.args.nodes.now _ _ c.before.before.before.loop-i.invariant.1 c.before.time.ensures (not-false _ c.if-not-time-t.false))
 
-returns_2 : tie.Need-returns-2 invariant_loop decreases_loop
+returns_2 : tie.Need-returns invariant_loop decreases_loop
 returns_2 c =
-    let l = c.before.loop in
+    let l = c.before.loop-i in
     let e : l.i ≡ 15 = omega arith in
     (stops _ _ l.i l.invariant.1 (rw e refl) c.before.before.requires (omega arith), omega arith)
 

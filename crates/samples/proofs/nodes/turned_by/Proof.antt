@@ -3,20 +3,20 @@ use Rattle.std.proofs.Common.{rules}
 use Rattle.samples.proofs.nodes.turned_by.Statement.{statement}
 use Rattle.samples.proofs.nodes.turned_by.Tie as tie
 
-returns : tie.Need-returns
-returns c = rw (c.refused.ensures, c.before.enum_told.given.1)
+returns : tie.Need-returns-in_default
+returns c = rw (c.refused.ensures, c.before.enum_told-1.given.1)
 
-returns_2 : tie.Need-returns-2
+returns_2 : tie.Need-returns-in_default-normalized
 returns_2 c =
     let n = c.before.before.before in
     let m = n.before in
-    rw (c.refused2.ensures, m.before.before.turn.given.1, ← m.mul.ensures, ← n.normalized.ensures, c.before.enum-told2.given.1)
+    rw (c.refused-in_default-normalized.ensures, m.before.before.turn-1.given.1, ← m.mul.ensures, ← n.normalized.ensures, c.before.enum_told-in_default-normalized-1.given.1)
 
-returns_3 : tie.Need-returns-3
+returns_3 : tie.Need-returns
 returns_3 c =
     let n = c.before.before.before in
     let m = n.before in
-    rw (m.before.before.turn.given.1, ← m.mul.ensures, ← n.normalized.ensures, c.before.q.given.1)
+    rw (m.before.before.turn-1.given.1, ← m.mul.ensures, ← n.normalized.ensures, c.before.q-1.given.1)
 
 pub turned_by_spec : {M : Type 1} → statement M
 turned_by_spec =

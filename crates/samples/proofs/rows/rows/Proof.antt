@@ -7,21 +7,21 @@ use Rattle.samples.specs.Rows.{row_turn, rows}
 use Rattle.samples.proofs.rows.rows.Statement.{statement}
 use Rattle.samples.proofs.rows.rows.Tie as tie
 
-abbrev invariant_loop : tie.invariant_loop
+abbrev invariant_loop : tie.invariant-loop-k
 invariant_loop nodes out₀ k₀ out k = (k ≤ 17) × ((length out ≡ 17) × (out ≡ iter (row_turn nodes) out₀ k))
 
-abbrev decreases_loop : tie.decreases_loop
+abbrev decreases_loop : tie.decreases-loop-k
 decreases_loop nodes out₀ k₀ out k = 17 - k
 
-loop-holds : tie.Need-loop-init invariant_loop decreases_loop
+loop-holds : tie.Need-loop-k-init invariant_loop decreases_loop
 loop-holds c = (search rules, (search rules, iter_none _ _))
 
-loop-again : tie.Need-loop-preserved invariant_loop decreases_loop
-loop-again c = (search rules, (search rules, iter_next _ _ _ c.before.before.before.loop.invariant.1.1 (rw c.row.ensures)))
+loop-again : tie.Need-loop-k-preserved invariant_loop decreases_loop
+loop-again c = (search rules, (search rules, iter_next _ _ _ c.before.before.before.loop-k.invariant.1.1 (rw c.row-next.ensures)))
 
 returns : tie.Need-returns invariant_loop decreases_loop
 unfolding rows of_bits
-returns c = let e : c.before.loop.k ≡ 17 = omega arith in rw e at c.before.loop.invariant.1.1
+returns c = let e : c.before.loop-k.k ≡ 17 = omega arith in rw e at c.before.loop-k.invariant.1.1
 
 pub rows_spec : {M : Type 1} → statement M
 rows_spec =

@@ -15,20 +15,20 @@ use borrow.Author.Rules.{rules}
 use Rattle.scvx.proofs.columns.column.Statement.{statement}
 use Rattle.scvx.proofs.columns.column.Tie as tie
 
-abbrev first : tie.After-same-decision → tie.Start
+abbrev first : tie.After-same_decision → tie.Start
 first c = c.before.before.before.before.before
 
-abbrev start : tie.After-residuals-sharing → tie.Start
+abbrev start : tie.After-residuals_sharing-e → tie.Start
 start c = first c.before.before.before.before
 
 -- the run is that of the nudged decision
-run : (c : tie.After-residuals-sharing) → c.residuals-sharing.result ≡ residuals_of (start c).args.p (perturb (start c).args.p (start c).args.z.now (start c).args.c)
-run c = c.residuals-sharing.ensures.0 ∙ ap (λ (z : List Float). residuals_of (start c).args.p z) c.before.before.before.before.before.before.perturb.ensures
+run : (c : tie.After-residuals_sharing-e) → c.residuals_sharing-e.result ≡ residuals_of (start c).args.p (perturb (start c).args.p (start c).args.z.now (start c).args.c)
+run c = c.residuals_sharing-e.ensures.0 ∙ ap (λ (z : List Float). residuals_of (start c).args.p z) c.before.before.before.before.before.before.perturb-y.ensures
 
-long : (c : tie.After-residuals-sharing) → length c.residuals-sharing.result.r ≡ 79
+long : (c : tie.After-residuals_sharing-e) → length c.residuals_sharing-e.result.r ≡ 79
 long c = search rules
 
-residuals-sharing-requires : tie.Need-residuals-sharing-requires
+residuals-sharing-requires : tie.Need-residuals_sharing-e-requires
 residuals-sharing-requires c κs =
     let pre = (first c.before.before.before).requires in
     (pre.0, (pre.1.0, (pre.1.1.0, (pre.1.1.1.1.1.1.0, pre.1.1.1.1.1.1.1.1))))
@@ -39,58 +39,58 @@ gather-requires c κs =
     (width_laid st.args.p st.pre.1.1.1.1.0, omega (arith, width_most st.args.p, st.pre.1.1.1.1.0, long c.before.before.before.before))
 
 -- where the decision is z again
-abbrev again : tie.After-put-column → tie.After-same-decision
+abbrev again : tie.After-put_column → tie.After-same_decision
 again c = c.before.before.before.before
 
-put-column-requires : tie.Need-put-column-requires
+put-column-requires : tie.Need-put_column-requires
 put-column-requires c κs =
     let st = first c.before.before.before in
     let em = st.pre.1.1.1.1.0 in
     rw c.kept.ensures (omega (arith, kept_most st.args.m (width_laid st.args.p em), width_most st.args.p, em), st.pre.1.1.1.1.1.0)
 
-returns : tie.Need-returns
+returns : tie.Need-returns-then-same_decision
 returns c =
     let t = c.before.before in
     let st = first (again t) in
     let a = st.args in
     let em = st.pre.1.1.1.1.0 in
     let answers = st.pre.1.1.1.1.1.1.1.0 in
-    let e : perturb a.p a.z.now a.c ≡ a.z.now = sym (again t).before.before.perturb.ensures ∙ (again t).same-decision.ensures t.before.before.before.if1.true in
+    let e : perturb a.p a.z.now a.c ≡ a.z.now = sym (again t).before.before.perturb-y.ensures ∙ (again t).same_decision.ensures t.before.before.before.if-same_decision.true in
     let gathered : Gathered a.m (residuals_of a.p (perturb a.p a.z.now a.c)).r a.r0.now =
     subst (λ y. Gathered a.m (residuals_of a.p y).r a.r0.now) (sym e) answers.rows in
-    let put = rw t.before.kept.ensures at t.put-column.ensures in (
+    let put = rw t.before.kept.ensures at t.put_column.ensures in (
       (
-        sym (ap (λ (y : List Float). (residuals_of a.p y).fate) e ∙ answers.goes),
+        sym (ap (λ (y : List Float). (residuals_of a.p y).fate-1) e ∙ answers.goes),
         λ r0 g z. column_stands put (slopes_kept a.m _ r0 _ _ (width_laid a.p em) gathered g (width_zeros a.p (perturb a.p a.z.now a.c) em) z),
       ),
       st.pre.1.1.1.1.1.1.1.1,
     )
 
-put-column-requires-2 : tie.Need-put-column-requires-2
+put-column-requires-2 : tie.Need-put_column-requires-in-Going
 put-column-requires-2 c κs =
     let st = start c.before.before.before.before.before.before.before.before.before in
     let em = st.pre.1.1.1.1.0 in
-    rw c.before.kept2.ensures (omega (arith, kept_most st.args.m (width_laid st.args.p em), width_most st.args.p, em), st.pre.1.1.1.1.1.0)
+    rw c.before.kept-in-Going.ensures (omega (arith, kept_most st.args.m (width_laid st.args.p em), width_most st.args.p, em), st.pre.1.1.1.1.1.0)
 
-returns_2 : tie.Need-returns-2
+returns_2 : tie.Need-returns-in-Refused
 returns_2 c =
     let s = c.before.before.before in
-    ((sym c.before.fate.given.1 ∙ ap (λ (x : ResidualVector). x.fate) (run s), λ r0 g z. refl), s.residuals-sharing.ensures.1)
+    ((sym c.before.fate-1.given.1 ∙ ap (λ (x : ResidualVector). x.fate-1) (run s), λ r0 g z. refl), s.residuals_sharing-e.ensures.1)
 
-returns_3 : tie.Need-returns-3
+returns_3 : tie.Need-returns-in-Going
 returns_3 c =
-    let enum_told = c.before.before.before.before.before.before.before.before.before.before.enum_told in
+    let enum_told = c.before.before.before.before.before.before.before.before.before.before.enum_told-1 in
     let gather = c.before.before.before.before.before.before.before.gather in
     let r = c.before.before.before.before.before.before.before.before.before.before.before.before in
     let a = (start r).args in
     let em = (start r).requires.1.1.1.1.0 in
     let gathered = rw (run r) at gather.ensures in
-    let put = rw c.before.before.before.before.kept2.ensures at c.before.before.put-column2.ensures in (
+    let put = rw c.before.before.before.before.kept-in-Going.ensures at c.before.before.put_column-in-Going.ensures in (
       (
-        sym enum_told.given.1 ∙ ap (λ (x : ResidualVector). x.fate) (run r),
+        sym enum_told.given.1 ∙ ap (λ (x : ResidualVector). x.fate-1) (run r),
         λ r0 g z. column_stands put (slopes_kept a.m _ r0 _ _ (width_laid a.p em) gathered g (width_zeros a.p (perturb a.p a.z.now a.c) em) z),
       ),
-      r.residuals-sharing.ensures.1,
+      r.residuals_sharing-e.ensures.1,
     )
 
 pub column_spec : {M : Type 1} → statement M

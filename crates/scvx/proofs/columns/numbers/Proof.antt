@@ -6,7 +6,7 @@ use Rattle.scvx.proofs.columns.numbers.Tie as tie
 
 returns : tie.Need-returns
 unfolding Search.numbers
-returns c = rw c.control-dim.ensures
+returns c = rw c.control_dim.ensures
 
 pub numbers_spec : {M : Type 1} → statement M
 numbers_spec =

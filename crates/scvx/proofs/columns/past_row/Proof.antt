@@ -6,7 +6,7 @@ use borrow.Author.Rules.{rules}
 use Rattle.scvx.proofs.columns.past_row.Statement.{statement}
 use Rattle.scvx.proofs.columns.past_row.Tie as tie
 
-mul-result : tie.Need-overflow-mul-result
+mul-result : tie.Need-overflow_mul-result
 mul-result c =
     let h : c.before.args.steps + 1 ≤ 16 = omega arith in
     omega (arith, mul-le-mul {m₁ = c.before.args.controls} {m₂ = 12} h c.before.requires)

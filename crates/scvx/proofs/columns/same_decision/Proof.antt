@@ -8,7 +8,7 @@ use borrow.Author.Rules.{rules}
 use Rattle.scvx.proofs.columns.same_decision.Statement.{statement}
 use Rattle.scvx.proofs.columns.same_decision.Tie as tie
 
-same-front-requires : tie.Need-same-front-requires
+same-front-requires : tie.Need-same_front-requires
 same-front-requires c κs =
     let y : length c.before.before.args.y.now ≡ 193 = search rules in
     let z : length c.before.before.args.z.now ≡ 193 = search rules in
@@ -19,7 +19,7 @@ returns c h =
     let a = c.before.before.before.args in
     let y : length a.y.now ≡ 193 = search rules in
     let z : length a.z.now ≡ 193 = search rules in
-    ext_get_or nan a.y.now a.z.now (y ∙ sym z) (λ i l. c.same-front.ensures h i (omega (arith, y)))
+    ext_get_or nan a.y.now a.z.now (y ∙ sym z) (λ i l. c.same_front.ensures h i (omega (arith, y)))
 
 pub same_decision_spec : {M : Type 1} → statement M
 same_decision_spec = tie.close (tie.spec same-front-requires returns)

@@ -4,7 +4,7 @@ use Rattle.scvx.proofs.states.trial_candidate.Statement.{statement}
 use Rattle.scvx.proofs.states.trial_candidate.Tie as tie
 
 returns : tie.Need-returns
-returns c = rw c.norm-slice.ensures
+returns c = rw c.norm_slice.ensures
 
 pub trial_candidate_spec : {M : Type 1} → statement M
 trial_candidate_spec =

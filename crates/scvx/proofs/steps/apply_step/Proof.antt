@@ -10,20 +10,20 @@ use borrow.Author.Rules.{rules}
 use Rattle.scvx.proofs.steps.apply_step.Statement.{statement}
 use Rattle.scvx.proofs.steps.apply_step.Tie as tie
 
-abbrev invariant_loop : tie.invariant_loop
+abbrev invariant_loop : tie.invariant-loop-i
 invariant_loop d out₀ i₀ out i = (i ≤ length d) × ((length out ≡ 193) × (out ≡ iter (Search.add_turn_value d) out₀ i))
 
-abbrev decreases_loop : tie.decreases_loop
+abbrev decreases_loop : tie.decreases-loop-i
 decreases_loop d out₀ i₀ out i = length d - i
 
-loop-holds : tie.Need-loop-init invariant_loop decreases_loop
+loop-holds : tie.Need-loop-i-init invariant_loop decreases_loop
 loop-holds c = (search rules, (search rules, iter_none _ _))
 
-loop-again : tie.Need-loop-preserved invariant_loop decreases_loop
-loop-again c = (search rules, (search rules, iter_next _ _ _ c.before.before.loop.invariant.1.1 refl))
+loop-again : tie.Need-loop-i-preserved invariant_loop decreases_loop
+loop-again c = (search rules, (search rules, iter_next _ _ _ c.before.before.loop-i.invariant.1.1 refl))
 
 returns : tie.Need-returns invariant_loop decreases_loop
-returns c = let e : c.before.loop.i ≡ length c.before.before.args.d.now = omega arith in rw (← e) c.before.loop.invariant.1.1
+returns c = let e : c.before.loop-i.i ≡ length c.before.before.args.d.now = omega arith in rw (← e) c.before.loop-i.invariant.1.1
 
 pub apply_step_spec : {M : Type 1} → statement M
 apply_step_spec =

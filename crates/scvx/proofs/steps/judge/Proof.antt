@@ -6,21 +6,21 @@ use borrow.Author.Rules.{rules}
 use Rattle.scvx.proofs.steps.judge.Statement.{statement}
 use Rattle.scvx.proofs.steps.judge.Tie as tie
 
-returns : tie.Need-returns
+returns : tie.Need-returns-then-t-c
 unfolding Ieee.of_bits
 returns c =
     let entry = c.before.before.before.before.before.before.before.before in (
-      rw (c.move-to.ensures, c.before.max.ensures) (judge_taken entry.args.g.state entry.args.t c.before.before.before.if1.true),
-      λ p k j a h. rw c.move-to.ensures (stands_new k),
+      rw (c.move_to-next.ensures, c.before.max.ensures) (judge_taken entry.args.g.state entry.args.t c.before.before.before.if-t-c.true),
+      λ p k j a h. rw c.move_to-next.ensures (stands_new k),
     )
 
-returns_2 : tie.Need-returns-2
+returns_2 : tie.Need-returns
 unfolding Ieee.of_bits
 returns_2 c =
     let entry = c.before.before.before.before.before.before.before.before.before in
-    let if1 = c.before.before.before.before.if1 in (
-      rw (c.with-state.ensures, c.before.with-damping.ensures, c.before.before.min.ensures) (judge_left entry.args.g.state entry.args.t if1.false),
-      λ p k j a h. rw (c.with-state.ensures, c.before.with-damping.ensures) h,
+    let if1 = c.before.before.before.before.if-t-c in (
+      rw (c.with_state.ensures, c.before.with_damping.ensures, c.before.before.min.ensures) (judge_left entry.args.g.state entry.args.t if1.false),
+      λ p k j a h. rw (c.with_state.ensures, c.before.with_damping.ensures) h,
     )
 
 pub judge_spec : {M : Type 1} → statement M

@@ -19,22 +19,22 @@ use Rattle.scvx.proofs.steps.step_of.Tie as tie
 abbrev blank : List Float
 blank = replicate 193 (of_bits binary64 0)
 
-abbrev start : tie.After-front2 → tie.Start
+abbrev start : tie.After-front-2-1 → tie.Start
 start c = c.before.before.before.before.before.before
 
 -- the kept rows are as many as the definition says
-known : (c : tie.After-front2) → c.before.before.before.kept.result ≡ kept (start c).args.m
-known c = c.before.before.before.kept.ensures
+known : (c : tie.After-front-2-1) → c.before.before.before.kept-w.result ≡ kept (start c).args.m
+known c = c.before.before.before.kept-w.ensures
 
 -- columns and matrix fit into the workspace
-fits : (c : tie.After-front2) → (start c).args.n * c.before.before.before.kept.result + (start c).args.n * (start c).args.n ≤ length (start c).args.ws.now
-fits c = subst (λ k. (start c).args.n * k + (start c).args.n * (start c).args.n ≤ length (start c).args.ws.now) (sym (known c)) (start c).requires.1.1.0
+fits : (c : tie.After-front-2-1) → (start c).args.n * c.before.before.before.kept-w.result + (start c).args.n * (start c).args.n ≤ length (start c).args.ws-1.now
+fits c = subst (λ k. (start c).args.n * k + (start c).args.n * (start c).args.n ≤ length (start c).args.ws-1.now) (sym (known c)) (start c).requires.1.1.0
 
 -- the Gram matrix of the kept rows
-summed : (c : tie.After-front2) → GramKept (start c).args.n c.before.before.before.kept.result (rows (start c).args.n c.before.before.before.kept.result (take ((start c).args.n * c.before.before.before.kept.result) (start c).args.ws.now)) (start c).args.gram.now
+summed : (c : tie.After-front-2-1) → GramKept (start c).args.n c.before.before.before.kept-w.result (rows (start c).args.n c.before.before.before.kept-w.result (take ((start c).args.n * c.before.before.before.kept-w.result) (start c).args.ws-1.now)) (start c).args.gram.now
 summed c =
     let a = (start c).args in
-    subst (λ k. GramKept a.n k (rows a.n k (take (a.n * k) a.ws.now)) a.gram.now) (sym (known c)) (gram_of_kept a.n a.m a.ws.now a.gram.now (start c).requires.1.0 (start c).requires.1.1.1.1)
+    subst (λ k. GramKept a.n k (rows a.n k (take (a.n * k) a.ws-1.now)) a.gram.now) (sym (known c)) (gram_of_kept a.n a.m a.ws-1.now a.gram.now (start c).requires.1.0 (start c).requires.1.1.1.1)
 
 long : (c : tie.Start) → length c.args.r ≡ 79
 long c = search rules
@@ -42,24 +42,24 @@ long c = search rules
 gather-requires : tie.Need-gather-requires
 gather-requires c κs = let st = c.before.before.before.before in (st.requires.1.0, omega (arith, laid_most st.requires.1.0, long st))
 
-slice-aggregate-kept-step : tie.Need-slice-aggregate-kept-step
+slice-aggregate-kept-step : tie.Need-slice_bounds-kept_step-end-2
 slice-aggregate-kept-step c = sym (length-take-le _ _ (fits c.before))
 
-slice-aggregate-kept-step-3 : tie.Need-slice-aggregate-kept-step-3
+slice-aggregate-kept-step-3 : tie.Need-slice_bounds-kept_step-end-4
 slice-aggregate-kept-step-3 c = sym (length-take-le _ _ (omega (arith, c.before.before.before.before.before.before.before.before.before.requires.0)))
 
-kept-step-requires : tie.Need-kept-step-requires
+kept-step-requires : tie.Need-kept_step-solved-requires
 kept-step-requires c κs =
     let st = c.before.before.before.before.before.before.before.before.before in
     let a = st.args in
     let front = c.before.before.before in
-    let w = c.before.before.before.before.before.before.kept.result in
+    let w = c.before.before.before.before.before.before.kept-w.result in
     let e : length (take a.n blank) ≡ a.n = length-take-le a.n blank (omega (arith, st.requires.0)) in
     let whole : length a.r ≡ 79 = long st in (
       omega (arith, st.requires.0),
       omega (arith, known front, kept_most a.m st.requires.1.0, laid_most st.requires.1.0, c.before.before.before.before.gather.auto.1.0),
       length-take-le _ _ (fits front) ∙ ap (λ k. k * w + k * k) (sym e),
-      gram_front (length (take a.n blank)) a.n w a.ws.now e (fits front) a.gram.now (summed front),
+      gram_front (length (take a.n blank)) a.n w a.ws-1.now e (fits front) a.gram.now (summed front),
     )
 
 returns : tie.Need-returns
@@ -67,19 +67,19 @@ returns c =
     let st = c.before.before.before.before.before.before.before.before.before.before.before.before.before in
     let a = st.args in
     let front = c.before.before.before.before.before.before.before in
-    let w = c.before.before.before.before.before.before.before.before.before.before.kept.result in
-    let t = c.before.before.before.Kept-step in
+    let w = c.before.before.before.before.before.before.before.before.before.before.kept-w.result in
+    let t = c.before.before.before.kept_step-solved in
     let d : List Float = t.new.1.1.1.1.1.0 in
     let x : List Float = c.before.before.before.before.before.before.before.before.gather.new.1.0 in
     let e : length (take a.n blank) ≡ a.n = length-take-le a.n blank (omega (arith, st.requires.0)) in
-    let same = kept_front (length (take a.n blank)) a.n w a.ws.now e (fits front) t.new.0 t.auto.0 t.ensures.0 in (
+    let same = kept_front (length (take a.n blank)) a.n w a.ws-1.now e (fits front) t.new.0 t.auto.0 t.ensures.0 in (
       ap (λ y. told t.result y) (take_at d (drop a.n blank) a.n (t.auto.1.1.1.1.1.0 ∙ e))
-          ∙ told_front (length (take a.n blank)) a.n w a.ws.now e (fits front) t.result d x a.lambda t.ensures.1
-          ∙ ap (λ k. damped_step a.n k (rows a.n k (take (a.n * k) a.ws.now)) x a.lambda) (known front)
-          ∙ step_kept a.n a.m a.ws.now a.r x a.lambda st.requires.1.0 c.before.before.before.before.before.before.before.before.gather.ensures st.requires.1.1.1.0,
+          ∙ told_front (length (take a.n blank)) a.n w a.ws-1.now e (fits front) t.result d x a.lambda t.ensures.1
+          ∙ ap (λ k. damped_step a.n k (rows a.n k (take (a.n * k) a.ws-1.now)) x a.lambda) (known front)
+          ∙ step_kept a.n a.m a.ws-1.now a.r x a.lambda st.requires.1.0 c.before.before.before.before.before.before.before.before.gather.ensures st.requires.1.1.1.0,
       (
         length_front blank d a.n t.auto.1.1.1.1.1.0,
-        ap (columns a.n a.m) (subst (λ k. take (a.n * k) (t.new.0 ++ drop (a.n * w + a.n * a.n) a.ws.now) ≡ take (a.n * k) a.ws.now) (known front) same),
+        ap (columns a.n a.m) (subst (λ k. take (a.n * k) (t.new.0 ++ drop (a.n * w + a.n * a.n) a.ws-1.now) ≡ take (a.n * k) a.ws-1.now) (known front) same),
       ),
     )
 

@@ -10,50 +10,50 @@ use borrow.Author.Rules.{rules}
 use Rattle.scvx.proofs.steps.take_step.Statement.{statement}
 use Rattle.scvx.proofs.steps.take_step.Tie as tie
 
-step-of-requires : tie.Need-step-of-requires
+step-of-requires : tie.Need-step_of-step-requires
 step-of-requires c κs =
     let st = c.before.before.before.before.before in
     let z = st.requires.0 in
     (z.n_most, (width_laid st.args.p z.m_is, (z.fits, st.requires.1.1)))
 
-returns : tie.Need-returns
+returns : tie.Need-returns-then-not-step
 unfolding Ieee.of_bits
 returns c =
     let entry = c.before.before.before.before.before.before.before.before.before.before.before.before.before.before in
-    let if1 = c.before.before.before.before.if1 in
+    let if1 = c.before.before.before.before.if-not-step in
     let a = entry.args in
     let z = entry.requires.0 in
     let t = c.before.before.before.before.before.before.before.before.step_of_lem in (
-      rw (c.with-state.ensures, c.before.with-damping.ensures, c.before.before.min.ensures) (singular a.p a.g.state a.n a.m _ a.g.r z.n_is z.m_is t.result.solved _ t.ensures.0 (not-true _ if1.true)),
-      (λ j x h. rw (c.with-state.ensures, c.before.with-damping.ensures) h, t.ensures.1.1),
+      rw (c.with_state.ensures, c.before.with_damping.ensures, c.before.before.min.ensures) (singular a.p a.g.state a.n a.m _ a.g.r-1 z.n_is z.m_is t.result.solved _ t.ensures.0 (not-true _ if1.true)),
+      (λ j x h. rw (c.with_state.ensures, c.before.with_damping.ensures) h, t.ensures.1.1),
     )
 
-array-share-prefix-d : tie.Need-array-share-prefix-d
+array-share-prefix-d : tie.Need-slice_bounds-d-end
 array-share-prefix-d c =
     let entry = c.before.before.before.before.before.before.before.before.before.before.before in
     let step_of_lem = c.before.before.before.before.before.step_of_lem in
     omega (arith, entry.requires.0.n_most, step_of_lem.ensures.1.0)
 
-slice-aggregate-try-step : tie.Need-slice-aggregate-try-step
+slice-aggregate-try-step : tie.Need-slice_bounds-try_step-end
 slice-aggregate-try-step c =
     let entry = c.before.before.before.before.before.before.before.before.before.before.before.before in
     let step_of_lem = c.before.before.before.before.before.before.step_of_lem in
     sym (length-take-le _ _ (omega (arith, entry.requires.0.n_most, step_of_lem.ensures.1.0)))
 
-try-step-requires : tie.Need-try-step-requires
+try-step-requires : tie.Need-try_step-requires
 try-step-requires c κs =
     let entry = c.before.before.before.before.before.before.before.before.before.before.before.before in
     let step_of_lem = c.before.before.before.before.before.before.step_of_lem in
     (sizes_step _ entry.requires.0 (length-take-le _ _ (omega (arith, entry.requires.0.n_most, step_of_lem.ensures.1.0))), omega (arith, entry.requires.1.0))
 
-returns_2 : tie.Need-returns-2
+returns_2 : tie.Need-returns
 returns_2 c =
     let entry = c.before.before.before.before.before.before.before.before.before.before.before.before.before in
     let a = entry.args in
     let z = entry.requires.0 in
     let t = c.before.before.before.before.before.before.before.step_of_lem in (
-      c.try-step.ensures.0 ∙ solved a.p a.g.state a.n a.m _ a.g.r z.n_is z.m_is t.result.solved _ t.ensures.0 (not-false _ c.before.before.before.if1.false),
-      (c.try-step.ensures.1, t.ensures.1.1),
+      c.try_step.ensures.0 ∙ solved a.p a.g.state a.n a.m _ a.g.r-1 z.n_is z.m_is t.result.solved _ t.ensures.0 (not-false _ c.before.before.before.if-not-step.false),
+      (c.try_step.ensures.1, t.ensures.1.1),
     )
 
 pub take_step_spec : {M : Type 1} → statement M

@@ -5,16 +5,16 @@ use borrow.Author.Rules.{rules}
 use Rattle.scvx.proofs.turns.conclude.Statement.{statement}
 use Rattle.scvx.proofs.turns.conclude.Tie as tie
 
-returns : tie.Need-returns
-returns c = c.final-run.ensures ∙ conclude_going c.before.before.before.args.p c.before.before.before.args.s c.before.enum_told.given.1
+returns : tie.Need-returns-in-Going
+returns c = c.final_run.ensures ∙ conclude_going c.before.before.before.args.p c.before.before.before.args.s c.before.enum_told-1.given.1
 
-returns_2 : tie.Need-returns-2
-returns_2 c = c.final-run2.ensures ∙ conclude_ended c.before.before.before.args.p c.before.before.before.args.s c.before.enum-told2.given.1
+returns_2 : tie.Need-returns-in-Ended
+returns_2 c = c.final_run-in-Ended.ensures ∙ conclude_ended c.before.before.before.args.p c.before.before.before.args.s c.before.enum_told-in-Ended-1.given.1
 
-returns_3 : tie.Need-returns-3
+returns_3 : tie.Need-returns-in-Refused
 returns_3 c =
     let entry = c.before.before.before.before in
-    c.not_found.ensures ∙ conclude_refused entry.args.p entry.args.s c.before.before.status.given.1
+    c.not_found.ensures ∙ conclude_refused entry.args.p entry.args.s c.before.before.status-1.given.1
 
 pub conclude_spec : {M : Type 1} → statement M
 conclude_spec =

@@ -5,16 +5,16 @@ use borrow.Author.Rules.{rules}
 use Rattle.scvx.proofs.turns.final_run.Statement.{statement}
 use Rattle.scvx.proofs.turns.final_run.Tie as tie
 
-returns : tie.Need-returns
+returns : tie.Need-returns-in-Refused
 returns c =
     let entry = c.before.before.before.before.before.before.before.before.before in
-    let run_of = c.before.before.before.before.before.run_of in
-    c.not_found.ensures ∙ final_run_by_law entry.args.p entry.args.s run_of.ensures c.before.before.before.fate.given.1
+    let run_of = c.before.before.before.before.before.run_of-run in
+    c.not_found.ensures ∙ final_run_by_law entry.args.p entry.args.s run_of.ensures c.before.before.before.fate-1.given.1
 
-returns_2 : tie.Need-returns-2
+returns_2 : tie.Need-returns-in-Going
 returns_2 c =
     let entry = c.before.before.before.before.before.before.before in
-    final_run_by_law entry.args.p entry.args.s c.before.before.before.run_of.ensures c.before.enum_told.given.1
+    final_run_by_law entry.args.p entry.args.s c.before.before.before.run_of-run.ensures c.before.enum_told-1.given.1
 
 pub final_run_spec : {M : Type 1} → statement M
 final_run_spec =

@@ -6,7 +6,7 @@ use Rattle.scvx.proofs.turns.not_found.Tie as tie
 
 returns : tie.Need-returns
 unfolding Ieee.of_bits
-returns c = rw c.refused-run.ensures
+returns c = rw c.refused_run.ensures
 
 pub not_found_spec : {M : Type 1} → statement M
 not_found_spec =

@@ -6,7 +6,7 @@ use Rattle.scvx.proofs.turns.start.Tie as tie
 
 returns : tie.Need-returns
 unfolding Ieee.of_bits
-returns c = rw c.seed-candidate.ensures
+returns c = rw c.seed_candidate-candidate.ensures
 
 pub start_spec : {M : Type 1} → statement M
 start_spec =

@@ -13,35 +13,35 @@ use borrow.Author.Rules.{rules}
 use Rattle.shared_runs.proofs.known.know_angles.Statement.{statement}
 use Rattle.shared_runs.proofs.known.know_angles.Tie as tie
 
-abbrev start : tie.After-control-dim → tie.Start
+abbrev start : tie.After-control_dim-n → tie.Start
 start c = c.before.before.before
 
 -- the four rates end a row
-room : (c : tie.After-control-dim) → (start c).args.map.wheel_count + (start c).args.map.thruster_count + 4 ≤ control_dim (start c).args.map
+room : (c : tie.After-control_dim-n) → (start c).args.map.wheel_count + (start c).args.map.thruster_count + 4 ≤ control_dim (start c).args.map
 room c =
     let m = (start c).args.map in
-    let four : gimbals m.cmgs ≡ 4 = ap gimbals c.before.enum-told2.given.1 in
+    let four : gimbals m.cmgs ≡ 4 = ap gimbals c.before.enum_told-in-With-1.given.1 in
     omega (arith, row_room (rig_under Once m) (control_dim m) (dim_sized Once m (start c).requires.0), four)
 
-add-fill-angles : tie.Need-overflow-add-fill-angles
+add-fill-angles : tie.Need-overflow_add-map
 add-fill-angles c = omega (arith, (sized_counts _ (start c.before).requires.0).0)
 
-add-fill-angles-2 : tie.Need-overflow-add-fill-angles-2
+add-fill-angles-2 : tie.Need-overflow_add-map-in-With
 add-fill-angles-2 c = let counts = sized_counts _ (start c.before.before).requires.0 in omega (arith, counts.0, counts.1)
 
-fill-angles-requires : tie.Need-fill-angles-requires
+fill-angles-requires : tie.Need-fill_angles-requires
 fill-angles-requires c κs =
     let d = c.before.before.before.before in
     let pre = (start d).requires in
-    rw d.control-dim.ensures (omega (arith, room d), (pre.1.0, (search rules, pre.1.1)))
+    rw d.control_dim-n.ensures (omega (arith, room d), (pre.1.0, (search rules, pre.1.1)))
 
-returns : tie.Need-returns
-returns c = (c.before.before.requires.1.1, rw c.enum_told.given.1 tt)
+returns : tie.Need-returns-in-Without
+returns c = (c.before.before.requires.1.1, rw c.enum_told-1.given.1 tt)
 
-returns_2 : tie.Need-returns-2
+returns_2 : tie.Need-returns-in-With
 returns_2 c =
     let told = c.before.before.before.before.before.before in
-    (c.fill-angles.ensures.long, rw told.enum-told2.given.1 (filled_whole _ c.fill-angles.ensures))
+    (c.fill_angles.ensures.long, rw told.enum_told-in-With-1.given.1 (filled_whole _ c.fill_angles.ensures))
 
 pub know_angles_spec : {M : Type 1} → statement M
 know_angles_spec =

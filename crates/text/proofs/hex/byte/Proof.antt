@@ -5,8 +5,8 @@ use borrow.Author.Rules.{rules}
 use Rattle.text.proofs.hex.byte.Statement.{statement}
 use Rattle.text.proofs.hex.byte.Tie as tie
 
-returns_2 : tie.Need-returns-2
-returns_2 c = sym (get_or-eq_default c.before.args.s.now 0 c.if1.false)
+returns_2 : tie.Need-returns-else-at-s
+returns_2 c = sym (get_or-eq_default c.before.args.s.now 0 c.if-at-s.false)
 
 pub byte_spec : {M : Type 1} → statement M
 byte_spec =

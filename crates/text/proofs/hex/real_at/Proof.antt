@@ -4,14 +4,14 @@ use borrow.Author.Rules.{rules}
 use Rattle.text.proofs.hex.real_at.Statement.{statement}
 use Rattle.text.proofs.hex.real_at.Tie as tie
 
-returns : tie.Need-returns
+returns : tie.Need-returns-in-Bits
 returns c =
     let at-m = c.before.before in
     let at-hex-at = at-m.before.before in
-    real_is _ _ at-m.m.given.0.0 _ _ at-hex-at.hex-at.result at-hex-at.hex-at.ensures at-m.m.given.1 c.Real-of.ensures
+    real_is _ _ at-m.m-1.given.0.0 _ _ at-hex-at.hex_at.result at-hex-at.hex_at.ensures at-m.m-1.given.1 c.real_of.ensures
 
-returns_2 : tie.Need-returns-2
-returns_2 c = real_wrong _ _ c.before.before.hex-at.result c.before.before.hex-at.ensures c.enum_told.given.1
+returns_2 : tie.Need-returns-in-Wrong
+returns_2 c = real_wrong _ _ c.before.before.hex_at.result c.before.before.hex_at.ensures c.enum_told-1.given.1
 
 pub real_at_spec : {M : Type 1} → statement M
 real_at_spec = tie.close (tie.spec (search rules) (search rules) (search rules) (search rules) returns returns_2)

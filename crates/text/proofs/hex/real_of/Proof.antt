@@ -5,13 +5,13 @@ use Rattle.text.specs.DigitLaws.{nan_is, no_nan_bits}
 use Rattle.text.proofs.hex.real_of.Statement.{statement}
 use Rattle.text.proofs.hex.real_of.Tie as tie
 
-returns : tie.Need-returns
+returns : tie.Need-returns-then-m-gt9218868437227405312
 returns c = nan_is _ (omega arith)
 
-float-from-bits-result : tie.Need-float-from-bits-result
+float-from-bits-result : tie.Need-float_from_bits-result
 float-from-bits-result c = no_nan_bits _ (omega arith)
 
-returns_2 : tie.Need-returns-2
+returns_2 : tie.Need-returns
 returns_2 c = refl
 
 pub real_of_spec : {M : Type 1} → statement M

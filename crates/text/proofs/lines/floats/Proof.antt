@@ -5,13 +5,13 @@ use borrow.Author.Rules.{rules}
 use Rattle.text.proofs.lines.floats.Statement.{statement}
 use Rattle.text.proofs.lines.floats.Tie as tie
 
-returns : tie.Need-returns
+returns : tie.Need-returns-then-r-n
 unfolding floats
-returns c = simp (eq-eqb _ _ c.if1.true)
+returns c = simp (eq-eqb _ _ c.if-r-n.true)
 
-returns_2 : tie.Need-returns-2
+returns_2 : tie.Need-returns-else-r-n
 unfolding floats
-returns_2 c = simp (ne_eqb _ _ c.before.if1.false) c.wrong_row.ensures
+returns_2 c = simp (ne_eqb _ _ c.before.if-r-n.false) c.wrong_row.ensures
 
 pub floats_spec : {M : Type 1} → statement M
 floats_spec = tie.close (tie.spec (search rules) returns returns_2)

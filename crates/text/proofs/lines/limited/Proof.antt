@@ -7,20 +7,20 @@ use borrow.Author.Rules.{rules}
 use Rattle.text.proofs.lines.limited.Statement.{statement}
 use Rattle.text.proofs.lines.limited.Tie as tie
 
-returns : tie.Need-returns
+returns : tie.Need-returns-then-r-n
 unfolding limited
-returns c = simp (eq-eqb _ _ c.before.if1.true) c.without-limit.ensures
+returns c = simp (eq-eqb _ _ c.before.if-r-n.true) c.without_limit.ensures
 
-returns_2 : tie.Need-returns-2
-returns_2 c = c.wrong_row.ensures ∙ sym (limited_fewer _ _ _ c.before.if2.true)
+returns_2 : tie.Need-returns-then-r-n-2
+returns_2 c = c.wrong_row.ensures ∙ sym (limited_fewer _ _ _ c.before.if-r-n-2.true)
 
-returns_3 : tie.Need-returns-3
+returns_3 : tie.Need-returns-then-r-n-ne1
 returns_3 c =
-    let if1 = c.before.before.before.before.before.if1 in
-    c.wrong-row2.ensures ∙ sym (limited_more _ _ _ c.before.before.before.if2.false if1.false c.before.if3.true)
+    let if1 = c.before.before.before.before.before.if-r-n in
+    c.wrong_row-then-r-n-ne1.ensures ∙ sym (limited_more _ _ _ c.before.before.before.if-r-n-2.false if1.false c.before.if-r-n-ne1.true)
 
-returns-4 : tie.Need-returns-4
-returns-4 c = limited_one _ _ _ c.before.before.if2.false c.if3.false
+returns-4 : tie.Need-returns
+returns-4 c = limited_one _ _ _ c.before.before.if-r-n-2.false c.if-r-n-ne1.false
 
 pub limited_spec : {M : Type 1} → statement M
 limited_spec = tie.close (tie.spec (search rules) returns (search rules) returns_2 (search rules) returns_3 returns-4)

@@ -7,19 +7,19 @@ use borrow.Author.Rules.{rules}
 use Rattle.text.proofs.lines.line_at.Statement.{statement}
 use Rattle.text.proofs.lines.line_at.Tie as tie
 
-returns : tie.Need-returns
+returns : tie.Need-returns-then-not-is_at
 unfolding line_at
-returns c = simp (unmet c.before.before.is_at.ensures.is c.before.if1.true) c.wrong_row.ensures
+returns c = simp (unmet c.before.before.is_at.ensures.is c.before.if-not-is_at.true) c.wrong_row.ensures
 
-after-head : tie.Need-overflow-add-words-at
-after-head c = omega (arith, c.before.is_at.ensures.within (not-false _ c.if1.false))
+after-head : tie.Need-overflow_add-at
+after-head c = omega (arith, c.before.is_at.ensures.within (not-false _ c.if-not-is_at.false))
 
-words-at-requires : tie.Need-words-at-requires
-words-at-requires c κs = c.before.is_at.ensures.within (not-false _ c.if1.false)
+words-at-requires : tie.Need-words_at-r-requires
+words-at-requires c κs = c.before.is_at.ensures.within (not-false _ c.if-not-is_at.false)
 
-returns_2 : tie.Need-returns-2
+returns_2 : tie.Need-returns
 unfolding line_at
-returns_2 c = simp (met c.before.before.before.is_at.ensures.is c.before.before.if1.false) (rw c.before.words_at_law.ensures at c.with_tail.ensures)
+returns_2 c = simp (met c.before.before.before.is_at.ensures.is c.before.before.if-not-is_at.false) (rw c.before.words_at_law.ensures at c.with_tail.ensures)
 
 pub line_at_spec : {M : Type 1} → statement M
 line_at_spec = tie.close (tie.spec (search rules) (search rules) returns after-head words-at-requires (search rules) returns_2)

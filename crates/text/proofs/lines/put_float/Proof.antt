@@ -6,7 +6,7 @@ use borrow.Author.Rules.{rules}
 use Rattle.text.proofs.lines.put_float.Statement.{statement}
 use Rattle.text.proofs.lines.put_float.Tie as tie
 
-returns : tie.Need-returns
+returns : tie.Need-returns-then-k-ge9
 returns c = sym (set_out _ _ _ (omega arith))
 
 pub put_float_spec : {M : Type 1} → statement M

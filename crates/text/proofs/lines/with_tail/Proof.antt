@@ -7,30 +7,30 @@ use borrow.Author.Rules.{rules}
 use Rattle.text.proofs.lines.with_tail.Statement.{statement}
 use Rattle.text.proofs.lines.with_tail.Tie as tie
 
-returns : tie.Need-returns
+returns : tie.Need-returns-then-not-r
 unfolding with_tail
-returns c = let start = c.before.before.before.before.before.args in simp (not-true start.r.ok c.before.if1.true) c.wrong_row.ensures
+returns c = let start = c.before.before.before.before.before.args in simp (not-true start.r.ok c.before.if-not-r.true) c.wrong_row.ensures
 
-returns_2 : tie.Need-returns-2
+returns_2 : tie.Need-returns-then-not-is_at
 unfolding with_tail
 returns_2 c =
     let at-is-at = c.before.before in
     let at-if1 = at-is-at.before in
     let entry = at-if1.before.before.before.before in
     let start = entry.args in
-    simp (not-false start.r.ok at-if1.if1.false, unmet at-is-at.is_at.ensures.is c.before.if2.true) c.wrong-row2.ensures
+    simp (not-false start.r.ok at-if1.if-not-r.false, unmet at-is-at.is_at.ensures.is c.before.if-not-is_at.true) c.wrong_row-then-not-is_at.ensures
 
-after_tail : tie.Need-overflow-add-t10
-after_tail c = omega (arith, c.before.before.is_at.ensures.within (not-false _ c.before.if2.false))
+after_tail : tie.Need-overflow_add-result
+after_tail c = omega (arith, c.before.before.is_at.ensures.within (not-false _ c.before.if-not-is_at.false))
 
-returns_3 : tie.Need-returns-3
+returns_3 : tie.Need-returns
 unfolding with_tail
 returns_3 c =
     let at-is-at = c.before.before in
     let at-if1 = at-is-at.before in
     let entry = at-if1.before.before.before.before in
     let start = entry.args in
-    simp (not-false start.r.ok at-if1.if1.false, met at-is-at.is_at.ensures.is c.before.if2.false)
+    simp (not-false start.r.ok at-if1.if-not-r.false, met at-is-at.is_at.ensures.is c.before.if-not-is_at.false)
 
 pub with_tail_spec : {M : Type 1} → statement M
 with_tail_spec = tie.close (tie.spec (search rules) returns (search rules) (search rules) returns_2 after_tail returns_3)

@@ -6,14 +6,14 @@ use native.Mathlib.Omega.{arith}
 use Rattle.text.proofs.lines.word_at.Statement.{statement}
 use Rattle.text.proofs.lines.word_at.Tie as tie
 
-returns : tie.Need-returns
-returns c = word_none _ _ (λ h. c.if1.true (c.before.byte.ensures ∙ h))
+returns : tie.Need-returns-then-byte-ne32
+returns c = word_none _ _ (λ h. c.if-byte-ne32.true (c.before.byte.ensures ∙ h))
 
-past-blanks-requires : tie.Need-past-blanks-requires
-past-blanks-requires c κs = omega (arith, blank_within c.before.before.before.args.s.now c.before.before.before.args.at (sym c.before.byte.ensures ∙ c.if1.false))
+past-blanks-requires : tie.Need-past_blanks-requires
+past-blanks-requires c κs = omega (arith, blank_within c.before.before.before.args.s.now c.before.before.before.args.at (sym c.before.byte.ensures ∙ c.if-byte-ne32.false))
 
-returns_2 : tie.Need-returns-2
-returns_2 c = word_some _ _ _ _ (sym c.before.before.before.byte.ensures ∙ c.before.before.if1.false) c.before.past-blanks.ensures c.real-at.ensures
+returns_2 : tie.Need-returns
+returns_2 c = word_some _ _ _ _ (sym c.before.before.before.byte.ensures ∙ c.before.before.if-byte-ne32.false) c.before.past_blanks.ensures c.real_at.ensures
 
 pub word_at_spec : {M : Type 1} → statement M
 word_at_spec = tie.close (tie.spec (search rules) returns (search rules) past-blanks-requires (search rules) returns_2)

@@ -5,8 +5,8 @@ use borrow.Author.Rules.{rules}
 use Rattle.text_writer.proofs.put.put.Statement.{statement}
 use Rattle.text_writer.proofs.put.put.Tie as tie
 
-returns_2 : tie.Need-returns-2
-returns_2 c = sym (set_out _ _ _ c.if1.false)
+returns_2 : tie.Need-returns-else-at-b
+returns_2 c = sym (set_out _ _ _ c.if-at-b.false)
 
 pub put_spec : {M : Type 1} → statement M
 put_spec = tie.close (tie.spec (search rules) (search rules) (search rules) returns_2)

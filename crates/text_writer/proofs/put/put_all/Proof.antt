@@ -10,32 +10,32 @@ use native.Mathlib.Omega.{arith}
 use Rattle.text_writer.proofs.put.put_all.Statement.{statement}
 use Rattle.text_writer.proofs.put.put_all.Tie as tie
 
-abbrev invariant_loop : tie.invariant_loop
+abbrev invariant_loop : tie.invariant-loop-k
 invariant_loop b₀ at w k₀ b k = (k ≤ length w) × (sets b₀ at w ≡ sets b (at + k) (drop k w)) × (length b ≡ length b₀)
 
-abbrev decreases_loop : tie.decreases_loop
+abbrev decreases_loop : tie.decreases-loop-k
 decreases_loop b₀ at w k₀ b k = length w - k
 
-loop-holds : tie.Need-loop-init invariant_loop decreases_loop
+loop-holds : tie.Need-loop-k-init invariant_loop decreases_loop
 loop-holds c = (omega arith, rw add-zero, refl)
 
-loop-again : tie.Need-loop-preserved invariant_loop decreases_loop
+loop-again : tie.Need-loop-k-preserved invariant_loop decreases_loop
 loop-again c =
     let at-put = c.before.before in
     let at-loop = at-put.before.before.before.before in
     let start = at-loop.before.before.before in
     let a = start.args in
-    let l = at-loop.loop in
-    (omega arith, rw at-put.put.ensures (l.invariant.1 ∙ puts_one l.b a.w.now a.at l.k (omega arith)), rw at-put.put.ensures (length-set l.b _ _ ∙ l.invariant.2))
+    let l = at-loop.loop-k in
+    (omega arith, rw at-put.put.ensures (l.invariant.1 ∙ puts_one l.b-1 a.w.now a.at l.k (omega arith)), rw at-put.put.ensures (length-set l.b-1 _ _ ∙ l.invariant.2))
 
-same_length : tie.Need-same-length invariant_loop decreases_loop
-same_length c = c.before.loop.invariant.2
+same_length : tie.Need-shape_of-b invariant_loop decreases_loop
+same_length c = c.before.loop-k.invariant.2
 
 returns : tie.Need-returns invariant_loop decreases_loop
 returns c =
     let a = c.before.before.before.before.args in
-    let l = c.before.loop in
-    record { is = sym (l.invariant.1 ∙ puts_all l.b a.w.now a.at l.k (omega arith)); ends = omega arith; short = le_refl _ }
+    let l = c.before.loop-k in
+    record { is = sym (l.invariant.1 ∙ puts_all l.b-1 a.w.now a.at l.k (omega arith)); ends = omega arith; short = le_refl _ }
 
 pub put_all_spec : {M : Type 1} → statement M
 put_all_spec =

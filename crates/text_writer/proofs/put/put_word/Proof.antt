@@ -9,7 +9,7 @@ returns c =
     let at-put-hex = c.before.before in
     let at-bits-of = at-put-hex.before in
     let at-put-byte = at-bits-of.before.before.before.before in
-    puts_join at-put-byte.put_byte.ensures (rw at-bits-of.bits_of.ensures at at-put-hex.put-hex.ensures)
+    puts_join at-put-byte.put_byte-i.ensures (rw at-bits-of.bits_of.ensures at at-put-hex.put_hex.ensures)
 
 pub put_word_spec : {M : Type 1} → statement M
 put_word_spec = tie.close (tie.spec (search rules) (search rules) (search rules) (search rules) returns)

@@ -9,15 +9,15 @@ use native.Mathlib.Omega.{arith}
 use Rattle.tile_order.proofs.table.any_outside.Statement.{statement}
 use Rattle.tile_order.proofs.table.any_outside.Tie as tie
 
-abbrev invariant_loop : tie.invariant_loop
+abbrev invariant_loop : tie.invariant-loop-i
 invariant_loop n times i₀ i = (i ≤ n) × (false ≡ any (λ k. any (Tables.outside n times k) n) i)
 
-abbrev decreases_loop : tie.decreases_loop
+abbrev decreases_loop : tie.decreases-loop-i
 decreases_loop n times i₀ i = n - i
 
-returns_2 : tie.Need-returns-2 invariant_loop decreases_loop
+returns_2 : tie.Need-returns invariant_loop decreases_loop
 returns_2 c =
-    let l = c.before.loop in
+    let l = c.before.loop-i in
     let e : l.i ≡ c.before.before.before.args.n = omega arith in
     rw e at l.invariant.1
 
@@ -28,9 +28,9 @@ any_outside_spec =
     invariant_loop
     decreases_loop
     (λ c. (omega arith, any_none _))
-    (λ c κs. (c.loop-test.true, c.before.before.before.requires))
-    (λ c. let l = c.before.before.before in sym (any_hit _ l.loop.i _ c.before.before.loop-test.true (sym c.before.row-outside.ensures ∙ c.if1.true)))
+    (λ c κs. (c.loop-i-test.true, c.before.before.before.requires))
+    (λ c. let l = c.before.before.before in sym (any_hit _ l.loop.i _ c.before.before.loop-i-test.true (sym c.before.row_outside.ensures ∙ c.if-row_outside.true)))
     (λ c. omega arith)
     (λ c. omega arith)
-    (λ c. let l = c.before.before.before in (omega arith, any_more _ l.loop.i l.loop.invariant.1 (sym c.before.row-outside.ensures ∙ c.if1.false)))
+    (λ c. let l = c.before.before.before in (omega arith, any_more _ l.loop.i l.loop-i.invariant.1 (sym c.before.row_outside.ensures ∙ c.if-row_outside.false)))
     returns_2)

@@ -7,20 +7,20 @@ use native.Mathlib.Omega.{arith}
 use Rattle.tile_order.proofs.table.cost_of.Statement.{statement}
 use Rattle.tile_order.proofs.table.cost_of.Tie as tie
 
-abbrev invariant_loop : tie.invariant_loop
+abbrev invariant_loop : tie.invariant-loop-i
 invariant_loop n times order sum₀ i₀ sum i = (i + 1 ≤ n) × (sum ≤ i * 2 ^ 32) × (sum ≡ Orders.legs n times order i)
 
-abbrev decreases_loop : tie.decreases_loop
+abbrev decreases_loop : tie.decreases-loop-i
 decreases_loop n times order sum₀ i₀ sum i = n - i
 
-loop-again : tie.Need-loop-preserved invariant_loop decreases_loop
+loop-again : tie.Need-loop-i-preserved invariant_loop decreases_loop
 loop-again c =
-    let l = c.before.before.before.before.loop in
-    (omega arith, omega arith, sum_more _ l.i l.invariant.2 c.leg.ensures.0)
+    let l = c.before.before.before.before.loop-i in
+    (omega arith, omega arith, sum_more _ l.i l.invariant.2 c.leg-sum.ensures.0)
 
 returns : tie.Need-returns invariant_loop decreases_loop
 returns c =
-    let l = c.before.loop in
+    let l = c.before.loop-i in
     let e : l.i ≡ c.before.before.before.args.n - 1 = omega arith in
     rw e at l.invariant.2
 
@@ -37,7 +37,7 @@ cost_of_spec =
     (λ c. omega arith)
     (λ c. omega arith)
     (λ c. omega arith)
-    (λ c κs. let l = c.before.before.before.loop in
+    (λ c κs. let l = c.before.before.before.loop-i in
     let a = c.before.before.before.before.before in
     (a.requires.3 l.i (omega arith), a.requires.3 (l.i + 1) (omega arith), a.requires.2))
     (λ c. omega arith)

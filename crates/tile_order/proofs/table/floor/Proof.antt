@@ -8,20 +8,20 @@ use native.Mathlib.Omega.{arith}
 use Rattle.tile_order.proofs.table.floor.Statement.{statement}
 use Rattle.tile_order.proofs.table.floor.Tie as tie
 
-abbrev invariant_loop : tie.invariant_loop
-invariant_loop n times sum₀ i₀ sum i = (i + 1 ≤ n) × (sum ≤ i * Tables.longest) × (sum ≡ Below.sum (λ k. Tables.least n times (k + 1)) i)
+abbrev invariant_loop : tie.invariant-loop-i
+invariant_loop n times sum₀ i₀ sum i = (i + 1 ≤ n) × (sum ≤ i * Tables.longest) × (sum ≡ Below.sum (λ k. Tables.least-sum n times (k + 1)) i)
 
-abbrev decreases_loop : tie.decreases_loop
+abbrev decreases_loop : tie.decreases-loop-i
 decreases_loop n times sum₀ i₀ sum i = n - i
 
-loop-again : tie.Need-loop-preserved invariant_loop decreases_loop
+loop-again : tie.Need-loop-i-preserved invariant_loop decreases_loop
 loop-again c =
-    let l = c.before.before.loop in
-    (omega arith, omega arith, sum_more _ l.i l.invariant.2 c.least.ensures.0)
+    let l = c.before.before.loop-i in
+    (omega arith, omega arith, sum_more _ l.i l.invariant.2 c.least-sum.ensures.0)
 
 returns : tie.Need-returns invariant_loop decreases_loop
 returns c =
-    let l = c.before.loop in
+    let l = c.before.loop-i in
     let e : l.i ≡ c.before.before.before.args.n - 1 = omega arith in
     rw e at l.invariant.2
 

@@ -10,20 +10,20 @@ use lib.Dec.{eqb}
 use Rattle.tile_order.proofs.table.least.Statement.{statement}
 use Rattle.tile_order.proofs.table.least.Tie as tie
 
-abbrev invariant_loop : tie.invariant_loop
+abbrev invariant_loop : tie.invariant-loop-j
 invariant_loop n times i m₀ j₀ m j = (j ≤ n) × (m ≤ Tables.longest) × (m ≡ iter (λ k a. cond (eqb k i) a (min a (Tables.time n times k i))) Tables.longest j)
 
-abbrev decreases_loop : tie.decreases_loop
+abbrev decreases_loop : tie.decreases-loop-j
 decreases_loop n times i m₀ j₀ m j = n - j
 
-loop-again : tie.Need-loop-preserved invariant_loop decreases_loop
+loop-again : tie.Need-loop-j-preserved invariant_loop decreases_loop
 loop-again c =
-    let l = c.before.before.loop in
-    (omega arith, omega arith, iter_next _ _ l.j l.invariant.2 c.lesser.ensures.0)
+    let l = c.before.before.loop-j in
+    (omega arith, omega arith, iter_next _ _ l.j l.invariant.2 c.lesser-m.ensures.0)
 
 returns : tie.Need-returns invariant_loop decreases_loop
 returns c =
-    let l = c.before.loop in
+    let l = c.before.loop-j in
     let e : l.j ≡ c.before.before.before.args.n = omega arith in
     (rw e at l.invariant.2, l.invariant.1)
 
@@ -34,7 +34,7 @@ least_spec =
     invariant_loop
     decreases_loop
     (λ c. (omega arith, omega arith, iter_none _ _))
-    (λ c κs. let a = c.before.before.before in (c.loop-test.true, a.requires.0, a.requires.1))
+    (λ c κs. let a = c.before.before.before in (c.loop-j-test.true, a.requires.0, a.requires.1))
     (λ c. omega arith)
     (λ c. omega arith)
     loop-again

@@ -9,7 +9,7 @@ pub lesser_spec : {M : Type 1} → statement M
 lesser_spec =
     tie.close
     (tie.spec
-    (λ c. (rw (eq-eqb _ _ c.if1.true), omega arith))
+    (λ c. (rw (eq-eqb _ _ c.if-j-i.true), omega arith))
     (λ c κs. search rules)
-    (λ c. (rw (ne_eqb _ _ c.before.before.if1.false) (omega arith), omega arith))
-    (λ c. (rw (ne_eqb _ _ c.before.before.if1.false) (omega arith), omega arith)))
+    (λ c. (rw (ne_eqb _ _ c.before.before.if-j-i.false) (omega arith), omega arith))
+    (λ c. (rw (ne_eqb _ _ c.before.before.if-j-i.false) (omega arith), omega arith)))

@@ -10,10 +10,10 @@ pub refused_spec : {M : Type 1} → statement M
 refused_spec =
     tie.close
     (tie.spec
-    (λ c. rw (eq-eqb _ _ c.if1.true))
-    (λ c. rw (ne_eqb _ _ c.before.if1.false, lt-ltb _ _ c.if2.true))
-    (λ c. let h : c.before.before.before.args.n ≤ 10 = c.if2.false in omega (arith, mul-le-mul h h))
-    (λ c κs. c.if3.true)
+    (λ c. rw (eq-eqb _ _ c.if-n-eq0.true))
+    (λ c. rw (ne_eqb _ _ c.before.if-n-eq0.false, lt-ltb _ _ c.if-n-gt10.true))
+    (λ c. let h : c.before.before.before.args.n ≤ 10 = c.if-n-gt10.false in omega (arith, mul-le-mul h h))
+    (λ c κs. c.if-times-n.true)
     (λ c. let d = c.before in
-    rw (ne_eqb _ _ d.before.before.if1.false, le-ltb _ _ d.before.if2.false, eq-eqb _ _ d.if3.true) c.any-outside.ensures)
-    (λ c. rw (ne_eqb _ _ c.before.before.if1.false, le-ltb _ _ c.before.if2.false, ne_eqb _ _ c.if3.false)))
+    rw (ne_eqb _ _ d.before.before.if-n-eq0.false, le-ltb _ _ d.before.if-n-gt10.false, eq-eqb _ _ d.if-times-n.true) c.any_outside.ensures)
+    (λ c. rw (ne_eqb _ _ c.before.before.if-n-eq0.false, le-ltb _ _ c.before.if-n-gt10.false, ne_eqb _ _ c.if-times-n.false)))

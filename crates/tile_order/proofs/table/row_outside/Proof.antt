@@ -9,15 +9,15 @@ use native.Mathlib.Omega.{arith}
 use Rattle.tile_order.proofs.table.row_outside.Statement.{statement}
 use Rattle.tile_order.proofs.table.row_outside.Tie as tie
 
-abbrev invariant_loop : tie.invariant_loop
+abbrev invariant_loop : tie.invariant-loop-j
 invariant_loop n times i j₀ j = (j ≤ n) × (false ≡ any (Tables.outside n times i) j)
 
-abbrev decreases_loop : tie.decreases_loop
+abbrev decreases_loop : tie.decreases-loop-j
 decreases_loop n times i j₀ j = n - j
 
-returns_2 : tie.Need-returns-2 invariant_loop decreases_loop
+returns_2 : tie.Need-returns invariant_loop decreases_loop
 returns_2 c =
-    let l = c.before.loop in
+    let l = c.before.loop-j in
     let e : l.j ≡ c.before.before.before.args.n = omega arith in
     rw e at l.invariant.1
 
@@ -28,9 +28,9 @@ row_outside_spec =
     invariant_loop
     decreases_loop
     (λ c. (omega arith, any_none _))
-    (λ c κs. let a = c.before.before.before in (a.requires.0, c.loop-test.true, a.requires.1))
-    (λ c. let l = c.before.before.before in sym (any_hit _ l.loop.j _ c.before.before.loop-test.true (sym c.before.outside.ensures ∙ c.if1.true)))
+    (λ c κs. let a = c.before.before.before in (a.requires.0, c.loop-j-test.true, a.requires.1))
+    (λ c. let l = c.before.before.before in sym (any_hit _ l.loop.j _ c.before.before.loop-j-test.true (sym c.before.outside.ensures ∙ c.if-outside.true)))
     (λ c. omega arith)
     (λ c. omega arith)
-    (λ c. let l = c.before.before.before in (omega arith, any_more _ l.loop.j l.loop.invariant.1 (sym c.before.outside.ensures ∙ c.if1.false)))
+    (λ c. let l = c.before.before.before in (omega arith, any_more _ l.loop.j l.loop-j.invariant.1 (sym c.before.outside.ensures ∙ c.if-outside.false)))
     returns_2)

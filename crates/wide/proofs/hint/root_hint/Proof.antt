@@ -4,10 +4,10 @@ use Rattle.wide.proofs.Patterns.{no_nan_bits}
 use Rattle.wide.proofs.hint.root_hint.Statement.{statement}
 use Rattle.wide.proofs.hint.root_hint.Tie as tie
 
-float-from-bits-f : tie.Need-float-from-bits-f
+float-from-bits-f : tie.Need-float_from_bits-f
 float-from-bits-f c = no_nan_bits _ (omega arith)
 
-float-from-bits-y : tie.Need-float-from-bits-y
+float-from-bits-y : tie.Need-float_from_bits-y
 float-from-bits-y c = no_nan_bits _ (omega arith)
 
 pub root_hint_spec : {M : Type 1} → statement M
