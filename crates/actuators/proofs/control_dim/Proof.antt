@@ -10,15 +10,15 @@ use Rattle.actuators.proofs.control_dim.Tie as tie
 
 returns : tie.Need-returns-then-not-is_sized
 unfolding control_dim
-returns c = rw (← c.before.is_sized.ensures, not-true c.before.is_sized.result c.if-not-is_sized.true)
+returns c = rw (← c.is_sized.ensures, not-true c.is_sized.result c.if-not-is_sized.true)
 
 returns_2 : tie.Need-returns-then-is_empty
 unfolding control_dim
 returns_2 c =
     rw (
-      ← c.before.before.before.is_sized.ensures,
-      not-false c.before.before.before.is_sized.result c.before.before.if-not-is_sized.false,
-      ← c.before.is_empty.ensures,
+      ← c.is_sized.ensures,
+      not-false c.is_sized.result c.if-not-is_sized.false,
+      ← c.is_empty.ensures,
       c.if-is_empty.true,
     )
 
@@ -47,7 +47,7 @@ returns_3 c =
       ← after-is-sized.is_sized.ensures,
       not-false after-is-sized.is_sized.result branch1.if-not-is_sized.false,
       ← after-is-empty.is_empty.ensures,
-      c.before.before.if-is_empty.false,
+      c.if-is_empty.false,
       c.gimbals.ensures,
     )
 

@@ -7,7 +7,7 @@ use Rattle.actuators.proofs.no_actuators.Tie as tie
 
 returns : tie.Need-returns
 unfolding Maps.no_actuators Ieee.of_bits
-returns c = rw (c.blank_thruster-thruster.ensures, c.before.blank_wheel-wheel.ensures)
+returns c = rw (c.blank_thruster-thruster.ensures, c.blank_wheel-wheel.ensures)
 
 pub no_actuators_spec : {M : Type 1} → statement M
 no_actuators_spec = tie.close (tie.spec (λ c κs. search rules) (λ c κs. search rules) returns)

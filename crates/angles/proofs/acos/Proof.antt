@@ -15,17 +15,17 @@ by w b e = ap (λ (b : Bool). cond b (Angle.Is (arc_of w)) Angle.Outside) (sym e
 
 arc-cosine-requires : tie.Need-arc_cosine-requires
 unfolding in_unit
-arc-cosine-requires c κs = sym (and_yes _ _ c.before.if-w.true) ∙ c.if-w-2.true
+arc-cosine-requires c κs = sym (and_yes _ _ c.if-w.true) ∙ c.if-w-2.true
 
 returns : tie.Need-returns-then-w-2
 unfolding in_unit
 returns c =
     let t = c.before in
-    ap Angle.Is c.arc_cosine.ensures ∙ by _ true (sym (and_yes _ _ t.before.if-w.true) ∙ t.if-w-2.true)
+    ap Angle.Is c.arc_cosine.ensures ∙ by _ true (sym (and_yes _ _ t.if-w.true) ∙ t.if-w-2.true)
 
 returns_2 : tie.Need-returns-else-w-2
 unfolding in_unit
-returns_2 c = by _ false (sym (and_yes _ _ c.before.if-w.true) ∙ c.if-w-2.false)
+returns_2 c = by _ false (sym (and_yes _ _ c.if-w.true) ∙ c.if-w-2.false)
 
 returns_3 : tie.Need-returns-else-w
 unfolding in_unit

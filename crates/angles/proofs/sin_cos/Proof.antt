@@ -10,13 +10,13 @@ returns : tie.Need-returns-then-is_tiny
 returns c =
     let t = c.before in
     let r = t.before.before in
-    both_by _ (is_tiny _ _ _ r.in_range_law.ensures t.is_tiny.ensures t.before.if-in_range.true c.if-is_tiny.true) refl
+    both_by _ (is_tiny _ _ _ r.in_range.ensures t.is_tiny.ensures t.if-in_range.true c.if-is_tiny.true) refl
 
 reduced-requires : tie.Need-reduced-t-requires
 reduced-requires c κs =
     let t = c.before in
     let r = t.before.before in
-    sym (is_inside _ _ _ r.in_range_law.ensures t.is_tiny.ensures t.before.if-in_range.true c.if-is_tiny.false)
+    sym (is_inside _ _ _ r.in_range.ensures t.is_tiny.ensures t.if-in_range.true c.if-is_tiny.false)
 
 returns_2 : tie.Need-returns-else-is_tiny
 returns_2 c =
@@ -24,10 +24,10 @@ returns_2 c =
     let m = d.before in
     let t = m.before in
     let r = t.before.before in
-    ap₂ Both.Are (sine_at_law d.reduced-t.ensures c.both_at-b.ensures.0) (cosine_at_law d.reduced-t.ensures c.both_at-b.ensures.1) ∙ both_by _ (is_inside _ _ _ r.in_range_law.ensures t.is_tiny.ensures t.before.if-in_range.true m.if-is_tiny.false) refl
+    ap₂ Both.Are (sine_at_law d.reduced-t.ensures c.both_at-b.ensures.0) (cosine_at_law d.reduced-t.ensures c.both_at-b.ensures.1) ∙ both_by _ (is_inside _ _ _ r.in_range.ensures t.is_tiny.ensures t.if-in_range.true m.if-is_tiny.false) refl
 
 returns_3 : tie.Need-returns-else-in_range
-returns_3 c = both_by _ (is_outside _ _ true c.before.in_range_law.ensures c.if-in_range.false) refl
+returns_3 c = both_by _ (is_outside _ _ true c.in_range.ensures c.if-in_range.false) refl
 
 pub sin_cos_spec : {M : Type 1} → statement M
 sin_cos_spec =

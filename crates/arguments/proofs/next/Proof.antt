@@ -6,11 +6,11 @@ use Rattle.arguments.proofs.next.Tie as tie
 
 returns : tie.Need-returns-in-Not
 unfolding next
-returns c = rw c.enum_told-1.given.1
+returns c = rw c.in-Not.is
 
 returns_2 : tie.Need-returns-in-Of
 unfolding next
-returns_2 c = rw (c.with_digit.ensures, c.before.before.r-1.given.1)
+returns_2 c = rw (c.with_digit.ensures, c.in-Of.is)
 
 pub next_spec : {M : Type 1} → statement M
 next_spec = tie.close (tie.spec (search rules) (search rules) (search rules) returns returns_2)

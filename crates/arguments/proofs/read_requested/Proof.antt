@@ -23,21 +23,21 @@ unfolding requested
 returns c = rw (eq-eqb _ _ c.if-word-eq0.true)
 
 loop-holds : tie.Need-loop-k-init invariant_loop decreases_loop
-loop-holds c = (omega arith, iter_none (turn c.before.before.args.word.now) (Of 0))
+loop-holds c = (omega arith, iter_none (turn c.args.word.now) (Of 0))
 
 loop-again : tie.Need-loop-k-preserved invariant_loop decreases_loop
 loop-again c =
     let entry = c.before.before.before.before.before.before in
-    let l = c.before.before.before.loop-k in
+    let l = c.loop-k in
     (omega arith, iter_next (turn entry.args.word.now) (Of 0) l.k l.invariant.1 c.next-r.ensures)
 
 returns_2 : tie.Need-returns invariant_loop decreases_loop
 unfolding requested
 returns_2 c =
     let entry = c.before.before.before.before in
-    let l = c.before.loop-k in
+    let l = c.loop-k in
     let e : l.k ≡ length entry.args.word.now = omega arith in
-    rw (ne_eqb _ _ c.before.before.if-word-eq0.false, ← e) l.invariant.1
+    rw (ne_eqb _ _ c.if-word-eq0.false, ← e) l.invariant.1
 
 pub read_requested_spec : {M : Type 1} → statement M
 read_requested_spec = tie.close (tie.spec invariant_loop decreases_loop returns loop-holds (search rules) (search rules) (search rules) (search rules) loop-again returns_2)

@@ -11,15 +11,15 @@ returns c = rw (lt-ltb _ _ c.if-b-lt48.true)
 
 returns_2 : tie.Need-returns-then-b-gt57
 unfolding with_digit
-returns_2 c = rw (le-ltb _ _ c.before.if-b-lt48.false, lt-ltb _ _ c.if-b-gt57.true)
+returns_2 c = rw (le-ltb _ _ c.if-b-lt48.false, lt-ltb _ _ c.if-b-gt57.true)
 
 returns_3 : tie.Need-returns-then-n-gt10000
 unfolding with_digit
-returns_3 c = rw (le-ltb _ _ c.before.before.if-b-lt48.false, le-ltb _ _ c.before.if-b-gt57.false, lt-ltb _ _ c.if-n-gt10000.true)
+returns_3 c = rw (le-ltb _ _ c.if-b-lt48.false, le-ltb _ _ c.if-b-gt57.false, lt-ltb _ _ c.if-n-gt10000.true)
 
 returns-4 : tie.Need-returns
 unfolding with_digit
-returns-4 c = rw (le-ltb _ _ c.before.before.if-b-lt48.false, le-ltb _ _ c.before.if-b-gt57.false, le-ltb _ _ c.if-n-gt10000.false)
+returns-4 c = rw (le-ltb _ _ c.if-b-lt48.false, le-ltb _ _ c.if-b-gt57.false, le-ltb _ _ c.if-n-gt10000.false)
 
 pub with_digit_spec : {M : Type 1} → statement M
 with_digit_spec = tie.close (tie.spec returns returns_2 returns_3 (search rules) (search rules) (search rules) returns-4)

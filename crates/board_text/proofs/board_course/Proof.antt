@@ -6,7 +6,7 @@ use Rattle.board_text.proofs.board_course.Tie as tie
 
 returns : tie.Need-returns
 unfolding board_course
-returns c = rw (c.drive-driven.ensures, c.before.before.sample_course-d.ensures)
+returns c = rw (c.drive-driven.ensures, c.sample_course-d.ensures)
 
 pub board_course_spec : {M : Type 1} → statement M
 board_course_spec = tie.close (tie.spec (search rules) (search rules) returns)

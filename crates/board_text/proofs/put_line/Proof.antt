@@ -11,7 +11,7 @@ unfolding opening closing board_line
 returns c =
     let last = c.before.before in
     let row = last.before.before.before.before.before.before in
-    puts_join (puts_join row.before.before.before.before.before.put_either-i.ensures row.put_row_law.ensures) last.put_either.ensures
+    puts_join (puts_join row.put_either-i.ensures row.put_row-j.ensures) last.put_either.ensures
 
 pub put_line_spec : {M : Type 1} → statement M
 put_line_spec =

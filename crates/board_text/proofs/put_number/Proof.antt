@@ -30,7 +30,7 @@ returns c =
     let n = (start less.before).args.n in
     let h = (start less.before).ranges.n in
     let e = rw (to_z-of_z h, to_z-of_z (widened n h), to_z-of_z (sum_fits n h), ← sum_back n h) at less.put_less.ensures in
-    puts_join less.before.before.before.before.put_byte-i.ensures e
+    puts_join less.put_byte-i.ensures e
 
 pub put_number_spec : {M : Type 1} → statement M
 put_number_spec = tie.close (tie.spec (search rules) cast-put-less add-put-less cast-put-less-2 (search rules) (search rules) returns)

@@ -21,16 +21,16 @@ decreases_loop b₀ at v i₀ k₀ b i k = 13 - k
 loop-again : tie.Need-loop-k-preserved invariant_loop decreases_loop
 loop-again c =
     let put = c.before.before in
-    let l = put.before.before.before.before.loop-k in
-    let a = put.before.before.before.before.before.before.args in
+    let l = put.loop-k in
+    let a = put.args in
     let e : to_z w32 (of_z w32 (get_or a.v.now l.k (pos 0))) ≡ get_or a.v.now l.k (pos 0) = search rules in
     first_next l.invariant (omega arith) (rw e at put.put_number-i.ensures) put.put-number.auto.0
 
 returns : tie.Need-returns invariant_loop decreases_loop
 unfolding row
-returns c = first_all c.before.loop-k.invariant (omega arith)
+returns c = first_all c.loop-k.invariant (omega arith)
 
 pub put_row_spec : {M : Type 1} → statement M
 put_row_spec =
     tie.close
-    (tie.spec invariant_loop decreases_loop (λ c. first_none) (search rules) (search rules) (search rules) (search rules) (search rules) loop-again (λ c. c.before.loop-k.invariant.same) returns)
+    (tie.spec invariant_loop decreases_loop (λ c. first_none) (search rules) (search rules) (search rules) (search rules) (search rules) loop-again (λ c. c.loop-k.invariant.same) returns)

@@ -20,41 +20,41 @@ decreases_loop column out₀ n count j₀ out j = 8 - j
 
 returns : tie.Need-returns-then-column-gt4096 invariant_loop decreases_loop
 returns c =
-    let a = c.before.before.before.args in
+    let a = c.args in
     let e = encode_none a.column.now a.out-1.now (long a.column.now a.out-1.now (omega arith)) in
     (sym e.0, sym e.1)
 
 returns_2 : tie.Need-returns-then-out-count invariant_loop decreases_loop
 returns_2 c =
-    let a = c.before.before.before.before.args in
+    let a = c.args in
     let e = encode_none a.column.now a.out-1.now (short a.column.now a.out-1.now (omega arith)) in
     (sym e.0, sym e.1)
 
 loop-holds : tie.Need-loop-j-init invariant_loop decreases_loop
 unfolding first_planes
 loop-holds c =
-    let a = c.before.before.before.before.args in
+    let a = c.args in
     (omega arith, rw (zero-mul (length a.column.now)), refl)
 
 mul-put-plane : tie.Need-overflow_mul-j invariant_loop decreases_loop
 mul-put-plane c =
-    let a = c.before.before.before.before.before.before.args in
-    omega (arith, row_end c.before.loop-j.j 8 (length a.column.now) c.loop-j-test.true)
+    let a = c.args in
+    omega (arith, row_end c.loop-j.j 8 (length a.column.now) c.loop-j-test.true)
 
 put-plane-requires : tie.Need-put_plane-requires invariant_loop decreases_loop
 put-plane-requires c κs =
-    let a = c.before.before.before.before.before.before.before.args in
-    let e = row_end c.before.before.loop-j.j 8 (length a.column.now) c.before.loop-j-test.true in
+    let a = c.args in
+    let e = row_end c.loop-j.j 8 (length a.column.now) c.loop-j-test.true in
     (omega arith, omega arith)
 
 loop-again : tie.Need-loop-j-preserved invariant_loop decreases_loop
 loop-again c =
-    let loop-test = c.before.before.before.before.loop-j-test in
-    let l = c.before.before.before.before.before.loop-j in
-    let a = c.before.before.before.before.before.before.before.before.before.before.args in
+    let loop-test = c.loop-j-test in
+    let l = c.loop-j in
+    let a = c.args in
     let w = a.column.now in
     let h = row_end l.j 8 (length w) loop-test.true in
-    let e = c.before.before.put_plane.ensures in (
+    let e = c.put_plane.ensures in (
       omega arith,
       plane_next w a.out-1.now l.out-1 _ l.j l.invariant.1 e,
       plane_length w l.out-1 l.j (omega arith) e ∙ l.invariant.2,
@@ -63,8 +63,8 @@ loop-again c =
 returns_3 : tie.Need-returns invariant_loop decreases_loop
 unfolding planes
 returns_3 c =
-    let l = c.before.loop-j in
-    let a = c.before.before.before.before.before.before.args in
+    let l = c.loop-j in
+    let a = c.args in
     let k : l.j ≡ 8 = omega arith in
     let e = encode_all a.column.now a.out-1.now (fits a.column.now a.out-1.now (omega arith) (omega arith)) in
     (sym e.0, (rw k at l.invariant.1) ∙ sym e.1)

@@ -33,8 +33,8 @@ mul-out c =
 
 loop-again : tie.Need-loop-i-preserved invariant_loop decreases_loop
 loop-again c =
-    let l = c.before.before.loop-i in
-    let a = c.before.before.before.before.before.args in
+    let l = c.loop-i in
+    let a = c.args in
     let s = restored a.bytes.now a.n in
     let e : bit_xor c.read_word-previous.result l.previous ≡ get_or s l.i 0 =
     ap (λ x. bit_xor x l.previous) c.read_word-previous.ensures ∙ ap (bit_xor (word_at a.bytes.now a.n l.i 8)) l.invariant.1 ∙ column_at a.bytes.now a.n l.i (omega arith) in (
@@ -46,8 +46,8 @@ loop-again c =
 
 returns : tie.Need-returns invariant_loop decreases_loop
 returns c =
-    let l = c.before.loop-i in
-    let a = c.before.before.before.before.args in
+    let l = c.loop-i in
+    let a = c.args in
     let s = restored a.bytes.now a.n in
     let e : l.i ≡ a.n = omega arith in
     (rw e at l.invariant.2) ∙ ap (λ x. x ++ drop a.n a.out.now) (take_all a.n s (omega (arith, length_restored a.bytes.now a.n)))

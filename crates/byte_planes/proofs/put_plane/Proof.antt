@@ -25,8 +25,8 @@ loop-holds c = (omega arith, refl, paste-zero c.args.out.now c.args.at (plane c.
 
 loop-again : tie.Need-loop-i-preserved invariant_loop decreases_loop
 loop-again c =
-    let l = c.before.before.loop-i in
-    let a = c.before.before.before.args in
+    let l = c.loop-i in
+    let a = c.args in
     let w = a.column.now in (
       omega arith,
       rw (add-one l.i),
@@ -37,8 +37,8 @@ loop-again c =
 
 returns : tie.Need-returns invariant_loop decreases_loop
 returns c =
-    let l = c.before.loop-i in
-    let a = c.before.before.args in
+    let l = c.loop-i in
+    let a = c.args in
     let e : l.i ≡ length a.column.now = omega arith in
     rw e at l.invariant.2
 

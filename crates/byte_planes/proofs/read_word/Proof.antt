@@ -21,29 +21,29 @@ unfolding word_at
 loop-holds c = (omega arith, refl, omega arith)
 
 mul-w : tie.Need-overflow_mul-w invariant_loop decreases_loop
-mul-w c = omega (arith, room c.before.loop-j.w c.before.loop-j.j c.loop-j-test.true c.before.loop-j.invariant.2)
+mul-w c = omega (arith, room c.loop-j.w c.loop-j.j c.loop-j-test.true c.loop-j.invariant.2)
 
 mul-w-2 : tie.Need-overflow_mul-w-in-loop-j invariant_loop decreases_loop
-mul-w-2 c = omega (arith, row_end c.before.loop-j.j 8 c.before.before.args.n c.loop-j-test.true)
+mul-w-2 c = omega (arith, row_end c.loop-j.j 8 c.args.n c.loop-j-test.true)
 
 add-w : tie.Need-overflow_add-w invariant_loop decreases_loop
-add-w c = omega (arith, row_end c.before.loop-j.j 8 c.before.before.args.n c.loop-j-test.true)
+add-w c = omega (arith, row_end c.loop-j.j 8 c.args.n c.loop-j-test.true)
 
 shared-slice-read-w : tie.Need-bounds-bytes-j invariant_loop decreases_loop
-shared-slice-read-w c = omega (arith, row_end c.before.before.loop-j.j 8 c.before.before.before.args.n c.before.loop-j-test.true)
+shared-slice-read-w c = omega (arith, row_end c.loop-j.j 8 c.args.n c.loop-j-test.true)
 
 cast-w : tie.Need-overflow_cast-w invariant_loop decreases_loop
-cast-w c = omega (arith, c.shared_slice_known-1.given (c.before.before.loop-j.j * c.before.before.before.args.n + c.before.before.before.args.i))
+cast-w c = omega (arith, c.shared_slice_known-1.given (c.loop-j.j * c.args.n + c.args.i))
 
 add-w-2 : tie.Need-overflow_add-w-in-loop-j invariant_loop decreases_loop
 add-w-2 c =
-    let l = c.before.before.loop-j in
-    omega (arith, room l.w l.j c.before.loop-j-test.true l.invariant.2, c.shared_slice_known-1.given (c.before.before.loop-j.j * c.before.before.before.args.n + c.before.before.before.args.i))
+    let l = c.loop-j in
+    omega (arith, room l.w l.j c.loop-j-test.true l.invariant.2, c.shared_slice_known-1.given (c.loop-j.j * c.args.n + c.args.i))
 
 loop-again : tie.Need-loop-j-preserved invariant_loop decreases_loop
 loop-again c =
-    let l = c.before.before.loop-j in
-    let a = c.before.before.before.args in
+    let l = c.loop-j in
+    let a = c.args in
     let k = l.j * a.n + a.i in
     let b = get_or a.bytes.now k 0 in (
       omega arith,
@@ -53,7 +53,7 @@ loop-again c =
 
 returns : tie.Need-returns invariant_loop decreases_loop
 returns c =
-    let l = c.before.loop-j in
+    let l = c.loop-j in
     let e : l.j ≡ 8 = omega arith in
     rw e at l.invariant.1
 

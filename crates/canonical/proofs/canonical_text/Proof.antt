@@ -11,7 +11,7 @@ returns_2 : tie.Need-returns
 returns_2 c =
     let written = c.before.before in
     let read = written.before.before.before in
-    tells _ read.read-read.ensures read.before.if-out-lt4096.false written.rewrite.ensures
+    tells _ read.read-read.ensures read.if-out-lt4096.false written.rewrite.ensures
 
 pub canonical_text_spec : {M : Type 1} → statement M
 canonical_text_spec = tie.close (tie.spec returns (search rules) (search rules) (search rules) returns_2)

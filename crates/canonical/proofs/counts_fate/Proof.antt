@@ -10,11 +10,11 @@ returns c = simp (lt-ltb _ _ c.if-a-gt8.true)
 
 returns_2 : tie.Need-returns-then-a-gt12
 unfolding counts_fate
-returns_2 c = simp (le-ltb _ _ c.before.before.if-a-gt8.false, lt-ltb _ _ c.if-a-gt12.true)
+returns_2 c = simp (le-ltb _ _ c.if-a-gt8.false, lt-ltb _ _ c.if-a-gt12.true)
 
 returns_3 : tie.Need-returns
 unfolding counts_fate
-returns_3 c = simp (le-ltb _ _ c.before.before.if-a-gt8.false, le-ltb _ _ c.if-a-gt12.false)
+returns_3 c = simp (le-ltb _ _ c.if-a-gt8.false, le-ltb _ _ c.if-a-gt12.false)
 
 pub counts_fate_spec : {M : Type 1} → statement M
 counts_fate_spec = tie.close (tie.spec returns returns_2 returns_3)

@@ -6,7 +6,7 @@ use Rattle.control_limits.proofs.hold.Tie as tie
 
 returns : tie.Need-returns
 unfolding Limits.hold
-returns c = rw (c.before.clamp.ensures, c.abs.ensures)
+returns c = rw (c.clamp.ensures, c.abs.ensures)
 
 pub hold_spec : {M : Type 1} → statement M
 hold_spec = tie.close (tie.spec (λ c κs. search rules) (λ c κs. search rules) returns)

@@ -22,14 +22,14 @@ loop-holds c = (search rules, (search rules, iter_none _ _))
 
 loop-again : tie.Need-loop-i-preserved invariant_loop decreases_loop
 loop-again c =
-    let loop = c.before.before.before.before.loop-i in
+    let loop = c.loop-i in
     (search rules, (simp length-set (search rules), iter_next _ _ _ loop.invariant.1.1 (rw c.hold-h.ensures)))
 
 returns : tie.Need-returns invariant_loop decreases_loop
 returns c =
     let entry = c.before.before.before.before in
-    let e : c.before.loop-i.i ≡ entry.args.n = omega arith in
-    rw (← e) c.before.loop-i.invariant.1.1
+    let e : c.loop-i.i ≡ entry.args.n = omega arith in
+    rw (← e) c.loop-i.invariant.1.1
 
 pub hold_part_spec : {M : Type 1} → statement M
 hold_part_spec =

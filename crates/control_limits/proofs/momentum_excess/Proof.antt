@@ -20,14 +20,14 @@ loop-holds c = (search rules, iter_none _ _)
 
 loop-again : tie.Need-loop-i-preserved invariant_loop decreases_loop
 loop-again c =
-    let loop = c.before.before.before.before.loop-i in
+    let loop = c.loop-i in
     (search rules, iter_next _ _ _ loop.invariant.1 c.larger_excess-e.ensures)
 
 returns : tie.Need-returns invariant_loop decreases_loop
 unfolding Limits.momentum_excess
 returns c =
-    let e : c.before.loop-i.i ≡ c.before.before.before.args.n = omega arith in
-    rw (← e) c.before.loop-i.invariant.1
+    let e : c.loop-i.i ≡ c.args.n = omega arith in
+    rw (← e) c.loop-i.invariant.1
 
 pub momentum_excess_spec : {M : Type 1} → statement M
 momentum_excess_spec =

@@ -27,7 +27,7 @@ returns c =
     let after-gimbals = after_fewer.before in
     let after-gimbal-rate = after-gimbals.before in
     let start = after-gimbal-rate.before.before in
-    rw (c.before.before.hold_part-3.ensures, after-hold-part2.hold_part-2.ensures, after-hold-part.hold_part.ensures, after_fewer.fewer-n.ensures, after-gimbals.gimbals.ensures, after-gimbal-rate.gimbal_rate_law.ensures)
+    rw (c.hold_part-3.ensures, after-hold-part2.hold_part-2.ensures, after-hold-part.hold_part.ensures, after_fewer.fewer-n.ensures, after-gimbals.gimbals.ensures, after-gimbal-rate.gimbal_rate-rates.ensures)
     (parts_held start.args.r start.args.wheels.now start.args.thrusters.now start.args.u-1.now (omega arith))
 
 pub project_parts_spec : {M : Type 1} → statement M

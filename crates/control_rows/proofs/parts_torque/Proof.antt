@@ -7,8 +7,8 @@ use Rattle.control_rows.proofs.parts_torque.Tie as tie
 returns : tie.Need-returns
 unfolding Parts.parts_torque lib.Ieee.of_bits
 returns c =
-    let wheel-part = c.before.before.before.before.before.wheel_part-wheel in
-    rw (c.gimbal_part.ensures, c.before.before.axis_sum-thrust.ensures, wheel-part.ensures)
+    let wheel-part = c.wheel_part-wheel in
+    rw (c.gimbal_part.ensures, c.axis_sum-thrust.ensures, wheel-part.ensures)
 
 pub parts_torque_spec : {M : Type 1} → statement M
 parts_torque_spec =

@@ -4,7 +4,7 @@ use Rattle.control_rows.proofs.pyramid_part.Statement.{statement}
 use Rattle.control_rows.proofs.pyramid_part.Tie as tie
 
 returns : tie.Need-returns
-returns c = rw (c.add3.ensures, c.before.scale3.ensures)
+returns c = rw (c.add3.ensures, c.scale3.ensures)
 
 pub pyramid_part_spec : {M : Type 1} → statement M
 pyramid_part_spec =

@@ -10,13 +10,13 @@ use Rattle.control_rows.proofs.row_torque.Tie as tie
 shared-slice-read-t10 : tie.Need-bounds-u-0
 shared-slice-read-t10 c =
     let entry = c.before.before.before.before in
-    omega (arith, bare_room entry.requires (sym c.before.before.is_bare.ensures ∙ c.before.if-is_bare.true))
+    omega (arith, bare_room entry.requires (sym c.is_bare.ensures ∙ c.if-is_bare.true))
 
 shared-slice-read-t12 : tie.Need-bounds-u-1
 shared-slice-read-t12 c =
     let after-is-bare = c.before.before.before in
     let start = after-is-bare.before.before in
-    omega (arith, bare_room start.requires (sym after-is-bare.is_bare.ensures ∙ c.before.before.if-is_bare.true))
+    omega (arith, bare_room start.requires (sym after-is-bare.is_bare.ensures ∙ c.if-is_bare.true))
 
 shared-slice-read-t14 : tie.Need-bounds-u-2
 shared-slice-read-t14 c =
@@ -28,15 +28,15 @@ shared-slice-read-t14 c =
 returns : tie.Need-returns-then-is_bare
 unfolding Parts.row_torque
 returns c =
-    let is-bare = c.before.before.before.before.is_bare in
-    rw (sym is-bare.ensures ∙ c.before.before.before.if-is_bare.true)
+    let is-bare = c.is_bare in
+    rw (sym is-bare.ensures ∙ c.if-is_bare.true)
 
 parts-torque-requires : tie.Need-parts_torque-requires
-parts-torque-requires c κs = parts_room c.before.before.before.requires (sym c.before.is_bare.ensures ∙ c.if-is_bare.false)
+parts-torque-requires c κs = parts_room c.requires (sym c.is_bare.ensures ∙ c.if-is_bare.false)
 
 returns_2 : tie.Need-returns
 unfolding Parts.row_torque
-returns_2 c = rw (c.parts_torque.ensures, sym c.before.before.is_bare.ensures ∙ c.before.if-is_bare.false)
+returns_2 c = rw (c.parts_torque.ensures, sym c.is_bare.ensures ∙ c.if-is_bare.false)
 
 pub row_torque_spec : {M : Type 1} → statement M
 row_torque_spec =

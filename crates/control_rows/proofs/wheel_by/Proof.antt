@@ -4,11 +4,11 @@ use Rattle.control_rows.proofs.wheel_by.Statement.{statement}
 use Rattle.control_rows.proofs.wheel_by.Tie as tie
 
 returns : tie.Need-returns-in-Once
-returns c = rw c.enum_told-1.given.1
+returns c = rw c.in-Once.is
 
 returns_2 : tie.Need-returns-in-Published
 unfolding lib.Ieee.of_bits lib.Ieee.neg
-returns_2 c = rw (c.add3.ensures, c.before.scale3.ensures, c.before.before.cross.ensures, c.before.before.before.enum_told-in-Published-1.given.1)
+returns_2 c = rw (c.add3.ensures, c.scale3.ensures, c.cross.ensures, c.in-Published.is)
 
 pub wheel_by_spec : {M : Type 1} → statement M
 wheel_by_spec =

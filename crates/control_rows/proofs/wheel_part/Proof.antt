@@ -14,7 +14,7 @@ unfolding Parts.wheel_part lib.Ieee.of_bits lib.Ieee.neg
 returns_2 c =
     let after-axis-sum = c.before.before.before in
     let branch1 = after-axis-sum.before.before in
-    rw (c.wheel_by.ensures, c.before.add3.ensures, c.before.before.scale3.ensures, after-axis-sum.axis_sum-eta.ensures, ne_eqb _ _ branch1.if-n-eq0.false)
+    rw (c.wheel_by.ensures, c.add3.ensures, c.scale3.ensures, after-axis-sum.axis_sum-eta.ensures, ne_eqb _ _ branch1.if-n-eq0.false)
 
 pub wheel_part_spec : {M : Type 1} → statement M
 wheel_part_spec = tie.close (tie.spec returns (λ c κs. search rules) (λ c κs. search rules) (λ c κs. search rules) (λ c κs. search rules) returns_2)

@@ -6,7 +6,7 @@ use Rattle.controls.proofs.body_momentum.Tie as tie
 
 returns : tie.Need-returns
 unfolding Controls.body_momentum
-returns c = rw (c.body_momentum.ensures, c.before.before.before.paired-n.ensures.0)
+returns c = rw (c.body_momentum.ensures, c.paired-n.ensures.0)
 
 pub body_momentum_spec : {M : Type 1} → statement M
 body_momentum_spec = tie.close (tie.spec (λ c κs. search rules) (λ c κs. search rules) returns)

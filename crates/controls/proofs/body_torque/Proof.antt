@@ -9,7 +9,7 @@ use Rattle.controls.proofs.body_torque.Statement.{statement}
 use Rattle.controls.proofs.body_torque.Tie as tie
 
 row-fits-requires : tie.Need-row_fits-requires
-row-fits-requires c κs = rw c.gimbals.ensures (gimbals_most c.before.before.before.args.map.cmgs)
+row-fits-requires c κs = rw c.gimbals.ensures (gimbals_most c.args.map.cmgs)
 
 returns : tie.Need-returns-then-not-row_fits
 unfolding Controls.body_torque lib.Ieee.of_bits
@@ -18,8 +18,8 @@ returns c =
     let after-gimbals = after-row-fits.before in
     let after-rig-of = after-gimbals.before in
     let rig = after-rig-of.rig_of-rig.ensures in
-    let e = rw (rig, after-gimbals.gimbals.ensures) at (sym after-row-fits.row_fits.ensures ∙ not-true _ c.before.before.if-not-row_fits.true) in
-    rw (c.torque_by.ensures, c.before.short_row.ensures, rig, e)
+    let e = rw (rig, after-gimbals.gimbals.ensures) at (sym after-row-fits.row_fits.ensures ∙ not-true _ c.if-not-row_fits.true) in
+    rw (c.torque_by.ensures, c.short_row.ensures, rig, e)
 
 row-torque-requires : tie.Need-row_torque-tau-requires
 row-torque-requires c κs =
@@ -38,7 +38,7 @@ returns_2 c =
     let after-gimbals = after-row-fits.before in
     let after-rig-of = after-gimbals.before in
     let e = rw (after-rig-of.rig_of-rig.ensures, after-gimbals.gimbals.ensures) at (sym after-row-fits.row_fits.ensures ∙ not-false _ branch1.if-not-row_fits.false) in
-    rw (c.torque_by-2.ensures, c.before.row_torque-tau.ensures, after-matrix.matrix-made.ensures, after-rig-of.rig_of-rig.ensures, e)
+    rw (c.torque_by-2.ensures, c.row_torque-tau.ensures, after-matrix.matrix-made.ensures, after-rig-of.rig_of-rig.ensures, e)
 
 pub body_torque_spec : {M : Type 1} → statement M
 body_torque_spec =

@@ -5,10 +5,10 @@ use Rattle.controls.proofs.matrix.Tie as tie
 
 returns : tie.Need-returns-in-Without
 unfolding lib.Ieee.of_bits
-returns c = rw c.enum_told-1.given.1
+returns c = rw c.in-Without.is
 
 returns_2 : tie.Need-returns-in-With
-returns_2 c = rw c.before.before.cmgs-1.given.1 c.pyramid_a.ensures
+returns_2 c = rw c.in-With.is c.pyramid_a.ensures
 
 pub matrix_spec : {M : Type 1} → statement M
 matrix_spec = tie.close (tie.spec (λ c. search rules) (λ c. search rules) (λ c κs. search rules) returns returns_2)

@@ -6,7 +6,7 @@ use Rattle.controls.proofs.momentum_excess.Tie as tie
 
 returns : tie.Need-returns
 unfolding Controls.momentum_excess
-returns c = rw (c.momentum_excess.ensures, c.before.before.before.paired-n.ensures.0)
+returns c = rw (c.momentum_excess.ensures, c.paired-n.ensures.0)
 
 pub momentum_excess_spec : {M : Type 1} → statement M
 momentum_excess_spec = tie.close (tie.spec (λ c κs. search rules) (λ c κs. search rules) returns)

@@ -7,7 +7,7 @@ use Rattle.controls.proofs.power_excess.Tie as tie
 returns : tie.Need-returns
 unfolding Controls.power_excess
 returns c =
-    let paired = c.before.before.before.before.paired-n in
+    let paired = c.paired-n in
     rw (c.power_excess.ensures, paired.ensures.0)
 
 pub power_excess_spec : {M : Type 1} → statement M

@@ -10,7 +10,7 @@ use Rattle.controls.proofs.project_controls.Tie as tie
 returns : tie.Need-returns-then-not-row_fits
 unfolding Controls.project_controls
 returns c =
-    let e = rw c.before.before.rig_of-rig.ensures at (sym c.before.row_fits.ensures ∙ not-true _ c.if-not-row_fits.true) in
+    let e = rw c.rig_of-rig.ensures at (sym c.row_fits.ensures ∙ not-true _ c.if-not-row_fits.true) in
     rw e
 
 project-row-requires : tie.Need-project_row-requires
@@ -26,7 +26,7 @@ returns_2 c =
     let after-row-fits = branch1.before in
     let after-rig-of = after-row-fits.before in
     let e = rw after-rig-of.rig_of-rig.ensures at (sym after-row-fits.row_fits.ensures ∙ not-false _ branch1.if-not-row_fits.false) in
-    rw (c.before.before.project_row.ensures, after-rig-of.rig_of-rig.ensures, e)
+    rw (c.project_row.ensures, after-rig-of.rig_of-rig.ensures, e)
 
 pub project_controls_spec : {M : Type 1} → statement M
 project_controls_spec = tie.close (tie.spec (λ c κs. search rules) (λ c κs. search rules) returns project-row-requires (λ c. search rules) returns_2)

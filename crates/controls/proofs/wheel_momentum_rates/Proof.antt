@@ -20,13 +20,13 @@ loop-holds : tie.Need-loop-i-init invariant_loop decreases_loop
 loop-holds c = (search rules, (search rules, iter_none _ _))
 
 loop-again : tie.Need-loop-i-preserved invariant_loop decreases_loop
-loop-again c = (search rules, (search rules, iter_next _ _ _ c.before.before.loop-i.invariant.1.1 refl))
+loop-again c = (search rules, (search rules, iter_next _ _ _ c.loop-i.invariant.1.1 refl))
 
 returns : tie.Need-returns invariant_loop decreases_loop
 unfolding Controls.wheel_momentum_rates lib.Ieee.of_bits
 returns c =
-    let e : c.before.loop-i.i ≡ c.before.before.paired-n.result = omega arith in
-    rw (← c.before.before.paired-n.ensures.0, ← e) c.before.loop-i.invariant.1.1
+    let e : c.loop-i.i ≡ c.paired-n.result = omega arith in
+    rw (← c.paired-n.ensures.0, ← e) c.loop-i.invariant.1.1
 
 pub wheel_momentum_rates_spec : {M : Type 1} → statement M
 wheel_momentum_rates_spec =

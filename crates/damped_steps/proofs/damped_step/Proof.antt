@@ -10,7 +10,7 @@ use Rattle.damped_steps.proofs.damped_step.Tie as tie
 solve-dense-requires : tie.Need-solve_dense-requires
 solve-dense-requires c κs =
     let entry = c.before.before.before.before.before.before.before.before.before.before.before.before in
-    let t = c.before.before.before.before.before.before.equations in
+    let t = c.equations in
     let e = t.auto.1.1.1.1.0 in
     (omega (arith, e, entry.requires.0), matrix_fits (length entry.args.g-1.now) entry.args.m _ t.new.0 e (t.auto.0 ∙ entry.requires.2))
 
@@ -18,8 +18,8 @@ returns : tie.Need-returns
 returns c =
     let entry = c.before.before.before.before.before.before.before.before.before.before.before.before.before.before.before.before.before in
     let a = entry.args in
-    let t = c.before.before.before.before.before.before.before.before.before.before.before.equations in
-    let s = c.before.before.before.before.solve_dense in
+    let t = c.equations in
+    let s = c.solve_dense in
     step_solved (length a.g-1.now) a.m _ a.v-1.now a.r.now a.lambda t.new.0 t.new.1.1.1.1.0 s.new.0 s.new.1.0 s.result
     t.auto.1.1.1.1.0 (t.auto.0 ∙ entry.requires.2) t.ensures s.auto.0 s.ensures
 

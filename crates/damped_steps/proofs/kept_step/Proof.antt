@@ -22,12 +22,12 @@ kept-equations-requires c κs =
     (entry.requires.0, entry.requires.1, entry.requires.2, length-take-le (n * n) a.gram.now h, rows_take n n a.gram.now h ∙ entry.requires.3 h)
 
 returns : tie.Need-returns-then-size-gram
-returns c = let done = c.before.before.before.before.damped_step.ensures in (done.columns, told_step done)
+returns c = let done = c.damped_step.ensures in (done.columns, told_step done)
 
 solve-dense-requires : tie.Need-solve_dense-requires
 solve-dense-requires c κs =
     let entry = c.before.before.before.before.before.before.before.before.before.before.before.before.before.before.before in
-    let t = c.before.before.before.before.before.before.kept_equations in
+    let t = c.kept_equations in
     let e = t.auto.1.1.1.1.1.0 in
     (omega (arith, e, entry.requires.0), matrix_fits (length entry.args.g-1.now) entry.args.m _ t.new.0 e (t.auto.0 ∙ entry.requires.2))
 
@@ -35,8 +35,8 @@ returns_2 : tie.Need-returns
 returns_2 c =
     let entry = c.before.before.before.before.before.before.before.before.before.before.before.before.before.before.before.before.before.before.before.before in
     let a = entry.args in
-    let t = c.before.before.before.before.before.before.before.before.before.before.before.kept_equations in
-    let s = c.before.before.before.before.solve_dense in
+    let t = c.kept_equations in
+    let s = c.solve_dense in
     let done = step_solved (length a.g-1.now) a.m _ a.v-1.now a.r.now a.lambda t.new.0 t.new.1.1.1.1.1.0 s.new.0 s.new.1.0 s.result
     t.auto.1.1.1.1.1.0 (t.auto.0 ∙ entry.requires.2) t.ensures s.auto.0 s.ensures in
     (done.columns, told_step done)

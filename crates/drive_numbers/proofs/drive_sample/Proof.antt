@@ -6,7 +6,7 @@ use Rattle.drive_numbers.proofs.drive_sample.Tie as tie
 
 returns : tie.Need-returns
 unfolding drive_sample
-returns c = rw (← c.before.sample-made.ensures) c.drive.ensures
+returns c = rw (← c.sample-made.ensures) c.drive.ensures
 
 pub drive_sample_spec : {M : Type 1} → statement M
 drive_sample_spec = tie.close (tie.spec (λ c κs. search rules) (λ c κs. search rules) returns)

@@ -9,14 +9,14 @@ use Rattle.drive_numbers.specs.declared.Unit.TheVariants as Unit
 use Rattle.drive_numbers.proofs.part.Statement.{statement}
 use Rattle.drive_numbers.proofs.part.Tie as tie
 
-in_format : (c : tie.After-size-a) → T (fits binary64 c.before.args.x)
+in_format : (c : tie.After-size-a) → T (fits binary64 c.args.x)
 in_format c = subst T (sym c.before.well_formed.0.1) tt
 
-fine : (c : tie.Then-a) → Counted c.before.before.before.before.args.x (add binary64 c.before.before.before.size-a.result (of_bits binary64 4706261610602168320)) 4706261610602168320 Unit.Fine
-fine c = is_counted _ c.before.before.before.size-a.result (in_format c.before.before.before) c.before.before.before.size-a.ensures Unit.Fine c.if-a.true
+fine : (c : tie.Then-a) → Counted c.args.x (add binary64 c.size-a.result (of_bits binary64 4706261610602168320)) 4706261610602168320 Unit.Fine
+fine c = is_counted _ c.size-a.result (in_format c.before.before.before) c.size-a.ensures Unit.Fine c.if-a.true
 
-coarse : (c : tie.Then-a-2) → Counted c.before.before.before.before.args.x (add binary64 c.before.before.before.size-a.result (of_bits binary64 4751297606875873280)) 4751297606875873280 Unit.Coarse
-coarse c = is_counted _ c.before.before.before.size-a.result (in_format c.before.before.before) c.before.before.before.size-a.ensures Unit.Coarse c.if-a-2.true
+coarse : (c : tie.Then-a-2) → Counted c.args.x (add binary64 c.size-a.result (of_bits binary64 4751297606875873280)) 4751297606875873280 Unit.Coarse
+coarse c = is_counted _ c.size-a.result (in_format c.before.before.before) c.size-a.ensures Unit.Coarse c.if-a-2.true
 
 float-to-bits-placed : tie.Need-float_to_bits-a
 float-to-bits-placed c = (fine c).number
@@ -37,22 +37,22 @@ placed-requires-2 : tie.Need-placed-requires-then-a-2
 placed-requires-2 c κs = (coarse c).small
 
 returns : tie.Need-returns-then-a
-returns c = c.placed.ensures ∙ (fine c.before).is ∙ ap (part _) (sym c.before.before.enum_told-1.given.1)
+returns c = c.placed.ensures ∙ (fine c.before).is ∙ ap (part _) (sym c.in-Fine.is)
 
 returns_2 : tie.Need-returns-else-a
 returns_2 c =
-    let entry = c.before.before.before.before in
-    is_outside entry.args.x c.before.before.before.size-a.result (in_format c.before.before.before) c.before.before.before.size-a.ensures Unit.Fine c.if-a.false
-    ∙ ap (part _) (sym c.before.enum_told-1.given.1)
+    let entry = c.before.before.before in
+    is_outside entry.args.x c.size-a.result (in_format c.before.before.before) c.size-a.ensures Unit.Fine c.if-a.false
+    ∙ ap (part _) (sym c.in-Fine.is)
 
 returns_3 : tie.Need-returns-then-a-2
-returns_3 c = c.placed-then-a-2.ensures ∙ (coarse c.before).is ∙ ap (part _) (sym c.before.before.enum_told-in-Coarse-1.given.1)
+returns_3 c = c.placed-then-a-2.ensures ∙ (coarse c.before).is ∙ ap (part _) (sym c.in-Coarse.is)
 
 returns-4 : tie.Need-returns-else-a-2
 returns-4 c =
-    let entry = c.before.before.before.before in
-    is_outside entry.args.x c.before.before.before.size-a.result (in_format c.before.before.before) c.before.before.before.size-a.ensures Unit.Coarse c.if-a-2.false
-    ∙ ap (part _) (sym c.before.enum_told-in-Coarse-1.given.1)
+    let entry = c.before.before.before in
+    is_outside entry.args.x c.size-a.result (in_format c.before.before.before) c.size-a.ensures Unit.Coarse c.if-a-2.false
+    ∙ ap (part _) (sym c.in-Coarse.is)
 
 pub part_spec : {M : Type 1} → statement M
 part_spec =

@@ -11,26 +11,26 @@ use Rattle.drive_numbers.proofs.placed.Statement.{statement}
 use Rattle.drive_numbers.proofs.placed.Tie as tie
 
 sub-t8 : tie.Need-overflow_sub-result
-sub-t8 c = off_64 c.before.before.args.n c.if-n-le2147483648.true
+sub-t8 c = off_64 c.args.n c.if-n-le2147483648.true
 
 cast-t9 : tie.Need-overflow_cast-result-then-n-le2147483648
-cast-t9 c = off_32 c.before.before.args.n c.if-n-le2147483648.true
+cast-t9 c = off_32 c.args.n c.if-n-le2147483648.true
 
 returns : tie.Need-returns-then-n-le2147483648
 returns c =
-    let n = c.before.before.args.n in
-    rw c.before.if-minus.true (ap Whole.Is (cut_is n c.if-n-le2147483648.true) ∙ inside_minus n c.if-n-le2147483648.true)
+    let n = c.args.n in
+    rw c.if-minus.true (ap Whole.Is (cut_is n c.if-n-le2147483648.true) ∙ inside_minus n c.if-n-le2147483648.true)
 
 returns_2 : tie.Need-returns-else-n-le2147483648
-returns_2 c = rw c.before.if-minus.true (outside_minus c.before.before.args.n c.if-n-le2147483648.false)
+returns_2 c = rw c.if-minus.true (outside_minus c.args.n c.if-n-le2147483648.false)
 
 returns_3 : tie.Need-returns-then-n-le2147483647
 returns_3 c =
-    let n = c.before.before.args.n in
-    rw c.before.if-minus.false (ap Whole.Is (to_z_pos w32 {n = n} (omega arith)) ∙ inside_plus n c.if-n-le2147483647.true)
+    let n = c.args.n in
+    rw c.if-minus.false (ap Whole.Is (to_z_pos w32 {n = n} (omega arith)) ∙ inside_plus n c.if-n-le2147483647.true)
 
 returns-4 : tie.Need-returns-else-n-le2147483647
-returns-4 c = rw c.before.if-minus.false (outside_plus c.before.before.args.n c.if-n-le2147483647.false)
+returns-4 c = rw c.if-minus.false (outside_plus c.args.n c.if-n-le2147483647.false)
 
 pub placed_spec : {M : Type 1} → statement M
 placed_spec =

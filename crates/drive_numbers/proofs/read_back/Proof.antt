@@ -11,14 +11,14 @@ use Rattle.drive_numbers.proofs.read_back.Tie as tie
 returns : tie.Need-returns-in-Fine
 unfolding read_back_value
 returns c =
-    ap (λ (z : ℤ). mul binary64 (of_int binary64 z) (of_bits binary64 4472074429978902528)) (to_z-of_z c.before.before.before.ranges.n)
-    ∙ ap (read_back_value c.before.before.before.args.n) (sym c.before.enum_told-1.given.1)
+    ap (λ (z : ℤ). mul binary64 (of_int binary64 z) (of_bits binary64 4472074429978902528)) (to_z-of_z c.ranges.n)
+    ∙ ap (read_back_value c.args.n) (sym c.in-Fine.is)
 
 returns_2 : tie.Need-returns-in-Coarse
 unfolding read_back_value
 returns_2 c =
-    ap (λ (z : ℤ). mul binary64 (of_int binary64 z) (of_bits binary64 4517110426252607488)) (to_z-of_z c.before.before.before.ranges.n)
-    ∙ ap (read_back_value c.before.before.before.args.n) (sym c.before.enum_told-in-Coarse-1.given.1)
+    ap (λ (z : ℤ). mul binary64 (of_int binary64 z) (of_bits binary64 4517110426252607488)) (to_z-of_z c.ranges.n)
+    ∙ ap (read_back_value c.args.n) (sym c.in-Coarse.is)
 
 pub read_back_spec : {M : Type 1} → statement M
 read_back_spec = tie.close (tie.spec (λ c. search rules) (λ c. search rules) (λ c. search rules) (λ c. search rules) returns returns_2)

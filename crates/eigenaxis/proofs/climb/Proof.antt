@@ -25,16 +25,16 @@ loop-holds c = (search rules, (search rules, (iter_none _ _, (omega arith, keeps
 
 loop-again : tie.Need-loop-k-preserved invariant_loop decreases_loop
 loop-again c =
-    let loop = c.before.before.before.before.before.loop-k in
+    let loop = c.loop-k in
     let i = loop.invariant in
-    let t = c.before.before.climb_turn-s in
+    let t = c.climb_turn-s in
     let h : t.result.runs ≤ loop.s.runs + 7802 = rw t.ensures.0 (climb_turn_most _ _ _ 0 _) in
     (omega arith, (t.auto.1.1.1.0 ∙ i.1.0, (iter_next _ _ _ i.1.1.0 ((rw i.1.0 at t.ensures.0) ∙ climb_any _ _ _ _ _), (omega (arith, h, i.1.1.1.0), keeps_then i.1.1.1.1 t.ensures.1))))
 
 returns : tie.Need-returns invariant_loop decreases_loop
 returns c =
-    let i = c.before.loop-k.invariant in
-    let e : c.before.loop-k.k ≡ 20 = omega arith in
+    let i = c.loop-k.invariant in
+    let e : c.loop-k.k ≡ 20 = omega arith in
     (rw (← e) i.1.1.0, i.1.1.1.1)
 
 pub climb_spec : {M : Type 1} → statement M

@@ -5,7 +5,7 @@ use Rattle.eigenaxis.proofs.plan_counted.Tie as tie
 
 returns : tie.Need-returns
 returns c =
-    let e = c.before.before.before.plan_eigenaxis-e.ensures in
+    let e = c.plan_eigenaxis-e.ensures in
     (rw (c.counted.ensures, e.0), (rw c.counted.ensures e.1.0, rw e.0 at e.1.1))
 
 pub plan_counted_spec : {M : Type 1} → statement M

@@ -8,15 +8,15 @@ use Rattle.eigenaxis.proofs.plan_eigenaxis.Tie as tie
 
 narrow-requires : tie.Need-narrow-narrowed-requires
 narrow-requires c κs =
-    let start = c.before.before.before.before.before.before.before.start-first in
-    climbed_room _ _ _ _ c.before.before.before.climb-climbed.ensures.0 start.ensures.1.0
+    let start = c.start-first in
+    climbed_room _ _ _ _ c.climb-climbed.ensures.0 start.ensures.1.0
 
 returns : tie.Need-returns
 returns c =
-    let unweighted = c.before.before.before.before.before.before.before.before.before.before.before.before.before.unweighted-q in
-    let n = c.before.before.before.narrow-narrowed in
-    let m = c.before.before.before.before.before.before.before.climb-climbed in
-    let f = c.before.before.before.before.before.before.before.before.before.before.before.start-first in
+    let unweighted = c.unweighted-q in
+    let n = c.narrow-narrowed in
+    let m = c.climb-climbed in
+    let f = c.start-first in
     let q = unweighted.ensures in
     let all = keeps_begin (keeps_begin f.ensures.1.1 m.ensures.1) n.ensures.1 in
     (ladder_as _ _ q f.ensures.0 f.auto.1.1.0 m.ensures.0 (m.auto.1.1.1.0 ∙ f.auto.1.1.0) n.ensures.0, (all.left, rw q at all.stands))

@@ -6,7 +6,7 @@ use Rattle.eigenaxis.proofs.seed_at.Tie as tie
 
 returns : tie.Need-returns
 unfolding Ladders.seed_at
-returns c = rw (c.seed.ensures, c.before.turn_of_law.ensures, c.before.before.before.check-checked.ensures)
+returns c = rw (c.seed.ensures, c.turn_of-phi.ensures, c.check-checked.ensures)
 
 pub seed_at_spec : {M : Type 1} → statement M
 seed_at_spec = tie.close (tie.spec (λ c κs. search rules) (λ c κs. search rules) (λ c κs. search rules) returns)

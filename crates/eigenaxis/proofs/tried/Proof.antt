@@ -5,7 +5,7 @@ use Rattle.eigenaxis.proofs.tried.Statement.{statement}
 use Rattle.eigenaxis.proofs.tried.Tie as tie
 
 returns : tie.Need-returns
-returns c = let e = c.before.before.plan_from.ensures in ((e.0, rw e.0 (plan_from_most _ _ _ _ _)), (e.1.0, e.1.1))
+returns c = let e = c.plan_from.ensures in ((e.0, rw e.0 (plan_from_most _ _ _ _ _)), (e.1.0, e.1.1))
 
 pub tried_spec : {M : Type 1} → statement M
 tried_spec =

@@ -7,9 +7,9 @@ use Rattle.eigenaxis_program.proofs.answer.Tie as tie
 
 returns : tie.Need-returns
 returns c =
-    let plan-eigenaxis-text = c.before.before.before.before.before.before.before.plan_eigenaxis_text-told in
+    let plan-eigenaxis-text = c.plan_eigenaxis_text-told in
     let told = plan-eigenaxis-text.ensures.tells in
-    record { bytes = ap (λ (t : Told). t.bytes) told.is; prints = search rules; within = search rules; says = rw told.is at c.before.before.explain_plan-sentence.ensures; promised = plan-eigenaxis-text.ensures.promised }
+    record { bytes = ap (λ (t : Told). t.bytes) told.is; prints = search rules; within = search rules; says = rw told.is at c.explain_plan-sentence.ensures; promised = plan-eigenaxis-text.ensures.promised }
 
 pub answer_spec : {M : Type 1} → statement M
 answer_spec = tie.close (tie.spec (search rules) (search rules) (search rules) (search rules) (search rules) returns)

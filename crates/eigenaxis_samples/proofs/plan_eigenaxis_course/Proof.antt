@@ -12,7 +12,7 @@ returns c =
     let at_read = at-planned.before.before.before in
     let made = at-planned.plan_eigenaxis_read-a.ensures in
     record {
-      is = course_planned _ _ _ at_read.read-read.ensures made.0 c.before.alpha_of.ensures c.course_of.ensures;
+      is = course_planned _ _ _ at_read.read-read.ensures made.0 c.alpha_of.ensures c.course_of.ensures;
       left = rw (c.course_of.ensures, runs_of) made.1;
       between = course_between _ _ _ c.course_of.ensures (λ g. promised_between (made.2.given g));
     }

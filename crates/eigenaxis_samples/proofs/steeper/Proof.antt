@@ -7,7 +7,7 @@ use Rattle.eigenaxis_samples.proofs.steeper.Tie as tie
 
 returns : tie.Need-returns
 unfolding steeper Ieee.of_bits
-returns c = rw (c.max.ensures, c.before.norm3-x.ensures, c.before.before.scale3.ensures, c.before.before.before.sub3.ensures)
+returns c = rw (c.max.ensures, c.norm3-x.ensures, c.scale3.ensures, c.sub3.ensures)
 
 pub steeper_spec : {M : Type 1} → statement M
 steeper_spec = tie.close (tie.spec (search rules) (search rules) (search rules) (search rules) returns)

@@ -21,12 +21,12 @@ loop-holds c = (search rules, iter_none _ _)
 
 loop-again : tie.Need-loop-k-preserved invariant_loop decreases_loop
 loop-again c =
-    let loop = c.before.before.before.before.before.before.loop-k in
+    let loop = c.loop-k in
     (search rules, iter_next _ _ _ loop.invariant.1 c.steeper-a.ensures)
 
 returns : tie.Need-returns invariant_loop decreases_loop
 unfolding steepest
-returns c = let e : c.before.loop-k.k ≡ 16 = omega arith in rw e at c.before.loop-k.invariant.1
+returns c = let e : c.loop-k.k ≡ 16 = omega arith in rw e at c.loop-k.invariant.1
 
 pub steepest_spec : {M : Type 1} → statement M
 steepest_spec =

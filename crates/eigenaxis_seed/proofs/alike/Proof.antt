@@ -20,11 +20,11 @@ loop-holds : tie.Need-loop-i-init invariant_loop decreases_loop
 loop-holds c = (search rules, iter_none _ _)
 
 loop-again : tie.Need-loop-i-preserved invariant_loop decreases_loop
-loop-again c = (search rules, iter_next _ _ _ c.before.before.loop-i.invariant.1 c.also-same.ensures)
+loop-again c = (search rules, iter_next _ _ _ c.loop-i.invariant.1 c.also-same.ensures)
 
 returns : tie.Need-returns invariant_loop decreases_loop
 unfolding Seeds.alike
-returns c = let e : c.before.loop-i.i ≡ 20 = omega arith in rw (← e) c.before.loop-i.invariant.1
+returns c = let e : c.loop-i.i ≡ 20 = omega arith in rw (← e) c.loop-i.invariant.1
 
 pub alike_spec : {M : Type 1} → statement M
 alike_spec =

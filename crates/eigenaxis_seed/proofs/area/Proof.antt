@@ -6,13 +6,13 @@ use Rattle.eigenaxis_seed.proofs.area.Statement.{statement}
 use Rattle.eigenaxis_seed.proofs.area.Tie as tie
 
 mul-a : tie.Need-overflow_mul-a
-mul-a c = omega (arith, area_small _ c.before.before.requires)
+mul-a c = omega (arith, area_small _ c.requires)
 
 cast-result : tie.Need-overflow_cast-result
-cast-result c = omega (arith, area_small _ c.before.before.requires)
+cast-result c = omega (arith, area_small _ c.requires)
 
 returns : tie.Need-returns-in-Fastest
-returns c = rw c.enum_told-1.given.1
+returns c = rw c.in-Fastest.is
 
 pub area_spec : {M : Type 1} → statement M
 area_spec = tie.close (tie.spec (λ c. search rules) (λ c. search rules) mul-a cast-result (λ c. search rules) returns (λ c. search rules))

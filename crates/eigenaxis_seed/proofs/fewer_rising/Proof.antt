@@ -7,11 +7,11 @@ use Rattle.eigenaxis_seed.proofs.fewer_rising.Tie as tie
 
 returns : tie.Need-returns-then-limit-angle
 unfolding Shapes.fewer_rising
-returns c = (rw (← c.before.pace.ensures, c.if-limit-angle.true), (omega arith, omega arith))
+returns c = (rw (← c.pace.ensures, c.if-limit-angle.true), (omega arith, omega arith))
 
 returns_2 : tie.Need-returns-else-limit-angle
 unfolding Shapes.fewer_rising
-returns_2 c = (rw (← c.before.pace.ensures, c.if-limit-angle.false), (omega arith, omega arith))
+returns_2 c = (rw (← c.pace.ensures, c.if-limit-angle.false), (omega arith, omega arith))
 
 pub fewer_rising_spec : {M : Type 1} → statement M
 fewer_rising_spec = tie.close (tie.spec (λ c κs. search rules) (λ c. search rules) returns returns_2)

@@ -7,10 +7,10 @@ use Rattle.eigenaxis_seed.proofs.follow.Tie as tie
 returns : tie.Need-returns
 unfolding Seeds.momenta_after
 returns c =
-    let wheel-momentum-rates = c.before.before.before.before.before.before.wheel_momentum_rates-rates in
-    let charged = c.before.before.before.before.before.charged-hw2 in
-    let rate-after = c.before.before.before.before.rate_after-w2 in
-    rw (c.gimbals_next-delta2.ensures, c.before.before.body_momentum-h2.ensures, rate-after.ensures, charged.ensures, wheel-momentum-rates.ensures)
+    let wheel-momentum-rates = c.wheel_momentum_rates-rates in
+    let charged = c.charged-hw2 in
+    let rate-after = c.rate_after-w2 in
+    rw (c.gimbals_next-delta2.ensures, c.body_momentum-h2.ensures, rate-after.ensures, charged.ensures, wheel-momentum-rates.ensures)
 
 pub follow_spec : {M : Type 1} → statement M
 follow_spec =

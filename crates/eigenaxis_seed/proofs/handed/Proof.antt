@@ -4,7 +4,7 @@ use Rattle.eigenaxis_seed.proofs.handed.Statement.{statement}
 use Rattle.eigenaxis_seed.proofs.handed.Tie as tie
 
 returns_2 : tie.Need-returns-in-With
-returns_2 c = rw (c.before.before.cmgs-1.given.1, c.pyramid_torque.ensures)
+returns_2 c = rw (c.in-With.is, c.pyramid_torque.ensures)
 
 pub handed_spec : {M : Type 1} → statement M
 handed_spec =

@@ -5,10 +5,10 @@ use Rattle.eigenaxis_seed.proofs.height.Statement.{statement}
 use Rattle.eigenaxis_seed.proofs.height.Tie as tie
 
 returns : tie.Need-returns-in-Fastest
-returns c = rw (c.before.before.enum_told-1.given.1, c.least-h.ensures.0, c.before.least.ensures.0)
+returns c = rw (c.in-Fastest.is, c.least-h.ensures.0, c.least.ensures.0)
 
 returns_2 : tie.Need-returns-in-Gentle
-returns_2 c = rw c.enum_told-in-Gentle-1.given.1
+returns_2 c = rw c.in-Gentle.is
 
 pub height_spec : {M : Type 1} → statement M
 height_spec =

@@ -22,10 +22,10 @@ fewer-rising-requires : tie.Need-fewer_rising-k-requires invariant_loop decrease
 fewer-rising-requires c κs = (omega arith, omega arith)
 
 loop-again : tie.Need-loop-i-preserved invariant_loop decreases_loop
-loop-again c = ((omega arith, (omega (arith, c.fewer_rising-k.ensures.1), omega (arith, c.fewer_rising-k.ensures.1))), iter_next _ _ _ c.before.before.loop-i.invariant.1 c.fewer_rising-k.ensures.0)
+loop-again c = ((omega arith, (omega (arith, c.fewer_rising-k.ensures.1), omega (arith, c.fewer_rising-k.ensures.1))), iter_next _ _ _ c.loop-i.invariant.1 c.fewer_rising-k.ensures.0)
 
 returns : tie.Need-returns invariant_loop decreases_loop
-returns c = let e : c.before.loop-i.i ≡ 7 = omega arith in (rw (← e) c.before.loop-i.invariant.1, omega arith)
+returns c = let e : c.loop-i.i ≡ 7 = omega arith in (rw (← e) c.loop-i.invariant.1, omega arith)
 
 pub limited_rising_spec : {M : Type 1} → statement M
 limited_rising_spec =

@@ -7,8 +7,8 @@ use Rattle.eigenaxis_seed.proofs.mixed.Tie as tie
 returns : tie.Need-returns
 unfolding Seeds.mixed
 returns c =
-    let against = c.before.before.before.before.against in
-    rw (c.against-3.ensures, c.before.before.against-2.ensures, against.ensures)
+    let against = c.against in
+    rw (c.against-3.ensures, c.against-2.ensures, against.ensures)
 
 pub mixed_spec : {M : Type 1} → statement M
 mixed_spec =

@@ -7,7 +7,7 @@ use Rattle.eigenaxis_seed.proofs.net_torque.Tie as tie
 
 returns : tie.Need-returns
 unfolding Seeds.net_torque Ieee.of_bits
-returns c = rw (c.euler_lhs.ensures, c.before.tensor.ensures, c.before.before.scale3-wd.ensures, c.before.before.before.sub3.ensures)
+returns c = rw (c.euler_lhs.ensures, c.tensor.ensures, c.scale3-wd.ensures, c.sub3.ensures)
 
 pub net_torque_spec : {M : Type 1} → statement M
 net_torque_spec =

@@ -7,7 +7,7 @@ use Rattle.eigenaxis_seed.proofs.pace.Tie as tie
 
 returns : tie.Need-returns
 unfolding Shapes.pace Ieee.of_bits
-returns c = rw (c.before.before.before.height-h.ensures, c.before.before.area-a.ensures)
+returns c = rw (c.height-h.ensures, c.area-a.ensures)
 
 pub pace_spec : {M : Type 1} → statement M
 pace_spec =

@@ -8,9 +8,9 @@ use Rattle.eigenaxis_seed.proofs.pyramid_share.Tie as tie
 returns : tie.Need-returns
 unfolding Seeds.pyramid_share Ieee.of_bits Ieee.neg
 returns c =
-    let mixed = c.before.before.before.before.before.mixed in
-    let invert3 = c.before.before.before.before.invert3-inverse in
-    rw (c.apply_tensor.ensures, c.before.scale3.ensures, c.before.before.tensor.ensures, invert3.ensures, mixed.ensures)
+    let mixed = c.mixed in
+    let invert3 = c.invert3-inverse in
+    rw (c.apply_tensor.ensures, c.scale3.ensures, c.tensor.ensures, invert3.ensures, mixed.ensures)
 
 pub pyramid_share_spec : {M : Type 1} → statement M
 pyramid_share_spec = tie.close (tie.spec (λ c κs. search rules) (λ c κs. search rules) (λ c κs. search rules) (λ c κs. search rules) (λ c κs. search rules) returns)

@@ -7,9 +7,9 @@ use Rattle.eigenaxis_seed.proofs.pyramid_torque.Tie as tie
 returns : tie.Need-returns
 unfolding Ieee.of_bits
 returns c =
-    let pyramid-a = c.before.before.before.before.before.before.pyramid_a-here in
-    let pyramid-a2 = c.before.before.before.before.before.pyramid_a-first in
-    rw (c.pyramid_by_law.ensures, c.before.rows-2.ensures, c.before.before.rows.ensures, pyramid-a2.ensures, pyramid-a.ensures)
+    let pyramid-a = c.pyramid_a-here in
+    let pyramid-a2 = c.pyramid_a-first in
+    rw (c.pyramid_by.ensures, c.rows-2.ensures, c.rows.ensures, pyramid-a2.ensures, pyramid-a.ensures)
 
 pub pyramid_torque_spec : {M : Type 1} → statement M
 pyramid_torque_spec = tie.close (tie.spec (λ c κs. search rules) (λ c κs. search rules) (λ c κs. search rules) (λ c κs. search rules) (λ c κs. search rules) returns)

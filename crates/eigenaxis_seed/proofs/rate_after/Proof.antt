@@ -6,7 +6,7 @@ use Rattle.eigenaxis_seed.proofs.rate_after.Tie as tie
 
 returns : tie.Need-returns
 unfolding Seeds.rate_after
-returns c = rw (c.rate_next.ensures, c.before.rate_dot.ensures, c.before.before.before.body_torque-torque.ensures)
+returns c = rw (c.rate_next.ensures, c.rate_dot.ensures, c.body_torque-torque.ensures)
 
 pub rate_after_spec : {M : Type 1} → statement M
 rate_after_spec =

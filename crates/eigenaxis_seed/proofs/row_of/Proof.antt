@@ -4,7 +4,7 @@ use Rattle.eigenaxis_seed.proofs.row_of.Statement.{statement}
 use Rattle.eigenaxis_seed.proofs.row_of.Tie as tie
 
 returns : tie.Need-returns
-returns c = rw c.before.allocate_body_torque-row.ensures
+returns c = rw c.allocate_body_torque-row.ensures
 
 pub row_of_spec : {M : Type 1} → statement M
 row_of_spec = tie.close (tie.spec (λ c κs. search rules) returns)

@@ -16,17 +16,17 @@ abbrev decreases_loop : tie.decreases-loop-i
 decreases_loop p shape phi duration k s₀ i₀ s i = 16 - i
 
 loop-holds : tie.Need-loop-i-init invariant_loop decreases_loop
-loop-holds c = (omega arith, (c.before.rising-k.ensures.1, iter_none _ _))
+loop-holds c = (omega arith, (c.rising-k.ensures.1, iter_none _ _))
 
 loop-again : tie.Need-loop-i-preserved invariant_loop decreases_loop
-loop-again c = (omega arith, (c.before.before.loop-i.invariant.1.0, iter_next _ _ _ c.before.before.loop-i.invariant.1.1 c.turn-s.ensures))
+loop-again c = (omega arith, (c.loop-i.invariant.1.0, iter_next _ _ _ c.loop-i.invariant.1.1 c.turn-s.ensures))
 
 returns : tie.Need-returns invariant_loop decreases_loop
 unfolding Seeds.seed
 returns c =
     let l = c.before in
-    let e : l.loop.i ≡ 16 = omega arith in
-    rw (← l.before.before.before.norm3.ensures, ← l.before.before.rising-k.ensures.0, ← l.before.start-s.ensures, ← e) l.loop-i.invariant.1.1
+    let e : l.loop-i.i ≡ 16 = omega arith in
+    rw (← l.norm3.ensures, ← l.rising-k.ensures.0, ← l.start-s.ensures, ← e) l.loop-i.invariant.1.1
 
 pub seed_spec : {M : Type 1} → statement M
-seed_spec = tie.close (tie.spec invariant_loop decreases_loop (λ c κs. search rules) (λ c κs. search rules) (λ c κs. search rules) loop-holds (λ c κs. (c.before.loop-i.invariant.1.0, omega arith)) (λ c. search rules) (λ c. search rules) loop-again returns)
+seed_spec = tie.close (tie.spec invariant_loop decreases_loop (λ c κs. search rules) (λ c κs. search rules) (λ c κs. search rules) loop-holds (λ c κs. (c.loop-i.invariant.1.0, omega arith)) (λ c. search rules) (λ c. search rules) loop-again returns)

@@ -7,11 +7,11 @@ use Rattle.eigenaxis_seed.proofs.step.Tie as tie
 returns : tie.Need-returns
 unfolding Seeds.step
 returns c =
-    let seed-torque = c.before.before.before.before.before.before.before.seed_torque-torque in
-    let row_of = c.before.before.before.before.before.before.row_of-row in
-    let held-row = c.before.before.before.before.before.held_row-u in
-    let placed = c.before.before.before.before.placed-rates2 in
-    rw (c.both-fits.ensures, c.before.alike.ensures, c.before.before.follow-motion2.ensures, c.before.before.before.placed-torques2.ensures, placed.ensures, held-row.ensures, row_of.ensures, seed-torque.ensures)
+    let seed-torque = c.seed_torque-torque in
+    let row_of = c.row_of-row in
+    let held-row = c.held_row-u in
+    let placed = c.placed-rates2 in
+    rw (c.both-fits.ensures, c.alike.ensures, c.follow-motion2.ensures, c.placed-torques2.ensures, placed.ensures, held-row.ensures, row_of.ensures, seed-torque.ensures)
 
 pub step_spec : {M : Type 1} → statement M
 step_spec = tie.close (tie.spec (λ c κs. search rules) (λ c κs. search rules) (λ c κs. search rules) (λ c. search rules) (λ c κs. search rules) (λ c κs. search rules) (λ c κs. search rules) (λ c κs. search rules) (λ c κs. search rules) returns)

@@ -6,7 +6,7 @@ use Rattle.eigenaxis_seed.proofs.turn.Tie as tie
 
 returns : tie.Need-returns
 unfolding Ieee.of_bits
-returns c = rw (c.step.ensures, c.before.aim.ensures)
+returns c = rw (c.step.ensures, c.aim.ensures)
 
 pub turn_spec : {M : Type 1} → statement M
 turn_spec = tie.close (tie.spec (λ c. search rules) (λ c κs. search rules) (λ c κs. search rules) returns)

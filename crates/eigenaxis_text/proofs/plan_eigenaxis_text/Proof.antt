@@ -7,7 +7,7 @@ use Rattle.eigenaxis_text.proofs.plan_eigenaxis_text.Statement.{statement}
 use Rattle.eigenaxis_text.proofs.plan_eigenaxis_text.Tie as tie
 
 returns : tie.Need-returns-then-out-lt16384
-returns c = record { tells = tells_short _ _ c.no_room.ensures c.before.if-out-lt16384.true; promised = λ h. absurd (omega arith) }
+returns c = record { tells = tells_short _ _ c.no_room.ensures c.if-out-lt16384.true; promised = λ h. absurd (omega arith) }
 
 returns_2 : tie.Need-returns
 returns_2 c =
@@ -16,7 +16,7 @@ returns_2 c =
     let at_read = at-planned.before.before in
     let made = at-planned.plan_eigenaxis_read-a.ensures in
     let is = text_planned _ _ at_read.read.ensures made.0 in
-    record { tells = tells _ _ at_read.before.if-out-lt16384.false is made.1 at-tell.tell.ensures; promised = λ h. text_promised _ _ _ at_read.read.ensures is made.2 }
+    record { tells = tells _ _ at_read.if-out-lt16384.false is made.1 at-tell.tell.ensures; promised = λ h. text_promised _ _ _ at_read.read.ensures is made.2 }
 
 pub plan_eigenaxis_text_spec : {M : Type 1} → statement M
 plan_eigenaxis_text_spec = tie.close (tie.spec (search rules) returns (search rules) (search rules) (search rules) (search rules) (search rules) returns_2)

@@ -23,7 +23,7 @@ decreases_loop a₀ b₀ n top₀ next₀ spare₀ col₀ k₀ a b top next spar
 
 columns-requires : tie.Need-columns-requires invariant_loop decreases_loop
 columns-requires c κs = let s = c.before.before.before.before.before.before.before.before.before.before in
-    let l = c.before.before.before.before.before.before.before.loop-k in
+    let l = c.loop-k in
     let n : ℕ = length s.args.b-1.now in
     let e : n ≡ length l.b-1 = sym l.invariant.6 in (
       record { matrix = l.invariant.5 ∙ s.requires.1 ∙ ap (λ k. k * k) e; tops = length-take-le n l.top-1 (omega arith) ∙ e; spares = length-take-le n l.spare-1 (omega arith) ∙ e },
@@ -40,9 +40,9 @@ two_more n k m x y z e f g =
     rw t at (iter_next (Elimination.column n) m (k + 1) (iter_next (Elimination.column n) m k e refl) (sym (f ∙ g)))
 
 returns : tie.Need-returns-then-not-columns invariant_loop decreases_loop
-returns c = let a = c.before.before.before.before.before.before.before.before.before.before.before.before.before.before.before.before.before.before.before.before.args in
-    let l = c.before.before.before.before.before.before.before.before.before.before.before.before.before.before.before.before.before.loop-k in
-    let t = c.before.before.before.before.before.before.before.before.before.columns in
+returns c = let a = c.args in
+    let l = c.loop-k in
+    let t = c.columns in
     let n : ℕ = length a.b-1.now in
     let m : List (List Float) = rows n n t.new.0 in
     let g : t.result ≡ false = not-true _ c.if-not-columns.true in
@@ -51,9 +51,9 @@ returns c = let a = c.before.before.before.before.before.before.before.before.be
     iter_stays _ _ (l.k + 2) n (omega arith) (two_more n l.k _ _ _ _ l.invariant.7 f (ap (λ r. Elimination.after r m t.new.1.0) g)) (λ j. refl)
 
 loop-again : tie.Need-loop-k-preserved invariant_loop decreases_loop
-loop-again c = let a = c.before.before.before.before.before.before.before.before.before.before.before.before.before.before.before.before.before.before.before.before.args in
-    let l = c.before.before.before.before.before.before.before.before.before.before.before.before.before.before.before.before.before.loop-k in
-    let t = c.before.before.before.before.before.before.before.before.before.columns in
+loop-again c = let a = c.args in
+    let l = c.loop-k in
+    let t = c.columns in
     let n : ℕ = length a.b-1.now in
     let m : List (List Float) = rows n n t.new.0 in
     let g : t.result ≡ true = not-false _ c.if-not-columns.false in
@@ -72,13 +72,13 @@ loop-again c = let a = c.before.before.before.before.before.before.before.before
 returns_2 : tie.Need-returns-then-k-n invariant_loop decreases_loop
 returns_2 c =
     let entry = c.before.before.before.before.before in
-    let l = c.before.before.loop-k in
+    let l = c.loop-k in
     let e : l.k ≡ length entry.args.b-1.now = omega arith in
     rw e at l.invariant.7
 
 column-requires : tie.Need-column-requires invariant_loop decreases_loop
 column-requires c κs = let s = c.before.before.before.before.before.before.before.before.before.before in
-    let l = c.before.before.before.before.before.before.before.loop-k in
+    let l = c.loop-k in
     let n : ℕ = length s.args.b-1.now in
     let e : n ≡ length l.b-1 = sym l.invariant.6 in (
       record { matrix = l.invariant.5 ∙ s.requires.1 ∙ ap (λ k. k * k) e; tops = length-take-le n l.top-1 (omega arith) ∙ e; spares = length-take-le n l.spare-1 (omega arith) ∙ e },
@@ -91,9 +91,9 @@ last : (n k : ℕ) (m x y : Elimination.Stage) → k + 1 ≡ n → x ≡ iter (E
 last n k m x y e f g = rw e at (iter_next (Elimination.column n) m k f (sym g))
 
 returns_3 : tie.Need-returns invariant_loop decreases_loop
-returns_3 c = let a = c.before.before.before.before.before.before.before.before.before.before.before.before.before.before.before.before.before.before.args in
-    let l = c.before.before.before.before.before.before.before.before.before.before.before.before.before.before.before.loop-k in
-    let t = c.before.before.before.before.before.before.before.column in
+returns_3 c = let a = c.args in
+    let l = c.loop-k in
+    let t = c.column in
     let n : ℕ = length a.b-1.now in
     let f : Elimination.column n l.k (Elimination.going (rows n n l.a-1) l.b-1) ≡ Elimination.after t.result (rows n n t.new.0) t.new.1.0 =
     subst (λ w. Elimination.column w l.k (Elimination.going (rows w w l.a-1) l.b-1) ≡ Elimination.after t.result (rows w w t.new.0) t.new.1.0) l.invariant.6 t.ensures in

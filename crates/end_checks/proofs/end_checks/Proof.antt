@@ -9,17 +9,17 @@ returns : tie.Need-returns-then-norm3
 unfolding Ends.end_fate Ieee.of_bits
 returns c =
     let told = c.before.before.before in
-    rw (← told.before.before.rotation_between-error.ensures, told.error-1.given.1, ← c.before.norm3.ensures, c.if-norm3.true)
+    rw (← told.rotation_between-error.ensures, told.in-By.is, ← c.norm3.ensures, c.if-norm3.true)
 
 returns_2 : tie.Need-returns-in-Outside
 unfolding Ends.end_fate Ieee.of_bits
-returns_2 c = rw (← c.before.before.rotation_between-error.ensures, c.enum_told-1.given.1)
+returns_2 c = rw (← c.rotation_between-error.ensures, c.in-Outside.is)
 
 returns_3 : tie.Need-returns-else-norm3
 unfolding Ends.end_fate Ieee.of_bits
 returns_3 c =
     let told = c.before.before.before.before in
-    rw (← told.before.before.rotation_between-error.ensures, told.error-1.given.1, ← c.before.before.norm3.ensures, c.before.if-norm3.false) c.rest_fate.ensures
+    rw (← told.rotation_between-error.ensures, told.in-By.is, ← c.norm3.ensures, c.if-norm3.false) c.rest_fate.ensures
 
 pub end_checks_spec : {M : Type 1} → statement M
 end_checks_spec =

@@ -22,17 +22,17 @@ loop-holds c = (search rules, iter_none _ _)
 
 returns : tie.Need-returns-in-Refused invariant_loop decreases_loop
 returns c =
-    let loop = c.before.before.before.before.before.before.loop-k in
-    nodes_refused _ _ _ loop.invariant.1 c.before.before.before.node_fate-fate.ensures (omega arith) c.before.fate-1.given.1
+    let loop = c.loop-k in
+    nodes_refused _ _ _ loop.invariant.1 c.node_fate-fate.ensures (omega arith) c.in-Refused.is
 
 loop-again : tie.Need-loop-k-preserved invariant_loop decreases_loop
 loop-again c =
-    let loop = c.before.before.before.before.before.loop-k in
-    (omega arith, nodes_next _ _ _ loop.invariant.1 c.before.before.node_fate-fate.ensures c.enum_told-1.given.1)
+    let loop = c.loop-k in
+    (omega arith, nodes_next _ _ _ loop.invariant.1 c.node_fate-fate.ensures c.in-Going.is)
 
 returns_2 : tie.Need-returns invariant_loop decreases_loop
 unfolding Ends.nodes_fate
-returns_2 c = let e : c.before.loop-k.k ≡ 17 = omega arith in rw e at c.before.loop-k.invariant.1
+returns_2 c = let e : c.loop-k.k ≡ 17 = omega arith in rw e at c.loop-k.invariant.1
 
 pub nodes_fate_spec : {M : Type 1} → statement M
 nodes_fate_spec =

@@ -7,7 +7,7 @@ use Rattle.end_checks.proofs.over_momentum.Statement.{statement}
 use Rattle.end_checks.proofs.over_momentum.Tie as tie
 
 momentum-excess-requires : tie.Need-momentum_excess-requires
-momentum-excess-requires c κs = omega (arith, sized_counts _ c.before.before.before.requires)
+momentum-excess-requires c κs = omega (arith, sized_counts _ c.requires)
 
 returns : tie.Need-returns
 unfolding Ieee.of_bits

@@ -5,7 +5,7 @@ use Rattle.export_board.proofs.slew_board_read.Statement.{statement}
 use Rattle.export_board.proofs.slew_board_read.Tie as tie
 
 returns : tie.Need-returns
-returns c = rw (c.before.unit_of.ensures, to_z-of_z c.before.before.ranges.n) at c.read_back.ensures
+returns c = rw (c.unit_of.ensures, to_z-of_z c.ranges.n) at c.read_back.ensures
 
 pub slew_board_read_spec : {M : Type 1} → statement M
 slew_board_read_spec = tie.close (tie.spec (λ c κs. search rules) (λ c κs. search rules) returns)

@@ -4,7 +4,7 @@ use Rattle.export_counts.proofs.slew_both_series.Statement.{statement}
 use Rattle.export_counts.proofs.slew_both_series.Tie as tie
 
 returns : tie.Need-returns
-returns c = let is = c.before.before.both_series.ensures in (rw (c.put_pair.ensures.0, is), rw (c.put_pair.ensures.1, is))
+returns c = let is = c.both_series.ensures in (rw (c.put_pair.ensures.0, is), rw (c.put_pair.ensures.1, is))
 
 pub slew_both_series_spec : {M : Type 1} → statement M
 slew_both_series_spec = tie.close (tie.spec (λ c κs. search rules) (λ c κs. search rules) returns)

@@ -8,11 +8,11 @@ returns : tie.Need-returns
 returns c =
     let made = c.before.before.before.before.before.before.before.before.before in
     let problem = made.before.before in
-    let is = rw (problem.problem_of_law.ensures, problem.before.shape_of-shape.ensures) at made.plan_counted-planned.ensures.0 in
+    let is = rw (problem.problem_of-p.ensures, problem.shape_of-shape.ensures) at made.plan_counted-planned.ensures.0 in
     let answers = eigenaxis_answers _ _ _ made.plan_counted-planned.ensures.0 made.plan_counted-planned.ensures.1.1 in
     record {
       entry_told = record { plan_told = rw is at c.put_planned.ensures; left = rw (made.plan_counted-planned.ensures.1.0, is) };
-      promised = rw (problem.problem_of_law.ensures, problem.before.shape_of-shape.ensures, is) at answers;
+      promised = rw (problem.problem_of-p.ensures, problem.shape_of-shape.ensures, is) at answers;
     }
 
 pub slew_plan_eigenaxis_numbers_spec : {M : Type 1} → statement M

@@ -9,13 +9,13 @@ returns : tie.Need-returns-in-By
 returns c =
     let made = c.before.before.before.before.before.before in
     let by = made.before.before.before.before.before.before.before in
-    fills_by _ _ (sym by.asked-1.given.1 ∙ by.before.before.asked_of-asked.ensures) made.plan_mosaic.ensures
+    fills_by _ _ (sym by.in-By.is ∙ by.asked_of-asked.ensures) made.plan_mosaic.ensures
 
 returns_2 : tie.Need-returns-in-Unknown
 returns_2 c =
     let start = c.before.before in
     let told = start.before in
-    fills_not _ _ (sym told.enum_told-1.given.1 ∙ told.before.before.asked_of-asked.ensures) start.start.ensures c.before.unasked.ensures c.halted.ensures
+    fills_not _ _ (sym told.in-Unknown.is ∙ told.asked_of-asked.ensures) start.start.ensures c.unasked.ensures c.halted.ensures
 
 pub fill_spec : {M : Type 1} → statement M
 fill_spec =

@@ -9,7 +9,7 @@ returns c =
     let number = c.before.before.before in
     record {
       number_is = number.number_of_lem.ensures;
-      counts_are = rw (number.number_of_lem.ensures, c.before.before.place_of-place.ensures);
+      counts_are = rw (number.number_of_lem.ensures, c.place_of-place.ensures);
       sums_are = refl;
     }
 

@@ -9,10 +9,10 @@ returns : tie.Need-returns-in-By
 returns c =
     let made = c.before.before in
     let by = made.before.before.before in
-    turn_by _ _ _ _ (sym by.asked-1.given.1 ∙ by.before.before.asked_of-asked.ensures) made.next.ensures
+    turn_by _ _ _ _ (sym by.in-By.is ∙ by.asked_of-asked.ensures) made.next.ensures
 
 returns_2 : tie.Need-returns-in-Unknown
-returns_2 c = turn_none _ _ _ _ (sym c.before.enum_told-1.given.1 ∙ c.before.before.before.asked_of-asked.ensures) c.refused.ensures
+returns_2 c = turn_none _ _ _ _ (sym c.in-Unknown.is ∙ c.asked_of-asked.ensures) c.refused.ensures
 
 pub turn_spec : {M : Type 1} → statement M
 turn_spec =

@@ -6,10 +6,10 @@ use Rattle.export_mosaic.proofs.unasked.Statement.{statement}
 use Rattle.export_mosaic.proofs.unasked.Tie as tie
 
 returns : tie.Need-returns-in-Refused
-returns c = ap Cursors.unasked (sym c.before.fate-1.given.1 ∙ c.before.before.before.check_count-fate.ensures)
+returns c = ap Cursors.unasked (sym c.in-Refused.is ∙ c.check_count-fate.ensures)
 
 returns_2 : tie.Need-returns-in-Going
-returns_2 c = ap Cursors.unasked (sym c.enum_told-1.given.1 ∙ c.before.before.check_count-fate.ensures)
+returns_2 c = ap Cursors.unasked (sym c.in-Going.is ∙ c.check_count-fate.ensures)
 
 pub unasked_spec : {M : Type 1} → statement M
 unasked_spec = tie.close (tie.spec (λ c κs. search rules) (λ c. search rules) (λ c. search rules) returns returns_2)

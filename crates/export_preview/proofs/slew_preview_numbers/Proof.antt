@@ -8,10 +8,10 @@ returns c =
     let put = c.before.before.before.before.before.before.before.before in
     let made = put.before.before.before.before.before in
     let momenta = made.before.before in
-    let is = rw (momenta.before.problem_of_law.ensures, momenta.momenta_of_law.ensures) at made.preview-made.ensures.0 in (
+    let is = rw (momenta.problem_of-p.ensures, momenta.momenta_of-m.ensures) at made.preview-made.ensures.0 in (
       record {
         entry_told = record { plan_told = rw is at c.put_planned.ensures; left = rw (made.preview-made.ensures.1.0, is) };
-        promised = rw (momenta.before.problem_of_law.ensures, momenta.momenta_of_law.ensures, is) at made.preview-made.ensures.1.1;
+        promised = rw (momenta.problem_of-p.ensures, momenta.momenta_of-m.ensures, is) at made.preview-made.ensures.1.1;
       },
       (rw (put.put_began.ensures.0, is), rw (put.put_began.ensures.1, is)),
     )

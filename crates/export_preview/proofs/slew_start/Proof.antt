@@ -7,10 +7,10 @@ returns : tie.Need-returns
 returns c =
     let made = c.before.before.before.before in
     let last = made.before in
-    let is = rw (last.last_of-last.ensures, last.before.momenta_of_law.ensures) at made.commit-made.ensures in
+    let is = rw (last.last_of-last.ensures, last.momenta_of-from.ensures) at made.commit-made.ensures in
     record {
       number_is = rw (c.number_of_lem.ensures, is);
-      place_is = rw (c.before.place_of.ensures, is);
+      place_is = rw (c.place_of.ensures, is);
       wheels_are = rw is;
       momenta_are = rw is;
     }

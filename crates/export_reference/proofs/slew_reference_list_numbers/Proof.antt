@@ -8,13 +8,13 @@ row-count-requires : tie.Need-row_count-n-requires
 row-count-requires c κs = c.plan-planned.ensures.1.steps
 
 put-rows-requires : tie.Need-put_rows-requires
-put-rows-requires c κs = (c.before.before.before.plan-planned.ensures.1.few, (c.before.before.before.plan-planned.ensures.1.steps, (c.before.before.row_count-n.ensures.1.1, c.before.before.row_count-n.ensures.1.0)))
+put-rows-requires c κs = (c.plan-planned.ensures.1.few, (c.plan-planned.ensures.1.steps, (c.row_count-n.ensures.1.1, c.row_count-n.ensures.1.0)))
 
 put-planned-requires : tie.Need-put_planned-requires
-put-planned-requires c κs = (c.before.before.before.before.before.before.before.before.plan-planned.ensures.1.few, c.before.before.before.before.before.before.before.before.plan-planned.ensures.1.steps)
+put-planned-requires c κs = (c.plan-planned.ensures.1.few, c.plan-planned.ensures.1.steps)
 
 returns : tie.Need-returns
-returns c = let is = rw (c.before.before.before.before.before.before.before.before.before.before.before.problem_of_law.ensures, c.before.before.before.before.before.before.before.before.before.before.limit_of_law.ensures) at c.before.before.before.before.before.before.before.before.before.plan-planned.ensures.0 in let n = rw is at c.before.before.before.before.before.before.before.before.row_count-n.ensures.0 in record { entry_told = record { plan_told = rw is at c.put_planned.ensures; answer = rw is at c.before.before.before.before.before.before.before.before.before.plan-planned.ensures.1 }; count_is = n; rows_are = rw (is, n) at c.before.before.before.before.before.put_rows.ensures }
+returns c = let is = rw (c.problem_of-p.ensures, c.limit_of.ensures) at c.plan-planned.ensures.0 in let n = rw is at c.row_count-n.ensures.0 in record { entry_told = record { plan_told = rw is at c.put_planned.ensures; answer = rw is at c.plan-planned.ensures.1 }; count_is = n; rows_are = rw (is, n) at c.put_rows.ensures }
 
 pub slew_reference_list_numbers_spec : {M : Type 1} → statement M
 slew_reference_list_numbers_spec =

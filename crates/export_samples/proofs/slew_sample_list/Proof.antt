@@ -7,8 +7,8 @@ use Rattle.export_samples.proofs.slew_sample_list.Tie as tie
 returns : tie.Need-returns
 returns c =
     let made = c.before.before.before in
-    let e = rw made.before.before.tensor-inertia.ensures at made.sample_list-made.ensures in
-    (told e c.number_of_lem.ensures c.before.place_of.ensures, written e)
+    let e = rw made.tensor-inertia.ensures at made.sample_list-made.ensures in
+    (told e c.number_of_lem.ensures c.place_of.ensures, written e)
 
 pub slew_sample_list_spec : {M : Type 1} → statement M
 slew_sample_list_spec = tie.close (tie.spec (λ c κs. search rules) (λ c κs. search rules) (λ c κs. search rules) (λ c κs. search rules) (λ c. search rules) returns)

@@ -8,7 +8,7 @@ truncating-f64-to-u64-requires : tie.Need-truncating_f64_to_u64-requires
 truncating-f64-to-u64-requires c κs = let h = cut_fits _ (negated_small c.args.x c.requires.0 c.requires.1) in (h.0, h.1)
 
 returns : tie.Need-returns
-returns c = rw c.nearest_u64_to_f64.ensures (cut_below _ _ c.before.before.requires.0 c.before.before.requires.1 c.before.truncating_f64_to_u64.ensures)
+returns c = rw c.nearest_u64_to_f64.ensures (cut_below _ _ c.requires.0 c.requires.1 c.truncating_f64_to_u64.ensures)
 
 pub cut_spec : {M : Type 1} → statement M
 cut_spec = tie.close (tie.spec truncating-f64-to-u64-requires (λ c κs. search rules) returns)

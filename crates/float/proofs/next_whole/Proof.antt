@@ -8,19 +8,19 @@ truncating-f64-to-u64-requires : tie.Need-truncating_f64_to_u64-n-requires
 truncating-f64-to-u64-requires c κs = let h = cut_fits c.args.x c.requires in (h.0, h.1)
 
 add-nearest-u64-to-f64 : tie.Need-overflow_add-n
-add-nearest-u64-to-f64 c = let n = c.before.before.truncating_f64_to_u64-n in let h = cut_lt n.result c.before.before.before.args.x c.before.before.before.requires n.ensures in omega arith
+add-nearest-u64-to-f64 c = let n = c.truncating_f64_to_u64-n in let h = cut_lt n.result c.args.x c.requires n.ensures in omega arith
 
 returns : tie.Need-returns-then-f-x
 returns c =
     let start = c.before.before.before.before in
-    let n = c.before.before.before.truncating_f64_to_u64-n in
-    c.nearest_u64_to_f64.ensures ∙ raised_whole _ start.args.x start.requires n.ensures (rw c.before.before.nearest_u64_to_f64-f.ensures at c.before.if-f-x.true)
+    let n = c.truncating_f64_to_u64-n in
+    c.nearest_u64_to_f64.ensures ∙ raised_whole _ start.args.x start.requires n.ensures (rw c.nearest_u64_to_f64-f.ensures at c.if-f-x.true)
 
 returns_2 : tie.Need-returns-else-f-x
 returns_2 c =
     let start = c.before.before.before in
-    let n = c.before.before.truncating_f64_to_u64-n in
-    c.before.nearest_u64_to_f64-f.ensures ∙ same_whole _ start.args.x start.requires n.ensures (rw c.before.nearest_u64_to_f64-f.ensures at c.if-f-x.false)
+    let n = c.truncating_f64_to_u64-n in
+    c.nearest_u64_to_f64-f.ensures ∙ same_whole _ start.args.x start.requires n.ensures (rw c.nearest_u64_to_f64-f.ensures at c.if-f-x.false)
 
 pub next_whole_spec : {M : Type 1} → statement M
 next_whole_spec =

@@ -8,7 +8,7 @@ use Rattle.float.proofs.sqrt_near_one.Statement.{statement}
 use Rattle.float.proofs.sqrt_near_one.Tie as tie
 
 float-to-bits-b : tie.Need-float_to_bits-b
-float-to-bits-b c = above_no_nan _ c.before.args.x c.if-x.true
+float-to-bits-b c = above_no_nan _ c.args.x c.if-x.true
 
 float-from-bits-result : tie.Need-float_from_bits-result
 float-from-bits-result c = no_nan_bits c.near_root_bits.result c.near_root_bits.ensures.1

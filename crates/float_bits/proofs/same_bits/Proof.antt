@@ -9,10 +9,10 @@ returns : tie.Need-returns-then-a
 returns c = first_nan _ _ c.if-a.true
 
 returns_2 : tie.Need-returns-then-b
-returns_2 c = second_nan _ _ c.before.if-a.false c.if-b.true
+returns_2 c = second_nan _ _ c.if-a.false c.if-b.true
 
 float-to-bits-result : tie.Need-float_to_bits-result
-float-to-bits-result c = no_nan _ c.before.if-a.false
+float-to-bits-result c = no_nan _ c.if-a.false
 
 float-to-bits-result-2 : tie.Need-float_to_bits-result-2
 float-to-bits-result-2 c = no_nan _ c.if-b.false

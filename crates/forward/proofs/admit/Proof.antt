@@ -8,13 +8,13 @@ use Rattle.forward.proofs.admit.Tie as tie
 
 returns : tie.Need-returns-then-control_dim-gt-MAX_CONTROLS
 returns c =
-    let check = c.before.before.before.before.before.check-checked in
-    c.refused.ensures ∙ admit_wide _ check.ensures c.before.before.control_dim.ensures c.before.if-control_dim-gt-MAX_CONTROLS.true
+    let check = c.check-checked in
+    c.refused.ensures ∙ admit_wide _ check.ensures c.control_dim.ensures c.if-control_dim-gt-MAX_CONTROLS.true
 
 returns_2 : tie.Need-returns
 returns_2 c =
-    let check = c.before.before.before.before.check-checked in
-    admit_narrow _ check.ensures c.before.control_dim.ensures c.if-control_dim-gt-MAX_CONTROLS.false
+    let check = c.check-checked in
+    admit_narrow _ check.ensures c.control_dim.ensures c.if-control_dim-gt-MAX_CONTROLS.false
 
 pub admit_spec : {M : Type 1} → statement M
 admit_spec =

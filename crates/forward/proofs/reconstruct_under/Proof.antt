@@ -10,19 +10,19 @@ enum_told : tie.Need-enum_told-1
 enum_told c = search rules
 
 run-under-requires : tie.Need-run_under-requires
-run-under-requires c κs = let a = admitted _ c.before.before.before.admit-checked.ensures c.before.enum_told-1.given.1 in (a.sized, a.narrow)
+run-under-requires c κs = let a = admitted _ c.admit-checked.ensures c.in-Going.is in (a.sized, a.narrow)
 
 returns : tie.Need-returns-in-Refused
 unfolding Reconstruct.reconstruct_under
 returns c =
-    let admit = c.before.before.before.before.admit-checked in
-    rw (← admit.ensures, c.before.before.fate-1.given.1, c.refused_run.ensures)
+    let admit = c.admit-checked in
+    rw (← admit.ensures, c.in-Refused.is, c.refused_run.ensures)
 
 returns_2 : tie.Need-returns-in-Going
 unfolding Reconstruct.reconstruct_under
 returns_2 c =
-    let admit = c.before.before.before.before.admit-checked in
-    rw (← admit.ensures, c.before.before.enum_told-1.given.1, c.run_under.ensures)
+    let admit = c.admit-checked in
+    rw (← admit.ensures, c.in-Going.is, c.run_under.ensures)
 
 pub reconstruct_under_spec : {M : Type 1} → statement M
 reconstruct_under_spec =

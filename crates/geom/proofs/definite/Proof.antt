@@ -5,8 +5,8 @@ use Rattle.geom.proofs.definite.Tie as tie
 
 returns : tie.Need-returns
 returns c =
-    let is_positive = c.before.before.before.before.before.before.before.is_positive in
-    rw (c.is_positive-3.ensures, c.before.det3.ensures, c.before.before.is_positive-2.ensures, is_positive.ensures)
+    let is_positive = c.is_positive in
+    rw (c.is_positive-3.ensures, c.det3.ensures, c.is_positive-2.ensures, is_positive.ensures)
 
 pub definite_spec : {M : Type 1} → statement M
 definite_spec =

@@ -5,12 +5,12 @@ use Rattle.geom.proofs.euler_lhs.Tie as tie
 
 returns : tie.Need-returns
 returns c =
-    let apply-tensor = c.before.before.before.before.apply_tensor in
+    let apply-tensor = c.apply_tensor in
     rw (
       c.add3-2.ensures,
-      c.before.cross.ensures,
-      c.before.before.add3.ensures,
-      c.before.before.before.apply_tensor-2.ensures,
+      c.cross.ensures,
+      c.add3.ensures,
+      c.apply_tensor-2.ensures,
       apply-tensor.ensures,
     )
 

@@ -13,12 +13,12 @@ returns c = rw c.if-n.true
 returns_2 : tie.Need-returns-in-Are
 unfolding exp_at of_bits
 returns_2 c =
-    let if1 = c.before.before.before.before.if-n in
-    rw (if1.false, ← at_once_law, ← c.before.before.before.sin_cos-turn.ensures, c.before.turn-1.given.1)
+    let if1 = c.if-n in
+    rw (if1.false, ← at_once_law, ← c.sin_cos-turn.ensures, c.in-Are.is)
 
 returns_3 : tie.Need-returns-in-Outside
 unfolding exp_at of_bits
-returns_3 c = rw (c.before.before.before.if-n.false, ← at_once_law, ← c.before.before.sin_cos-turn.ensures, c.enum_told-1.given.1)
+returns_3 c = rw (c.if-n.false, ← at_once_law, ← c.sin_cos-turn.ensures, c.in-Outside.is)
 
 pub exp_at_spec : {M : Type 1} → statement M
 exp_at_spec =

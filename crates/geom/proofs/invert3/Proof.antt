@@ -8,14 +8,14 @@ use Rattle.geom.proofs.invert3.Tie as tie
 returns : tie.Need-returns-then-is_finite-abs
 unfolding inverse_by of_bits
 returns c =
-    let det3 = c.before.before.before.before.det3-det in
-    rw (c.no_inverse.ensures, ← det3.ensures, ← c.before.before.before.is_finite.ensures, ← c.before.before.abs.ensures, c.before.if-is_finite-abs.true)
+    let det3 = c.det3-det in
+    rw (c.no_inverse.ensures, ← det3.ensures, ← c.is_finite.ensures, ← c.abs.ensures, c.if-is_finite-abs.true)
 
 returns_2 : tie.Need-returns
 unfolding inverse_by of_bits
 returns_2 c =
-    let det3 = c.before.before.before.before.det3-det in
-    rw (c.scaled_adjugate-m.ensures, ← det3.ensures, ← c.before.before.before.is_finite.ensures, ← c.before.before.abs.ensures, c.before.if-is_finite-abs.false)
+    let det3 = c.det3-det in
+    rw (c.scaled_adjugate-m.ensures, ← det3.ensures, ← c.is_finite.ensures, ← c.abs.ensures, c.if-is_finite-abs.false)
 
 pub invert3_spec : {M : Type 1} → statement M
 invert3_spec =

@@ -6,11 +6,11 @@ use Rattle.geom.proofs.invert_spd.Tie as tie
 
 returns : tie.Need-returns-then-is_spd
 unfolding invert_spd
-returns c = rw (c.invert3.ensures, ← c.before.before.is_spd.ensures, c.before.if-is_spd.true)
+returns c = rw (c.invert3.ensures, ← c.is_spd.ensures, c.if-is_spd.true)
 
 returns_2 : tie.Need-returns-else-is_spd
 unfolding invert_spd
-returns_2 c = rw (c.no_inverse.ensures, ← c.before.before.is_spd.ensures, c.before.if-is_spd.false)
+returns_2 c = rw (c.no_inverse.ensures, ← c.is_spd.ensures, c.if-is_spd.false)
 
 pub invert_spd_spec : {M : Type 1} → statement M
 invert_spd_spec = tie.close (tie.spec (λ c κs. search rules) (λ c κs. search rules) (λ c κs. search rules) returns returns_2)

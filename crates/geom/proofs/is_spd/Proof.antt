@@ -6,7 +6,7 @@ use Rattle.geom.proofs.is_spd.Tie as tie
 
 returns : tie.Need-returns
 unfolding is_spd
-returns c = rw (c.definite.ensures, c.before.symmetric.ensures)
+returns c = rw (c.definite.ensures, c.symmetric.ensures)
 
 pub is_spd_spec : {M : Type 1} → statement M
 is_spd_spec = tie.close (tie.spec (λ c κs. search rules) (λ c κs. search rules) returns)

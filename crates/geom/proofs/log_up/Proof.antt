@@ -8,8 +8,8 @@ use Rattle.geom.proofs.log_up.Tie as tie
 returns : tie.Need-returns-then-n
 unfolding log_at of_bits
 returns c =
-    let norm3 = c.before.before.before.before.norm3-n in
-    rw (← norm3.ensures, c.before.before.before.if-n.true)
+    let norm3 = c.norm3-n in
+    rw (← norm3.ensures, c.if-n.true)
 
 returns_2 : tie.Need-returns-in-Is
 unfolding log_at of_bits neg
@@ -24,10 +24,10 @@ returns_2 c =
 returns_3 : tie.Need-returns-in-Outside
 unfolding log_at of_bits neg
 returns_3 c =
-    let after-clamp = c.before.before.before in
+    let after-clamp = c.before.before in
     let branch1 = after-clamp.before in
     let after-norm3 = branch1.before in
-    rw (← after-norm3.norm3-n.ensures, branch1.if-n.false, ← after-clamp.clamp.ensures, ← c.before.before.acos-half.ensures, c.enum_told-1.given.1)
+    rw (← after-norm3.norm3-n.ensures, branch1.if-n.false, ← after-clamp.clamp.ensures, ← c.acos-half.ensures, c.in-Outside.is)
 
 pub log_up_spec : {M : Type 1} → statement M
 log_up_spec =

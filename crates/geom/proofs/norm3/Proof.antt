@@ -6,7 +6,7 @@ use Rattle.geom.proofs.norm3.Tie as tie
 
 returns : tie.Need-returns
 unfolding norm3
-returns c = rw (c.sqrt.ensures, c.before.dot3.ensures)
+returns c = rw (c.sqrt.ensures, c.dot3.ensures)
 
 pub norm3_spec : {M : Type 1} → statement M
 norm3_spec = tie.close (tie.spec (λ c κs. search rules) (λ c κs. search rules) returns)

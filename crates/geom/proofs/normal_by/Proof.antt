@@ -7,17 +7,17 @@ use Rattle.geom.proofs.normal_by.Tie as tie
 
 returns : tie.Need-returns-then-n-is_finite
 unfolding normal_by of_bits
-returns c = rw (← c.before.is_finite.ensures, c.if-n-is_finite.true)
+returns c = rw (← c.is_finite.ensures, c.if-n-is_finite.true)
 
 returns_2 : tie.Need-returns-then-abs-tolerance
 unfolding normal_by of_bits
-returns_2 c = rw (← c.before.before.before.is_finite.ensures, c.before.before.if-n-is_finite.false, ← c.before.abs.ensures, c.if-abs-tolerance.true)
+returns_2 c = rw (← c.is_finite.ensures, c.if-n-is_finite.false, ← c.abs.ensures, c.if-abs-tolerance.true)
 
 returns_3 : tie.Need-returns-else-abs-tolerance
 unfolding normal_by of_bits
 returns_3 c =
-    let is_finite = c.before.before.before.before.is_finite in
-    rw (← is_finite.ensures, c.before.before.before.if-n-is_finite.false, ← c.before.before.abs.ensures, c.before.if-abs-tolerance.false, c.scale.ensures)
+    let is_finite = c.is_finite in
+    rw (← is_finite.ensures, c.if-n-is_finite.false, ← c.abs.ensures, c.if-abs-tolerance.false, c.scale.ensures)
 
 pub normal_by_spec : {M : Type 1} → statement M
 normal_by_spec = tie.close (tie.spec (λ c κs. search rules) returns (λ c κs. search rules) (λ c κs. search rules) returns_2 returns_3)

@@ -4,7 +4,7 @@ use Rattle.geom.proofs.over_by.Statement.{statement}
 use Rattle.geom.proofs.over_by.Tie as tie
 
 returns : tie.Need-returns
-returns c = rw (c.max.ensures, c.before.abs.ensures)
+returns c = rw (c.max.ensures, c.abs.ensures)
 
 pub over_by_spec : {M : Type 1} → statement M
 over_by_spec = tie.close (tie.spec (λ c κs. search rules) (λ c κs. search rules) returns)

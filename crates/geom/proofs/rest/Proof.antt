@@ -4,7 +4,7 @@ use Rattle.geom.proofs.rest.Statement.{statement}
 use Rattle.geom.proofs.rest.Tie as tie
 
 returns : tie.Need-returns
-returns c = rw (c.still-3.ensures, c.before.still-2.ensures, c.before.before.still.ensures)
+returns c = rw (c.still-3.ensures, c.still-2.ensures, c.still.ensures)
 
 pub rest_spec : {M : Type 1} → statement M
 rest_spec =

@@ -13,14 +13,14 @@ returns c =
     let after-scale32 = c.before.before in
     let after-cross2 = after-scale32.before in
     let after-scale3 = after-cross2.before in
-    let j = after-scale3.before.before.before.before.before.args.t1 in
+    let j = after-scale3.args.t1 in
     rw (
       c.scale3-w.ensures,
-      c.before.cross-3.ensures,
+      c.cross-3.ensures,
       after-scale32.scale3-v.ensures,
       after-cross2.cross-2.ensures ∙ cross_swap (row j 0) (row j 2),
       after-scale3.scale3-u.ensures,
-      after-scale3.before.cross.ensures,
+      after-scale3.cross.ensures,
     )
 
 pub scaled_adjugate_spec : {M : Type 1} → statement M

@@ -4,7 +4,7 @@ use Rattle.geom.proofs.still.Statement.{statement}
 use Rattle.geom.proofs.still.Tie as tie
 
 returns : tie.Need-returns
-returns c = rw (c.abs.ensures, c.before.is_finite.ensures)
+returns c = rw (c.abs.ensures, c.is_finite.ensures)
 
 pub still_spec : {M : Type 1} → statement M
 still_spec = tie.close (tie.spec (λ c κs. search rules) (λ c κs. search rules) returns)

@@ -6,7 +6,7 @@ use Rattle.geom.proofs.torque_excess.Tie as tie
 
 returns : tie.Need-returns
 unfolding of_bits
-returns c = rw (c.over_by.ensures, c.before.over_by-b.ensures, c.before.before.over_by-a.ensures)
+returns c = rw (c.over_by.ensures, c.over_by-b.ensures, c.over_by-a.ensures)
 
 pub torque_excess_spec : {M : Type 1} → statement M
 torque_excess_spec =

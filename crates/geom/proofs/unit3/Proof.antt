@@ -7,11 +7,11 @@ use Rattle.geom.proofs.unit3.Tie as tie
 
 returns : tie.Need-returns-then-n-is_finite
 unfolding unit_by of_bits
-returns c = rw (← c.before.before.norm3-n.ensures, ← c.before.is_finite.ensures, c.if-n-is_finite.true)
+returns c = rw (← c.norm3-n.ensures, ← c.is_finite.ensures, c.if-n-is_finite.true)
 
 returns_2 : tie.Need-returns
 unfolding unit_by of_bits
-returns_2 c = rw (← c.before.before.norm3-n.ensures, ← c.before.is_finite.ensures, c.if-n-is_finite.false)
+returns_2 c = rw (← c.norm3-n.ensures, ← c.is_finite.ensures, c.if-n-is_finite.false)
 
 pub unit3_spec : {M : Type 1} → statement M
 unit3_spec =

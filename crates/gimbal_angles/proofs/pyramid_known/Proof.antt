@@ -10,7 +10,7 @@ returns c =
     let fourth = c.before in
     let third = fourth.before in
     let second = third.before in
-    rw (← second.before.sin_cos_known-b0.ensures, ← second.sin_cos_known-b1.ensures, ← third.sin_cos_known-b2.ensures, ← fourth.sin_cos_known-b3.ensures) c.pyramid_by_law.ensures
+    rw (← second.sin_cos_known-b0.ensures, ← second.sin_cos_known-b1.ensures, ← third.sin_cos_known-b2.ensures, ← fourth.sin_cos_known-b3.ensures) c.pyramid_by.ensures
 
 pub pyramid_known_spec : {M : Type 1} → statement M
 pyramid_known_spec =

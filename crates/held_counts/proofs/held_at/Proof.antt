@@ -20,18 +20,18 @@ loop-holds : tie.Need-loop-k-init invariant_loop decreases_loop
 loop-holds c = (search rules, iter_none _ _)
 
 -- the control's place in the decision
-place : (c : tie.In-loop-k invariant_loop decreases_loop) → 1 + c.before.loop-k.k * c.before.before.args.n + c.before.before.args.i < 193
-place c = omega (arith, row_end c.before.loop-k.k 16 c.before.before.args.n (search rules), c.before.before.requires)
+place : (c : tie.In-loop-k invariant_loop decreases_loop) → 1 + c.loop-k.k * c.args.n + c.args.i < 193
+place c = omega (arith, row_end c.loop-k.k 16 c.args.n (search rules), c.requires)
 
 counted-requires : tie.Need-counted-count-requires invariant_loop decreases_loop
-counted-requires c κs = omega (arith, c.before.before.loop-k.invariant.1, count_most c.before.before.before.args.limit c.before.before.before.args.n c.before.before.before.args.z.now c.before.before.before.args.i c.before.before.loop-k.k)
+counted-requires c κs = omega (arith, c.loop-k.invariant.1, count_most c.args.limit c.args.n c.args.z.now c.args.i c.loop-k.k)
 
 loop-again : tie.Need-loop-k-preserved invariant_loop decreases_loop
-loop-again c = (search rules, iter_next _ _ _ c.before.before.before.loop-k.invariant.1 c.counted-count.ensures)
+loop-again c = (search rules, iter_next _ _ _ c.loop-k.invariant.1 c.counted-count.ensures)
 
 returns : tie.Need-returns invariant_loop decreases_loop
 unfolding Counts.held_at
-returns c = let e : c.before.loop-k.k ≡ 16 = omega arith in rw (← e) c.before.loop-k.invariant.1
+returns c = let e : c.loop-k.k ≡ 16 = omega arith in rw (← e) c.loop-k.invariant.1
 
 pub held_at_spec : {M : Type 1} → statement M
 held_at_spec =

@@ -20,12 +20,12 @@ loop-holds : tie.Need-loop-i-init invariant_loop decreases_loop
 loop-holds c = (search rules, (search rules, iter_none _ _))
 
 limit-in-requires : tie.Need-limit_in-requires invariant_loop decreases_loop
-limit-in-requires c κs = rw (← c.before.before.control_dim-n.ensures) (search rules)
+limit-in-requires c κs = rw (← c.control_dim-n.ensures) (search rules)
 
 held-at-requires : tie.Need-held_at-requires invariant_loop decreases_loop
 held-at-requires c κs =
     let entry = c.before.before.before.before in
-    (omega (arith, c.before.before.before.control_dim-n.ensures, entry.requires), search rules)
+    (omega (arith, c.control_dim-n.ensures, entry.requires), search rules)
 
 write : tie.Need-bounds-out-i invariant_loop decreases_loop
 write c =
@@ -35,14 +35,14 @@ write c =
 
 loop-again : tie.Need-loop-i-preserved invariant_loop decreases_loop
 loop-again c =
-    let control-dim = c.before.before.before.before.control_dim-n in
-    (search rules, (search rules, iter_next _ _ _ c.before.before.before.loop-i.invariant.1.1 (rw (c.held_at.ensures, c.before.limit_in.ensures, ← control-dim.ensures))))
+    let control-dim = c.control_dim-n in
+    (search rules, (search rules, iter_next _ _ _ c.loop-i.invariant.1.1 (rw (c.held_at.ensures, c.limit_in.ensures, ← control-dim.ensures))))
 
 returns : tie.Need-returns invariant_loop decreases_loop
 unfolding Counts.held_counts
 returns c =
-    let e : c.before.loop-i.i ≡ c.before.before.control_dim-n.result = omega arith in
-    rw (← c.before.before.control_dim-n.ensures, ← e) c.before.loop-i.invariant.1.1
+    let e : c.loop-i.i ≡ c.control_dim-n.result = omega arith in
+    rw (← c.control_dim-n.ensures, ← e) c.loop-i.invariant.1.1
 
 pub held_counts_spec : {M : Type 1} → statement M
 held_counts_spec =

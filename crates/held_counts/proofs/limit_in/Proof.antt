@@ -17,21 +17,21 @@ use Rattle.held_counts.proofs.limit_in.Tie as tie
 asked : (m : ActuatorMap) {r : Rig} {b t : Bool} → r ≡ rig_of m → b ≡ bare r → b ≡ t → bare (rig_of m) ≡ t
 asked m e f g = rw (← e) (sym f ∙ g)
 
-below : (c : tie.Then-is_bare) → c.before.before.before.args.i < 3
-below c = held_bare _ _ c.before.before.before.requires (asked c.before.before.before.args.map c.before.before.rig_of.ensures c.before.is_bare.ensures c.if-is_bare.true)
+below : (c : tie.Then-is_bare) → c.args.i < 3
+below c = held_bare _ _ c.requires (asked c.args.map c.rig_of.ensures c.is_bare.ensures c.if-is_bare.true)
 
 returns : tie.Need-returns-then-is_bare
 unfolding Limits.limit_of
-returns c = rw (asked c.before.before.before.args.map c.before.before.rig_of.ensures c.before.is_bare.ensures c.if-is_bare.true)
+returns c = rw (asked c.args.map c.rig_of.ensures c.is_bare.ensures c.if-is_bare.true)
 
 part-limit-requires : tie.Need-part_limit-requires
-part-limit-requires c κs = held_tables _ _ c.before.before.before.requires
+part-limit-requires c κs = held_tables _ _ c.requires
 
 returns_2 : tie.Need-returns
 unfolding Limits.limit_of
 returns_2 c =
     let entry = c.before.before.before.before in
-    rw (asked entry.args.map c.before.before.before.rig_of.ensures c.before.before.is_bare.ensures c.before.if-is_bare.false, c.part_limit.ensures)
+    rw (asked entry.args.map c.rig_of.ensures c.is_bare.ensures c.if-is_bare.false, c.part_limit.ensures)
 
 pub limit_in_spec : {M : Type 1} → statement M
 limit_in_spec =

@@ -5,13 +5,13 @@ use Rattle.held_counts.proofs.part_limit.Statement.{statement}
 use Rattle.held_counts.proofs.part_limit.Tie as tie
 
 returns : tie.Need-returns-then-i-nw
-returns c = rw (lt-ltb _ _ c.before.if-i-nw.true)
+returns c = rw (lt-ltb _ _ c.if-i-nw.true)
 
 returns_2 : tie.Need-returns-then-i-nw-2
-returns_2 c = rw (le-ltb _ _ c.before.before.before.if-i-nw.false, lt-ltb _ _ c.before.if-i-nw-2.true)
+returns_2 c = rw (le-ltb _ _ c.if-i-nw.false, lt-ltb _ _ c.if-i-nw-2.true)
 
 returns_3 : tie.Need-returns
-returns_3 c = rw (le-ltb _ _ c.before.before.before.if-i-nw.false, le-ltb _ _ c.before.if-i-nw-2.false, c.gimbal_rate_law.ensures)
+returns_3 c = rw (le-ltb _ _ c.if-i-nw.false, le-ltb _ _ c.if-i-nw-2.false, c.gimbal_rate.ensures)
 
 pub part_limit_spec : {M : Type 1} → statement M
 part_limit_spec =

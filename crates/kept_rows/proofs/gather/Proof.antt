@@ -8,25 +8,25 @@ use Rattle.kept_rows.proofs.gather.Statement.{statement}
 use Rattle.kept_rows.proofs.gather.Tie as tie
 
 -- not 79 rows are 28
-short : (c : tie.Else-m-eq79) → c.before.before.args.m ≡ 28
-short c = ⊎_elim (λ e. e) (λ e. absurd (c.if-m-eq79.false e)) c.before.before.requires.0
+short : (c : tie.Else-m-eq79) → c.args.m ≡ 28
+short c = ⊎_elim (λ e. e) (λ e. absurd (c.if-m-eq79.false e)) c.requires.0
 
 move-rows-requires-2 : tie.Need-move_rows-requires-else-m-eq79
-move-rows-requires-2 c κs = (omega arith, omega (arith, short c.before, c.before.before.before.requires.1))
+move-rows-requires-2 c κs = (omega arith, omega (arith, short c.before, c.requires.1))
 
 returns : tie.Need-returns-then-m-eq79
 returns c =
-    let if1 = c.before.before.before.before.before.before.before.before.if-m-eq79 in
+    let if1 = c.if-m-eq79 in
     let start = c.before.before.before.before.before.before.before.before.before.before in
     let taken = if1.true in
     let nodes = c.before.before.before.before.before.before in
-    rw (taken, c.before.before.move_rows.ensures) (gathered_long start.args.r-1.now nodes.gather_nodes.new.0 (omega (arith, start.requires.1)) nodes.gather_nodes.ensures)
+    rw (taken, c.move_rows.ensures) (gathered_long start.args.r-1.now nodes.gather_nodes.new.0 (omega (arith, start.requires.1)) nodes.gather_nodes.ensures)
 
 returns_2 : tie.Need-returns-else-m-eq79
 returns_2 c =
     let start = c.before.before.before.before.before.before in
     let few = short c.before.before.before.before in
-    rw (few, c.before.before.move_rows-else-m-eq79.ensures) (gathered_short start.args.r-1.now (omega (arith, start.requires.1)))
+    rw (few, c.move_rows-else-m-eq79.ensures) (gathered_short start.args.r-1.now (omega (arith, start.requires.1)))
 
 pub gather_spec : {M : Type 1} → statement M
 gather_spec =

@@ -19,16 +19,16 @@ loop-holds c = (search rules, upto_first 79 _)
 move-rows-requires : tie.Need-move_rows-requires invariant_loop decreases_loop
 move-rows-requires c κs =
     let entry = c.before.before.before.before in
-    (omega arith, omega (arith, c.before.before.loop-k.invariant.1.size, entry.requires))
+    (omega arith, omega (arith, c.loop-k.invariant.1.size, entry.requires))
 
 loop-again : tie.Need-loop-k-preserved invariant_loop decreases_loop
 loop-again c =
-    let l = c.before.before.before.before.before.loop-k in
+    let l = c.loop-k in
     let start = c.before.before.before.before.before.before.before in
-    (omega arith, rw c.before.before.move_rows.ensures (upto_node start.args.r-1.now l.k l.r-1 (omega arith) start.requires l.invariant.1))
+    (omega arith, rw c.move_rows.ensures (upto_node start.args.r-1.now l.k l.r-1 (omega arith) start.requires l.invariant.1))
 
 returns : tie.Need-returns invariant_loop decreases_loop
-returns c = let e : c.before.loop-k.k ≡ 17 = omega arith in rw e at c.before.loop-k.invariant.1
+returns c = let e : c.loop-k.k ≡ 17 = omega arith in rw e at c.loop-k.invariant.1
 
 pub gather_nodes_spec : {M : Type 1} → statement M
 gather_nodes_spec =
@@ -45,5 +45,5 @@ gather_nodes_spec =
     (λ c. search rules)
     (λ c. search rules)
     loop-again
-    (λ c. c.before.loop-k.invariant.1.size)
+    (λ c. c.loop-k.invariant.1.size)
     returns)

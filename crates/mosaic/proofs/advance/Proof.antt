@@ -14,7 +14,7 @@ moved-requires c κs =
 returns : tie.Need-returns
 returns c =
     let planned = c.before.before.before in
-    turned planned.before.before.leg_problem.ensures planned.plan_by-planned.ensures.0 planned.plan_by-planned.ensures.1.0 planned.plan_by-planned.ensures.1.1 c.moved.ensures
+    turned planned.leg_problem.ensures planned.plan_by-planned.ensures.0 planned.plan_by-planned.ensures.1.0 planned.plan_by-planned.ensures.1.1 c.moved.ensures
 
 pub advance_spec : {M : Type 1} → statement M
 advance_spec = tie.close (tie.spec (λ c κs. search rules) (λ c κs. search rules) moved-requires (λ c. search rules) returns)

@@ -7,10 +7,10 @@ returns : tie.Need-returns-then-tiles-lt2
 returns c = count_few _ c.if-tiles-lt2.true
 
 returns_2 : tie.Need-returns-then-tiles-gt64
-returns_2 c = count_many _ c.before.if-tiles-lt2.false c.if-tiles-gt64.true
+returns_2 c = count_many _ c.if-tiles-lt2.false c.if-tiles-gt64.true
 
 returns_3 : tie.Need-returns
-returns_3 c = count_fits _ c.before.if-tiles-lt2.false c.if-tiles-gt64.false
+returns_3 c = count_fits _ c.if-tiles-lt2.false c.if-tiles-gt64.false
 
 pub check_count_spec : {M : Type 1} → statement M
 check_count_spec = tie.close (tie.spec returns returns_2 returns_3)

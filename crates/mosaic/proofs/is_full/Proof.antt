@@ -4,10 +4,10 @@ use Rattle.mosaic.proofs.is_full.Statement.{statement}
 use Rattle.mosaic.proofs.is_full.Tie as tie
 
 returns : tie.Need-returns-then-c-gt62
-returns c = full_index c.before.before.args.c c.if-c-gt62.true
+returns c = full_index c.args.c c.if-c-gt62.true
 
 returns_2 : tie.Need-returns
-returns_2 c = full_runs c.before.before.before.args.c c.before.if-c-gt62.false
+returns_2 c = full_runs c.args.c c.if-c-gt62.false
 
 pub is_full_spec : {M : Type 1} → statement M
 is_full_spec = tie.close (tie.spec returns returns_2)

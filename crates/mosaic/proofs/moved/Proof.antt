@@ -6,15 +6,15 @@ use Rattle.mosaic.proofs.moved.Statement.{statement}
 use Rattle.mosaic.proofs.moved.Tie as tie
 
 took-requires : tie.Need-took-requires
-took-requires c κs = c.before.before.requires
+took-requires c κs = c.requires
 
 returns : tie.Need-returns-in-Refused
 unfolding moved
-returns c = c.halted.ensures ∙ rw c.before.before.fate-1.given.1 refl
+returns c = c.halted.ensures ∙ rw c.in-Refused.is refl
 
 returns_2 : tie.Need-returns-in-Going
 unfolding moved
-returns_2 c = c.took.ensures ∙ rw c.before.enum_told-1.given.1 refl
+returns_2 c = c.took.ensures ∙ rw c.in-Going.is refl
 
 pub moved_spec : {M : Type 1} → statement M
 moved_spec = tie.close (tie.spec (λ c. search rules) (λ c κs. search rules) (λ c. search rules) took-requires returns returns_2)

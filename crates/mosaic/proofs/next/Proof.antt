@@ -5,12 +5,12 @@ use Rattle.mosaic.proofs.next.Statement.{statement}
 use Rattle.mosaic.proofs.next.Tie as tie
 
 returns : tie.Need-returns-in-Refused
-returns c = advances_not c.before.before.fate-1.given.1 c.refused.ensures
+returns c = advances_not c.in-Refused.is c.refused.ensures
 
 returns_2 : tie.Need-returns-in-Going
 returns_2 c =
     let advanced = c.before.before in
-    advances advanced.before.before.enum_told-1.given.1 advanced.advance_open.ensures
+    advances advanced.in-Going.is advanced.advance_open.ensures
 
 pub next_spec : {M : Type 1} → statement M
 next_spec =

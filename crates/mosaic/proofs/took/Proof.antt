@@ -6,7 +6,7 @@ use Rattle.mosaic.proofs.took.Tie as tie
 
 returns : tie.Need-returns
 returns c =
-    let last-momenta = c.before.before.before.before.last_momenta in
+    let last-momenta = c.last_momenta in
     rw last-momenta.ensures
 
 pub took_spec : {M : Type 1} → statement M

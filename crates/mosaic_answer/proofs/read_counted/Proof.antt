@@ -6,13 +6,13 @@ use Rattle.mosaic_answer.proofs.read_counted.Tie as tie
 
 returns : tie.Need-returns-in-Refused
 unfolding counted
-returns c = rw (← c.before.before.read_mosaic-m.ensures, c.enum_told-1.given.1)
+returns c = rw (← c.read_mosaic-m.ensures, c.in-Refused.is)
 
 returns_2 : tie.Need-returns-in-Going
 unfolding counted
 returns_2 c =
     let e = c.before.before in
-    rw (← e.before.before.read_mosaic-m.ensures, e.enum_told-in-Going-1.given.1) (rw c.before.check_count.ensures at c.with_fate.ensures)
+    rw (← e.read_mosaic-m.ensures, e.in-Going.is) (rw c.check_count.ensures at c.with_fate.ensures)
 
 pub read_counted_spec : {M : Type 1} → statement M
 read_counted_spec = tie.close (tie.spec (search rules) (search rules) (search rules) (search rules) (search rules) returns returns_2)

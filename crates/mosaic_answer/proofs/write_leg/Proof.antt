@@ -11,7 +11,7 @@ returns c =
     let headed = told.before.before.before.before.before in
     let planned = headed.before.before.before.before in
     let after = planned.before.before.before in
-    leg_written _ _ _ after.before.tile_at-from.ensures after.tile_after-to.ensures planned.next-advanced.ensures headed.write_heading-headed.ensures told.tell-told.ensures said.explain_plan-sentence.ensures
+    leg_written _ _ _ after.tile_at-from.ensures after.tile_after-to.ensures planned.next-advanced.ensures headed.write_heading-headed.ensures told.tell-told.ensures said.explain_plan-sentence.ensures
 
 pub write_leg_spec : {M : Type 1} → statement M
 write_leg_spec =

@@ -23,15 +23,15 @@ returns c =
     let r = c.before in
     let p = r.before in
     let t = p.before in
-    let l = t.before.before.loop-k in
+    let l = t.loop-k in
     let made = p.print_leg-c.ensures in
-    printed_stays _ _ _ (l.k - 1 + 1) _ (omega (arith, l.invariant.0, t.loop-k-test.true)) (printed_next _ _ _ (l.k - 1) l.invariant.2 made.0 made.1) (sym r.is_refused_law.ensures ∙ c.if-is_refused.true)
+    printed_stays _ _ _ (l.k - 1 + 1) _ (omega (arith, l.invariant.0, t.loop-k-test.true)) (printed_next _ _ _ (l.k - 1) l.invariant.2 made.0 made.1) (sym r.is_refused.ensures ∙ c.if-is_refused.true)
 
 loop-again : tie.Need-loop-k-preserved invariant_loop decreases_loop
 loop-again c =
     let p = c.before.before in
     let t = p.before in
-    let l = t.before.before.loop-k in
+    let l = t.loop-k in
     let made = p.print_leg-c.ensures in
     let e : l.k + 1 - 1 ≡ l.k - 1 + 1 = omega (arith, l.invariant.0) in
     (omega arith, omega (arith, l.invariant.0, t.loop-k-test.true), rw e (printed_next _ _ _ (l.k - 1) l.invariant.2 made.0 made.1))
@@ -39,7 +39,7 @@ loop-again c =
 returns_2 : tie.Need-returns invariant_loop decreases_loop
 returns_2 c =
     let entry = c.before.before.before.before.before.before in
-    let l = c.before.before.loop-k in
+    let l = c.loop-k in
     let e : l.k - 1 ≡ entry.args.m.count - 1 = omega (arith, l.invariant.0, l.invariant.1, c.loop-k-test.false) in
     rw e at l.invariant.2
 

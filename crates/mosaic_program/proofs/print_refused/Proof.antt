@@ -4,7 +4,7 @@ use Rattle.mosaic_program.proofs.print_refused.Statement.{statement}
 use Rattle.mosaic_program.proofs.print_refused.Tie as tie
 
 returns : tie.Need-returns
-returns c = rw c.before.start.ensures at c.halted.ensures
+returns c = rw c.start.ensures at c.halted.ensures
 
 pub print_refused_spec : {M : Type 1} → statement M
 print_refused_spec =

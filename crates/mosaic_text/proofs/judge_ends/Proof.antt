@@ -12,14 +12,14 @@ returns c = simp (lt-ltb _ _ c.if-count-lt2.true)
 
 returns_2 : tie.Need-returns-then-count-gt64
 unfolding judge_ends
-returns_2 c = simp (le-ltb _ _ c.before.if-count-lt2.false, lt-ltb _ _ c.if-count-gt64.true)
+returns_2 c = simp (le-ltb _ _ c.if-count-lt2.false, lt-ltb _ _ c.if-count-gt64.true)
 
 returns_3 : tie.Need-returns-then-not-same_attitude
 unfolding judge_ends
 returns_3 c =
     let a = c.before in
     let e = a.before.before in
-    simp (le-ltb _ _ e.before.if-count-lt2.false, le-ltb _ _ e.if-count-gt64.false, unmet a.same_attitude.ensures c.if-not-same_attitude.true)
+    simp (le-ltb _ _ e.if-count-lt2.false, le-ltb _ _ e.if-count-gt64.false, unmet a.same_attitude.ensures c.if-not-same_attitude.true)
 
 returns-4 : tie.Need-returns-then-not-same_attitude-2
 unfolding judge_ends
@@ -28,7 +28,7 @@ returns-4 c =
     let m = b.before.before in
     let a = m.before in
     let e = a.before.before in
-    simp (le-ltb _ _ e.before.if-count-lt2.false, le-ltb _ _ e.if-count-gt64.false, met a.same_attitude.ensures m.if-not-same_attitude.false, unmet b.same_attitude-2.ensures c.if-not-same_attitude-2.true)
+    simp (le-ltb _ _ e.if-count-lt2.false, le-ltb _ _ e.if-count-gt64.false, met a.same_attitude.ensures m.if-not-same_attitude.false, unmet b.same_attitude-2.ensures c.if-not-same_attitude-2.true)
 
 returns-5 : tie.Need-returns
 unfolding judge_ends
@@ -37,7 +37,7 @@ returns-5 c =
     let m = b.before.before in
     let a = m.before in
     let e = a.before.before in
-    simp (le-ltb _ _ e.before.if-count-lt2.false, le-ltb _ _ e.if-count-gt64.false, met a.same_attitude.ensures m.if-not-same_attitude.false, met b.same_attitude-2.ensures c.if-not-same_attitude-2.false)
+    simp (le-ltb _ _ e.if-count-lt2.false, le-ltb _ _ e.if-count-gt64.false, met a.same_attitude.ensures m.if-not-same_attitude.false, met b.same_attitude-2.ensures c.if-not-same_attitude-2.false)
 
 pub judge_ends_spec : {M : Type 1} → statement M
 judge_ends_spec =

@@ -19,18 +19,18 @@ decreases_loop s at line₀ k₀ line k = length s - k
 
 loop-again : tie.Need-loop-k-preserved invariant_loop decreases_loop
 loop-again c =
-    let l = c.before.before.before.loop-k in
+    let l = c.loop-k in
     (omega arith, iter_next _ _ l.k l.invariant.1 c.line_turn-line.ensures, rw c.line_turn-line.ensures (line_low _ _ _ _ l.k l.invariant.2))
 
 returns : tie.Need-returns invariant_loop decreases_loop
 unfolding line_of
 returns c =
-    let l = c.before.loop-k in
-    let e : l.k ≡ length c.before.before.before.args.s.now = omega arith in
+    let l = c.loop-k in
+    let e : l.k ≡ length c.args.s.now = omega arith in
     rw e at l.invariant.1
 
 pub line_of_spec : {M : Type 1} → statement M
 line_of_spec =
     tie.close
     (tie.spec invariant_loop decreases_loop (λ c. (omega arith, iter_none _ _, omega arith)) (search rules)
-    (λ c κs. let l = c.before.before.loop-k in omega (arith, l.invariant.2)) (search rules) (search rules) loop-again returns)
+    (λ c κs. let l = c.loop-k in omega (arith, l.invariant.2)) (search rules) (search rules) loop-again returns)

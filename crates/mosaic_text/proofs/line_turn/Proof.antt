@@ -11,11 +11,11 @@ returns c = simp (le-leb _ _ c.if-k-at.true)
 
 returns_2 : tie.Need-returns-then-byte-eq10
 unfolding line_turn
-returns_2 c = simp (lt-leb _ _ c.before.if-k-at.false, eq-eqb _ _ c.if-byte-eq10.true)
+returns_2 c = simp (lt-leb _ _ c.if-k-at.false, eq-eqb _ _ c.if-byte-eq10.true)
 
 returns_3 : tie.Need-returns-else-byte-eq10
 unfolding line_turn
-returns_3 c = simp (lt-leb _ _ c.before.if-k-at.false, ne_eqb _ _ c.if-byte-eq10.false)
+returns_3 c = simp (lt-leb _ _ c.if-k-at.false, ne_eqb _ _ c.if-byte-eq10.false)
 
 pub line_turn_spec : {M : Type 1} → statement M
 line_turn_spec = tie.close (tie.spec returns (search rules) returns_2 returns_3)

@@ -6,11 +6,11 @@ use Rattle.mosaic_text.proofs.mosaic_of.Tie as tie
 
 returns : tie.Need-returns-in-Refused
 unfolding mosaic_of
-returns c = rw c.before.before.before.fate-1.given.1 (rw c.before.placed.ensures at c.wrong.ensures)
+returns c = rw c.in-Refused.is (rw c.placed.ensures at c.wrong.ensures)
 
 returns_2 : tie.Need-returns-in-Going
 unfolding mosaic_of
-returns_2 c = rw c.before.before.enum_told-1.given.1 c.with_tiles.ensures
+returns_2 c = rw c.in-Going.is c.with_tiles.ensures
 
 pub mosaic_of_spec : {M : Type 1} → statement M
 mosaic_of_spec = tie.close (tie.spec (search rules) (search rules) (search rules) (search rules) (search rules) returns returns_2)

@@ -11,11 +11,11 @@ returns c = simp (eq-eqb _ _ c.if-line-eq0.true)
 
 returns_2 : tie.Need-returns-then-line-gt16384
 unfolding MosaicTexts.placed
-returns_2 c = simp (ne_eqb _ _ c.before.if-line-eq0.false, lt-ltb _ _ c.if-line-gt16384.true)
+returns_2 c = simp (ne_eqb _ _ c.if-line-eq0.false, lt-ltb _ _ c.if-line-gt16384.true)
 
 returns_3 : tie.Need-returns
 unfolding MosaicTexts.placed
-returns_3 c = simp (ne_eqb _ _ c.before.if-line-eq0.false, le-ltb _ _ c.if-line-gt16384.false)
+returns_3 c = simp (ne_eqb _ _ c.if-line-eq0.false, le-ltb _ _ c.if-line-gt16384.false)
 
 pub placed_spec : {M : Type 1} → statement M
 placed_spec = tie.close (tie.spec returns returns_2 (search rules) returns_3)

@@ -16,24 +16,24 @@ abbrev decreases_loop : tie.decreases-loop-i
 decreases_loop s i₀ t3 t4 i = length s - i
 
 add-result : tie.Need-returns-then-is_at invariant_loop decreases_loop
-add-result c = omega (arith, c.before.is_at.ensures.within c.if-is_at.true)
+add-result c = omega (arith, c.is_at.ensures.within c.if-is_at.true)
 
 returns : tie.Need-is_at-requires-in-loop-i invariant_loop decreases_loop
 returns c =
     let i = c.before in
-    let l = i.before.before.before.loop-i in
+    let l = i.loop-i in
     let w = i.is_at.ensures.within c.if-is_at.true in
     record { is = sym (l.invariant.1 ∙ end_closed _ _ _ (omega arith) (sym i.is_at.ensures.is ∙ c.if-is_at.true)); after = omega (arith, l.invariant.2); within = w }
 
 add-result-2 : tie.Need-overflow_add-i invariant_loop decreases_loop
-add-result-2 c = omega (arith, c.before.is_at-in-loop-i.ensures.within c.if-is_at-2.true)
+add-result-2 c = omega (arith, c.is_at-in-loop-i.ensures.within c.if-is_at-2.true)
 
 returns_2 : tie.Need-loop-i-smaller invariant_loop decreases_loop
 returns_2 c =
     let j = c.before in
     let e = j.before.before in
     let i = e.before in
-    let l = i.before.before.before.loop-i in
+    let l = i.loop-i in
     let w = j.is_at-in-loop-i.ensures.within c.if-is_at-2.true in
     record { is = sym (l.invariant.1 ∙ end_tile _ _ _ (omega arith) (sym i.is_at.ensures.is ∙ e.if-is_at.false) (sym j.is_at-in-loop-i.ensures.is ∙ c.if-is_at-2.true)); after = omega (arith, l.invariant.2); within = omega (arith, w) }
 
@@ -42,12 +42,12 @@ loop-again c =
     let j = c.before in
     let e = j.before.before in
     let i = e.before in
-    let l = i.before.before.before.loop-i in
+    let l = i.loop-i in
     (omega arith, l.invariant.1 ∙ end_next _ _ _ (omega arith) (sym i.is_at.ensures.is ∙ e.if-is_at.false) (sym j.is_at-in-loop-i.ensures.is ∙ c.if-is_at-2.false), omega (arith, l.invariant.2))
 
 returns_3 : tie.Need-returns invariant_loop decreases_loop
 returns_3 c =
-    let l = c.before.loop-i in
+    let l = c.loop-i in
     record { is = sym (l.invariant.1 ∙ end_here _ _ _ (omega arith)); after = l.invariant.2; within = omega arith }
 
 pub problem_end_spec : {M : Type 1} → statement M

@@ -10,7 +10,7 @@ unfolding read_parts
 returns c =
     let t = c.before in
     let r = t.before in
-    let e = r.before.before.problem_end-end.ensures in
+    let e = r.problem_end-end.ensures in
     rw (← e.is) (rw (t.tiles_at-t.ensures, r.read-read.ensures) at c.mosaic_of.ensures)
 
 pub read_parts_spec : {M : Type 1} → statement M

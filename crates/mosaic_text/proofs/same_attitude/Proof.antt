@@ -10,13 +10,13 @@ returns c = simp (unequal _ _ c.if-a-b.true)
 
 returns_2 : tie.Need-returns-then-a-b-2
 unfolding same_attitude
-returns_2 c = simp (not_unequal _ _ c.before.before.before.if-a-b.false, unequal _ _ c.if-a-b-2.true)
+returns_2 c = simp (not_unequal _ _ c.if-a-b.false, unequal _ _ c.if-a-b-2.true)
 
 returns_3 : tie.Need-returns-then-a-b-3
 unfolding same_attitude
 returns_3 c =
-    let if1 = c.before.before.before.before.before.before.if-a-b in
-    simp (not_unequal _ _ if1.false, not_unequal _ _ c.before.before.before.if-a-b-2.false, unequal _ _ c.if-a-b-3.true)
+    let if1 = c.if-a-b in
+    simp (not_unequal _ _ if1.false, not_unequal _ _ c.if-a-b-2.false, unequal _ _ c.if-a-b-3.true)
 
 returns-4 : tie.Need-returns
 returns-4 c =

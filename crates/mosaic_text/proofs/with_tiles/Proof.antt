@@ -9,25 +9,25 @@ returns : tie.Need-returns-then-not-t
 unfolding with_tiles
 returns c =
     let t = c.before.before in
-    let start = t.before.before.before.args in
-    simp (not-true start.t.right t.if-not-t.true) (rw c.before.line_of.ensures at c.wrong.ensures)
+    let start = t.args in
+    simp (not-true start.t.right t.if-not-t.true) (rw c.line_of.ensures at c.wrong.ensures)
 
 returns_2 : tie.Need-returns-in-Refused
 unfolding with_tiles
 returns_2 c =
     let m = c.before.before in
-    let j = m.before.before in
+    let j = m.before in
     let e = j.before.before in
-    let start = e.before.before.before.args in
-    simp (not-false start.t.right e.if-not-t.false) (rw (← j.judge_ends-ends.ensures, m.ends-1.given.1) c.wrong-in-Refused.ensures)
+    let start = e.args in
+    simp (not-false start.t.right e.if-not-t.false) (rw (← j.judge_ends-ends.ensures, m.in-Refused.is) c.wrong-in-Refused.ensures)
 
 returns_3 : tie.Need-returns-in-Going
 unfolding with_tiles
 returns_3 c =
-    let j = c.before.before in
+    let j = c.before in
     let e = j.before.before in
-    let start = e.before.before.before.args in
-    simp (not-false start.t.right e.if-not-t.false) (rw (← j.judge_ends-ends.ensures, c.enum_told-1.given.1))
+    let start = e.args in
+    simp (not-false start.t.right e.if-not-t.false) (rw (← j.judge_ends-ends.ensures, c.in-Going.is))
 
 pub with_tiles_spec : {M : Type 1} → statement M
 with_tiles_spec = tie.close (tie.spec (search rules) (search rules) returns (search rules) (search rules) (search rules) (search rules) returns_2 returns_3)

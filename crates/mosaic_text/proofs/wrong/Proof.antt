@@ -4,7 +4,7 @@ use Rattle.mosaic_text.proofs.wrong.Statement.{statement}
 use Rattle.mosaic_text.proofs.wrong.Tie as tie
 
 returns : tie.Need-returns
-returns c = rw (c.before.before.read-none.ensures, c.no_tile-tile.ensures)
+returns c = rw (c.read-none.ensures, c.no_tile-tile.ensures)
 
 pub wrong_spec : {M : Type 1} → statement M
 wrong_spec = tie.close (tie.spec (search rules) (search rules) (search rules) returns)

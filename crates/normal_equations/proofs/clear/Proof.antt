@@ -20,12 +20,12 @@ abbrev decreases_loop : tie.decreases-loop-i
 decreases_loop v₀ i₀ v i = length v₀ - i
 
 loop-again : tie.Need-loop-i-preserved invariant_loop decreases_loop
-loop-again c = let l = c.before.loop-i in
-    (omega arith, simp length-set (omega arith), filled_set _ 0 l.i c.before.before.args.v.now l.v _ (omega arith) (omega arith) l.invariant.2 refl)
+loop-again c = let l = c.loop-i in
+    (omega arith, simp length-set (omega arith), filled_set _ 0 l.i c.args.v.now l.v _ (omega arith) (omega arith) l.invariant.2 refl)
 
 returns : tie.Need-returns invariant_loop decreases_loop
-returns c = let l = c.before.loop-i in
-    let v : List Float = c.before.before.args.v.now in
+returns c = let l = c.loop-i in
+    let v : List Float = c.args.v.now in
     let e : l.i ≡ length v = omega arith in
     filled_all (λ _. Floats.plus_zero) 0 v l.v l.invariant.1 (rw e at l.invariant.2) (λ x h. absurd (omega arith))
     ∙ sym (tab_of (length v) (λ _. Floats.plus_zero) Floats.plus_zero _ (length-replicate (length v) Floats.plus_zero) (λ k h. get_or-replicate (length v) k Floats.plus_zero Floats.plus_zero h))

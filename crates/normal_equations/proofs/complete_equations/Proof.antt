@@ -27,13 +27,13 @@ returns c =
     let n : ℕ = length a.g-1.now in
     let v : List Float = a.v-1.now in
     let o : ℕ = n * a.m in
-    let t = c.before.before.damp in
+    let t = c.damp in
     let p : List Float = t.new.0 in
     let h : o ≤ length v = omega (arith, entry.requires.2) in
     record {
       columns = take_at (take o v) (p ++ drop (length v - o) (drop o v)) o (length-take-le o v h);
       matrix = ap (λ x. rows n n x) (tail_back v p o h (t.auto.0 ∙ ap length (tail_part v o) ∙ length-drop o v)) ∙ t.ensures ∙ ap (λ x. damped n a.lambda (rows n n x)) (tail_part v o);
-      right = c.before.before.before.before.before.before.right_side.ensures;
+      right = c.right_side.ensures;
     }
 
 pub complete_equations_spec : {M : Type 1} → statement M

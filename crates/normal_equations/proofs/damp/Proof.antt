@@ -15,21 +15,21 @@ abbrev decreases_loop : tie.decreases-loop-k
 decreases_loop a₀ n lambda k₀ a k = n - k
 
 -- the place that is damped
-inside : (c : tie.In-loop-k invariant_loop decreases_loop) → c.before.loop-k.k * c.before.before.args.n + c.before.loop-k.k < length c.before.loop-k.a
-inside c = omega (arith, row_end c.before.loop-k.k c.before.before.args.n c.before.before.args.n (omega arith))
+inside : (c : tie.In-loop-k invariant_loop decreases_loop) → c.loop-k.k * c.args.n + c.loop-k.k < length c.loop-k.a
+inside c = omega (arith, row_end c.loop-k.k c.args.n c.args.n (omega arith))
 
 loop-again : tie.Need-loop-k-preserved invariant_loop decreases_loop
 loop-again c =
-    let l = c.before.before.loop-k in
-    let a = c.before.before.before.args in
+    let l = c.loop-k in
+    let a = c.args in
     (omega arith, simp length-set l.invariant.1, damped_more a.n a.lambda l.k a.a.now l.a (omega arith) (inside c.before) l.invariant.2)
 
 returns : tie.Need-returns invariant_loop decreases_loop
 returns c =
-    let l = c.before.loop-k in
-    let a = c.before.before.args in
+    let l = c.loop-k in
+    let a = c.args in
     let e : l.k ≡ a.n = omega arith in
-    damped_all a.n a.lambda a.a.now l.a (l.invariant.1 ∙ c.before.before.requires.1) (rw e at l.invariant.2)
+    damped_all a.n a.lambda a.a.now l.a (l.invariant.1 ∙ c.requires.1) (rw e at l.invariant.2)
 
 pub damp_spec : {M : Type 1} → statement M
 damp_spec =

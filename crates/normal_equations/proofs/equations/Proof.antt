@@ -7,9 +7,9 @@ use Rattle.normal_equations.proofs.equations.Tie as tie
 
 returns : tie.Need-returns
 returns c =
-    let a = c.before.before.before.before.before.before.before.before.before.before.before.before.before.before.args in
-    let t = c.before.before.before.before.complete_equations in
-    let s = c.before.before.before.before.before.before.before.before.before.gram_matrix in
+    let a = c.args in
+    let t = c.complete_equations in
+    let s = c.gram_matrix in
     gram_equations (length a.g-1.now) a.m a.v-1.now s.new.0 a.r.now a.lambda t.new.0 t.new.1.1.1.1.0 s.ensures.0 s.ensures.1 t.ensures
 
 pub equations_spec : {M : Type 1} → statement M

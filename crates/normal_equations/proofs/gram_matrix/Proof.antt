@@ -38,14 +38,14 @@ decreases_loop v₀ n m row₀ next₀ c₀ v row next c = n - c
 matrix-rows-requires : tie.Need-matrix_rows-requires invariant_loop decreases_loop
 matrix-rows-requires c κs = let s = c.before.before.before.before.before.before in
     let a = s.args in
-    let l = c.before.before.before.before.loop-c in
+    let l = c.loop-c in
     let e : a.n ≡ length (take a.n l.row-1) = sym (length-take-le a.n l.row-1 (omega arith)) in
     (omega arith, length-take-le a.n l.next-1 (omega arith) ∙ e, l.invariant.3 ∙ s.requires.1 ∙ ap (λ k. k * a.m + k * k) e)
 
 loop-again : tie.Need-loop-c-preserved invariant_loop decreases_loop
-loop-again c = let a = c.before.before.before.before.before.before.before.before.before.before.before.args in
-    let l = c.before.before.before.before.before.before.before.before.before.loop-c in
-    let t = c.before.before.before.before.matrix_rows in
+loop-again c = let a = c.args in
+    let l = c.loop-c in
+    let t = c.matrix_rows in
     let n : ℕ = a.n in
     let v₀ : List Float = a.v-1.now in
     let f : Inner.RowsFilled n a.m l.v-1 l.c t.new.0 =
@@ -63,21 +63,21 @@ loop-again c = let a = c.before.before.before.before.before.before.before.before
     )
 
 returns : tie.Need-returns-then-c-n invariant_loop decreases_loop
-returns c = let a = c.before.before.before.before.args in
-    let l = c.before.before.loop-c in
+returns c = let a = c.args in
+    let l = c.loop-c in
     (l.invariant.4, all a.n a.m a.v-1.now l.v-1 l.c (omega arith) l.invariant.5)
 
 matrix-row-requires : tie.Need-matrix_row-requires invariant_loop decreases_loop
 matrix-row-requires c κs = let s = c.before.before.before.before.before.before in
     let a = s.args in
-    let l = c.before.before.before.before.loop-c in
+    let l = c.loop-c in
     let e : a.n ≡ length (take a.n l.row-1) = sym (length-take-le a.n l.row-1 (omega arith)) in
     (omega arith, l.invariant.3 ∙ s.requires.1 ∙ ap (λ k. k * a.m + k * k) e)
 
 returns_2 : tie.Need-returns invariant_loop decreases_loop
-returns_2 c = let a = c.before.before.before.before.before.before.before.before.before.before.args in
-    let l = c.before.before.before.before.before.before.before.before.loop-c in
-    let t = c.before.before.before.matrix_row in
+returns_2 c = let a = c.args in
+    let l = c.loop-c in
+    let t = c.matrix_row in
     let n : ℕ = a.n in
     let f : Inner.RowFilled n a.m l.v-1 l.c t.new.0 =
     subst (λ k. Inner.RowFilled k a.m l.v-1 l.c t.new.0) (length-take-le n l.row-1 (omega arith)) t.ensures in

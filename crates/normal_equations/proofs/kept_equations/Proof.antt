@@ -26,7 +26,7 @@ complete-equations-requires c κs =
     let entry = c.before.before.before.before.before.before.before.before.before.before in
     let v : List Float = entry.args.v-1.now in
     let o : ℕ = length entry.args.g-1.now * entry.args.m in
-    let t = c.before.before.before.before.copy in
+    let t = c.copy in
     (entry.requires.0, entry.requires.1, length_pasted v t.new.0 o (length v) (omega (arith, entry.requires.2)) (omega arith) (t.auto.0 ∙ ap length (tail_part v o) ∙ length-drop o v) ∙ entry.requires.2)
 
 returns : tie.Need-returns
@@ -36,8 +36,8 @@ returns c =
     let n : ℕ = length a.g-1.now in
     let v : List Float = a.v-1.now in
     let o : ℕ = n * a.m in
-    let t = c.before.before.before.before.before.before.before.before.before.copy in
-    let s = c.before.before.before.before.complete_equations in
+    let t = c.copy in
+    let s = c.complete_equations in
     let p : List Float = t.new.0 in
     let h : o ≤ length v = omega (arith, entry.requires.2) in
     gram_equations n a.m v (pasted v o (length v) p) a.r.now a.lambda s.new.0 s.new.1.1.1.1.0

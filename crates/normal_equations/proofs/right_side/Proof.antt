@@ -21,11 +21,11 @@ abbrev decreases_loop : tie.decreases-loop-c
 decreases_loop g₀ j m r c₀ g c = length g₀ - c
 
 dot-requires : tie.Need-dot-x-requires invariant_loop decreases_loop
-dot-requires c κs = let a = c.before.before.before.before.before.before.args in omega (arith, length_row a.m a.j.now c.before.before.loop-c.c (omega (arith, row_end c.before.before.loop-c.c (length a.g.now) a.m (omega arith))), ap length (part_row a.m a.j.now c.before.before.loop-c.c _ _ refl refl))
+dot-requires c κs = let a = c.args in omega (arith, length_row a.m a.j.now c.loop-c.c (omega (arith, row_end c.loop-c.c (length a.g.now) a.m (omega arith))), ap length (part_row a.m a.j.now c.loop-c.c _ _ refl refl))
 
 loop-again : tie.Need-loop-c-preserved invariant_loop decreases_loop
-loop-again c = let a = c.before.before.before.before.before.before.before.args in
-    let l = c.before.before.before.loop-c in (
+loop-again c = let a = c.args in
+    let l = c.loop-c in (
       omega arith,
       simp length-set (omega arith),
       filled_set _ 0 l.c a.g.now l.g _ (omega arith) (omega arith) l.invariant.2
@@ -34,8 +34,8 @@ loop-again c = let a = c.before.before.before.before.before.before.before.args i
     )
 
 returns : tie.Need-returns invariant_loop decreases_loop
-returns c = let l = c.before.loop-c in
-    let a = c.before.before.before.before.before.args in
+returns c = let l = c.loop-c in
+    let a = c.args in
     let e : l.c ≡ length a.g.now = omega arith in
     filled_all _ 0 a.g.now l.g l.invariant.1 (rw e at l.invariant.2) (λ x h. absurd (omega arith)) ∙ sym (right_rows (length a.g.now) a.m a.j.now a.r.now)
 
@@ -46,12 +46,12 @@ right_side_spec =
     invariant_loop
     decreases_loop
     (λ c. (omega arith, refl, filled_none _ _ _))
-    (λ c. let a = c.before.before.before.before.before.args in omega (arith, row_end c.before.loop-c.c (length a.g.now) a.m (omega arith)))
-    (λ c. let a = c.before.before.before.before.before.args in omega (arith, row_end c.before.loop-c.c (length a.g.now) a.m (omega arith)))
-    (λ c. let a = c.before.before.before.before.before.args in omega (arith, row_end c.before.loop-c.c (length a.g.now) a.m (omega arith)))
-    (λ c. let a = c.before.before.before.before.before.args in omega (arith, row_end c.before.loop-c.c (length a.g.now) a.m (omega arith)))
-    (λ c. let a = c.before.before.before.before.before.args in omega (arith, row_end c.before.loop-c.c (length a.g.now) a.m (omega arith)))
-    (λ c. let a = c.before.before.before.before.before.args in omega (arith, row_end c.before.loop-c.c (length a.g.now) a.m (omega arith)))
+    (λ c. let a = c.args in omega (arith, row_end c.loop-c.c (length a.g.now) a.m (omega arith)))
+    (λ c. let a = c.args in omega (arith, row_end c.loop-c.c (length a.g.now) a.m (omega arith)))
+    (λ c. let a = c.args in omega (arith, row_end c.loop-c.c (length a.g.now) a.m (omega arith)))
+    (λ c. let a = c.args in omega (arith, row_end c.loop-c.c (length a.g.now) a.m (omega arith)))
+    (λ c. let a = c.args in omega (arith, row_end c.loop-c.c (length a.g.now) a.m (omega arith)))
+    (λ c. let a = c.args in omega (arith, row_end c.loop-c.c (length a.g.now) a.m (omega arith)))
     dot-requires
     (λ c. omega arith)
     (λ c. omega arith)

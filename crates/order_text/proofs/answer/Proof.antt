@@ -6,11 +6,11 @@ use Rattle.order_text.proofs.answer.Tie as tie
 
 returns : tie.Need-returns-in-Refused
 unfolding answer
-returns c = rw c.before.before.fate-1.given.1 c.refused.ensures
+returns c = rw c.in-Refused.is c.refused.ensures
 
 returns_2 : tie.Need-returns-in-Going
 unfolding answer
-returns_2 c = rw c.before.enum_told-1.given.1 c.order_read.ensures
+returns_2 c = rw c.in-Going.is c.order_read.ensures
 
 pub answer_spec : {M : Type 1} → statement M
 answer_spec = tie.close (tie.spec (search rules) (search rules) (search rules) (search rules) returns returns_2)

@@ -12,7 +12,7 @@ returns_2 c =
     let t = c.before.before in
     let a = t.before.before in
     let r = a.before in
-    tells _ r.read_tiles-read.ensures a.answer-a.ensures r.before.if-out-lt512.false t.tell.ensures
+    tells _ r.read_tiles-read.ensures a.answer-a.ensures r.if-out-lt512.false t.tell.ensures
 
 pub order_text_spec : {M : Type 1} → statement M
 order_text_spec = tie.close (tie.spec returns (search rules) (search rules) (search rules) (search rules) returns_2)

@@ -8,13 +8,13 @@ returns : tie.Need-returns-in-Search
 returns c =
     let planned = c.before.before in
     let e = planned.plan.ensures in
-    rw planned.before.before.enum_told-1.given.1 (search_is _ _ e.0, (e.1.0, search_answers _ _ e.1.1))
+    rw planned.in-Search.is (search_is _ _ e.0, (e.1.0, search_answers _ _ e.1.1))
 
 returns_2 : tie.Need-returns-in-Eigenaxis
 returns_2 c =
     let planned = c.before.before in
     let e = planned.plan_counted.ensures in
-    rw planned.before.before.before.method-1.given.1 (eigenaxis_is _ _ _ e.0, (e.1.0, eigenaxis_answers _ _ _ e.0 e.1.1))
+    rw planned.in-Eigenaxis.is (eigenaxis_is _ _ _ e.0, (e.1.0, eigenaxis_answers _ _ _ e.0 e.1.1))
 
 pub plan_by_spec : {M : Type 1} → statement M
 plan_by_spec =

@@ -7,9 +7,9 @@ use Rattle.plan_program.proofs.answer.Tie as tie
 
 returns : tie.Need-returns
 returns c =
-    let plan-text = c.before.before.before.before.before.before.before.plan_text-told in
+    let plan-text = c.plan_text-told in
     let told = plan-text.ensures.tells in
-    record { bytes = ap (λ (t : Told). t.bytes) told.is; prints = search rules; within = search rules; says = rw told.is at c.before.before.explain_plan-sentence.ensures; promised = plan-text.ensures.promised }
+    record { bytes = ap (λ (t : Told). t.bytes) told.is; prints = search rules; within = search rules; says = rw told.is at c.explain_plan-sentence.ensures; promised = plan-text.ensures.promised }
 
 pub answer_spec : {M : Type 1} → statement M
 answer_spec = tie.close (tie.spec (search rules) (search rules) (search rules) (search rules) (search rules) returns)

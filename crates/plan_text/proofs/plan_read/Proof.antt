@@ -7,13 +7,13 @@ use Rattle.plan_text.proofs.plan_read.Statement.{statement}
 use Rattle.plan_text.proofs.plan_read.Tie as tie
 
 returns : tie.Need-returns-in-Refused
-returns c = (c.refused.ensures ∙ rw c.before.before.fate-1.given.1, rw c.refused.ensures (leaves_none _), rw c.refused.ensures (refused_answers _ _ _ _))
+returns c = (c.refused.ensures ∙ rw c.in-Refused.is, rw c.refused.ensures (leaves_none _), rw c.refused.ensures (refused_answers _ _ _ _))
 
 returns_2 : tie.Need-returns-in-Going
 returns_2 c =
     let at-plan = c.before.before in
     let made = at-plan.plan.ensures in
-    (made.0 ∙ rw at-plan.before.before.before.enum_told-1.given.1, made.1.0, made.1.1)
+    (made.0 ∙ rw at-plan.enum_told-1.given.1, made.1.0, made.1.1)
 
 pub plan_read_spec : {M : Type 1} → statement M
 plan_read_spec = tie.close (tie.spec (search rules) (search rules) (search rules) (search rules) returns (search rules) returns_2)

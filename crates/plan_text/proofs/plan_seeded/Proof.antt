@@ -20,13 +20,13 @@ returns c =
     (made.0 ∙ seed_miscounted start.p start.seed.now (length start.ws-1.now) at-if1.if-seed-ne103.true, made.1.0, rw (ne_eqb (length start.seed.now) 103 at-if1.if-seed-ne103.true) made.1.1)
 
 shared-slice-read-plan-from : tie.Need-bounds-seed-0
-shared-slice-read-plan-from c = omega (arith, c.before.if-seed-ne103.false)
+shared-slice-read-plan-from c = omega (arith, c.if-seed-ne103.false)
 
 part-plan-from-end : tie.Need-slice_bounds-plan_from-end-2
-part-plan-from-end c = omega (arith, c.before.if-seed-ne103.false)
+part-plan-from-end c = omega (arith, c.if-seed-ne103.false)
 
 part-plan-from-end-2 : tie.Need-slice_bounds-plan_from-end-3
-part-plan-from-end-2 c = omega (arith, c.before.before.if-seed-ne103.false)
+part-plan-from-end-2 c = omega (arith, c.if-seed-ne103.false)
 
 returns_2 : tie.Need-returns
 returns_2 c =

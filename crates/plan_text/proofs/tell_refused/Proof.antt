@@ -5,7 +5,7 @@ use Rattle.plan_text.proofs.tell_refused.Statement.{statement}
 use Rattle.plan_text.proofs.tell_refused.Tie as tie
 
 returns : tie.Need-returns
-returns c = prints_refused c.before.before.write_refused-bytes.ensures
+returns c = prints_refused c.write_refused-bytes.ensures
 
 pub tell_refused_spec : {M : Type 1} → statement M
 tell_refused_spec = tie.close (tie.spec (search rules) (search rules) returns)

@@ -7,11 +7,11 @@ use Rattle.planner.proofs.answered.Tie as tie
 
 returns : tie.Need-returns-in-Refused
 unfolding Plans.answered
-returns c = c.refused.ensures ∙ rw c.before.before.fate-1.given.1 refl
+returns c = c.refused.ensures ∙ rw c.in-Refused.is refl
 
 returns_2 : tie.Need-returns-in-Going
 unfolding Plans.answered
-returns_2 c = c.check_end.ensures ∙ rw c.before.enum_told-1.given.1 refl
+returns_2 c = c.check_end.ensures ∙ rw c.in-Going.is refl
 
 pub answered_spec : {M : Type 1} → statement M
 answered_spec =

@@ -6,11 +6,11 @@ use Rattle.planner.proofs.check_end.Tie as tie
 
 returns : tie.Need-returns-in-Refused
 returns c =
-    let end-checks = c.before.before.before.before.end_checks-fate in
-    c.refused.ensures ∙ rw (← end-checks.ensures, c.before.before.fate-1.given.1) refl
+    let end-checks = c.end_checks-fate in
+    c.refused.ensures ∙ rw (← end-checks.ensures, c.in-Refused.is) refl
 
 returns_2 : tie.Need-returns-in-Going
-returns_2 c = rw (← c.before.before.before.end_checks-fate.ensures, c.before.enum_told-1.given.1, c.path_of.ensures) refl
+returns_2 c = rw (← c.end_checks-fate.ensures, c.in-Going.is, c.path_of.ensures) refl
 
 pub check_end_spec : {M : Type 1} → statement M
 check_end_spec =

@@ -5,10 +5,10 @@ use Rattle.planner.proofs.counted.Statement.{statement}
 use Rattle.planner.proofs.counted.Tie as tie
 
 returns : tie.Need-returns-then-rates-ne51
-returns c = counted_not c.before.args.rates.now c.before.args.torques.now c.if-rates-ne51.true
+returns c = counted_not c.args.rates.now c.args.torques.now c.if-rates-ne51.true
 
 returns_2 : tie.Need-returns
-returns_2 c = counted_so c.before.args.rates.now c.before.args.torques.now c.if-rates-ne51.false
+returns_2 c = counted_so c.args.rates.now c.args.torques.now c.if-rates-ne51.false
 
 pub counted_spec : {M : Type 1} → statement M
 counted_spec = tie.close (tie.spec returns returns_2)

@@ -3,7 +3,7 @@ use Rattle.planner.proofs.held_of.Statement.{statement}
 use Rattle.planner.proofs.held_of.Tie as tie
 
 returns : tie.Need-returns-then-found
-returns c = rw c.before.if-found.true
+returns c = rw c.if-found.true
 
 returns_2 : tie.Need-returns
 returns_2 c = rw c.if-found.false

@@ -7,7 +7,7 @@ use Rattle.planner.proofs.path_of.Tie as tie
 returns : tie.Need-returns
 unfolding Ieee.of_bits
 returns c =
-    let held_of = c.before.before.before.before.before.held_of-counts in
+    let held_of = c.held_of-counts in
     rw (c.control_dim.ensures, held_of.ensures)
 
 pub path_of_spec : {M : Type 1} → statement M

@@ -7,7 +7,7 @@ use Rattle.planner.proofs.profiled.Tie as tie
 
 returns : tie.Need-returns
 unfolding Plans.profiled
-returns c = c.bang_coast_bang.ensures ∙ rw c.before.tensor.ensures refl
+returns c = c.bang_coast_bang.ensures ∙ rw c.tensor.ensures refl
 
 pub profiled_spec : {M : Type 1} → statement M
 profiled_spec = tie.close (tie.spec (λ c κs. search rules) (λ c κs. search rules) returns)

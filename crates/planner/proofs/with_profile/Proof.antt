@@ -9,15 +9,15 @@ use Rattle.planner.proofs.with_profile.Tie as tie
 returns : tie.Need-returns-in-Refused
 unfolding Plans.with_profile
 returns c =
-    let profiled = c.before.before.before.before.profiled-made in
-    refusal _ c.refused.ensures (rw (← profiled.ensures, c.before.before.fate-1.given.1) refl)
+    let profiled = c.profiled-made in
+    refusal _ c.refused.ensures (rw (← profiled.ensures, c.in-Refused.is) refl)
 
 returns_2 : tie.Need-returns-in-Going
 returns_2 c =
-    let profiled = c.before.before.before.before.before.before.before.before.profiled-made in
-    let enum_told = c.before.before.before.before.before.before.enum_told-1 in
-    let sample-seed = c.before.before.before.before.sample_seed in
-    profiled_as _ _ profiled.ensures enum_told.given.1 sample-seed.ensures c.before.before.with_profile_seed.ensures
+    let profiled = c.profiled-made in
+    let enum_told = c.enum_told-1 in
+    let sample-seed = c.sample_seed in
+    profiled_as _ _ profiled.ensures enum_told.given.1 sample-seed.ensures c.with_profile_seed.ensures
 
 pub with_profile_spec : {M : Type 1} → statement M
 with_profile_spec =

@@ -12,21 +12,21 @@ enum_told c = search rules
 
 seeded-requires : tie.Need-seeded-requires
 seeded-requires c κs =
-    let entry = c.before.before.before.before.before.before.before in
-    (entry.requires.0, (served_narrow _ entry.requires.0 (sym c.before.before.before.served-fate.ensures ∙ c.before.enum_told-1.given.1), entry.requires.1))
+    let entry = c.before.before.before.before.before.before in
+    (entry.requires.0, (served_narrow _ entry.requires.0 (sym c.served-fate.ensures ∙ c.in-Going.is), entry.requires.1))
 
 returns : tie.Need-returns-in-Refused
 unfolding Plans.with_seed
 returns c =
-    let served = c.before.before.before.before.served-fate in
-    refusal _ c.refused.ensures (rw (← served.ensures, c.before.before.fate-1.given.1) refl)
+    let served = c.served-fate in
+    refusal _ c.refused.ensures (rw (← served.ensures, c.in-Refused.is) refl)
 
 returns_2 : tie.Need-returns-in-Going
 unfolding Plans.with_seed
 returns_2 c =
-    let served = c.before.before.before.before.before.before.served-fate in
-    let enum_told = c.before.before.before.before.enum_told-1 in
-    outcome_as c.before.before.seeded.ensures (rw (← served.ensures, enum_told.given.1) refl)
+    let served = c.served-fate in
+    let enum_told = c.enum_told-1 in
+    outcome_as c.seeded.ensures (rw (← served.ensures, enum_told.given.1) refl)
 
 pub with_seed_spec : {M : Type 1} → statement M
 with_seed_spec =

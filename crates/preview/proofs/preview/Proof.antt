@@ -5,9 +5,9 @@ use Rattle.preview.proofs.preview.Tie as tie
 
 returns : tie.Need-returns
 returns c =
-    let with-momenta = c.before.before.before.before.with_momenta-turning in
+    let with-momenta = c.with_momenta-turning in
     let turning = with-momenta.ensures in
-    let planned = c.before.before.plan-planned.ensures in
+    let planned = c.plan-planned.ensures in
     (rw (planned.0, turning), (planned.1.0, rw turning at planned.1.1))
 
 pub preview_spec : {M : Type 1} → statement M

@@ -7,14 +7,14 @@ use Rattle.problem.proofs.check.Tie as tie
 returns : tie.Need-returns-in-Refused
 unfolding Problems.check
 returns c =
-    let prepare = c.before.before.before.before.prepare-prepared in
-    rw (← prepare.ensures, c.before.before.fate-1.given.1) c.refused.ensures
+    let prepare = c.prepare-prepared in
+    rw (← prepare.ensures, c.in-Refused.is) c.refused.ensures
 
 returns_2 : tie.Need-returns-in-Going
 unfolding Problems.check
 returns_2 c =
-    let prepare = c.before.before.before.before.prepare-prepared in
-    rw (← prepare.ensures, c.before.before.enum_told-1.given.1) c.with_map.ensures
+    let prepare = c.prepare-prepared in
+    rw (← prepare.ensures, c.in-Going.is) c.with_map.ensures
 
 pub check_spec : {M : Type 1} → statement M
 check_spec =

@@ -4,10 +4,10 @@ use Rattle.problem.proofs.limit_fits.Statement.{statement}
 use Rattle.problem.proofs.limit_fits.Tie as tie
 
 returns : tie.Need-returns-in-Nothing
-returns c = rw c.enum_told-1.given.1
+returns c = rw c.in-Nothing.is
 
 returns_2 : tie.Need-returns-in-At
-returns_2 c = rw c.before.before.limit-1.given.1 c.is_positive.ensures
+returns_2 c = rw c.in-At.is c.is_positive.ensures
 
 pub limit_fits_spec : {M : Type 1} → statement M
 limit_fits_spec = tie.close (tie.spec (λ c. search rules) (λ c. search rules) (λ c κs. search rules) returns returns_2)

@@ -4,7 +4,7 @@ use Rattle.problem.proofs.limits_fit.Statement.{statement}
 use Rattle.problem.proofs.limits_fit.Tie as tie
 
 returns : tie.Need-returns
-returns c = rw (c.is_positive-3.ensures, c.before.is_positive-2.ensures, c.before.before.is_positive.ensures)
+returns c = rw (c.is_positive-3.ensures, c.is_positive-2.ensures, c.is_positive.ensures)
 
 pub limits_fit_spec : {M : Type 1} → statement M
 limits_fit_spec =

@@ -7,8 +7,8 @@ use Rattle.problem.proofs.numbers_fit.Tie as tie
 returns : tie.Need-returns
 unfolding Problems.numbers_fit
 returns c =
-    let limits-fit = c.before.before.before.before.limits_fit in
-    rw (c.tolerance_fits-2.ensures, c.before.tolerance_fits.ensures, c.before.before.weights_fit.ensures, c.before.before.before.limit_fits.ensures, limits-fit.ensures)
+    let limits-fit = c.limits_fit in
+    rw (c.tolerance_fits-2.ensures, c.tolerance_fits.ensures, c.weights_fit.ensures, c.limit_fits.ensures, limits-fit.ensures)
 
 pub numbers_fit_spec : {M : Type 1} → statement M
 numbers_fit_spec =

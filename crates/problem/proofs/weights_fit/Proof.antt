@@ -7,9 +7,9 @@ use Rattle.problem.proofs.weights_fit.Tie as tie
 returns : tie.Need-returns
 unfolding Problems.weights_fit
 returns c =
-    let weight-fits = c.before.before.before.before.before.weight_fits in
-    let weight-fits2 = c.before.before.before.before.weight_fits-2 in
-    rw (c.weight_fits-6.ensures, c.before.weight_fits-5.ensures, c.before.before.weight_fits-4.ensures, c.before.before.before.weight_fits-3.ensures, weight-fits2.ensures, weight-fits.ensures)
+    let weight-fits = c.weight_fits in
+    let weight-fits2 = c.weight_fits-2 in
+    rw (c.weight_fits-6.ensures, c.weight_fits-5.ensures, c.weight_fits-4.ensures, c.weight_fits-3.ensures, weight-fits2.ensures, weight-fits.ensures)
 
 pub weights_fit_spec : {M : Type 1} → statement M
 weights_fit_spec =

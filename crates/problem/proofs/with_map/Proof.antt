@@ -7,19 +7,19 @@ use Rattle.problem.proofs.with_map.Tie as tie
 
 returns : tie.Need-returns-then-not-numbers_fit
 unfolding Problems.with_map
-returns c = rw (unmet c.before.before.numbers_fit.ensures c.before.if-not-numbers_fit.true) c.refused.ensures
+returns c = rw (unmet c.numbers_fit.ensures c.if-not-numbers_fit.true) c.refused.ensures
 
 returns_2 : tie.Need-returns-in-Refused
 unfolding Problems.with_map
 returns_2 c =
-    let t = c.before.before.before.before in
-    rw (met t.before.before.before.before.numbers_fit.ensures t.before.before.before.if-not-numbers_fit.false, ← t.check_starts-fate.ensures, c.before.before.fate-1.given.1) c.refused-in-Refused.ensures
+    let t = c.before.before in
+    rw (met t.numbers_fit.ensures t.if-not-numbers_fit.false, ← t.check_starts-fate.ensures, c.in-Refused.is) c.refused-in-Refused.ensures
 
 returns_3 : tie.Need-returns-in-Going
 unfolding Problems.with_map
 returns_3 c =
-    let t = c.before.before.before in
-    rw (met t.before.before.before.before.numbers_fit.ensures t.before.before.before.if-not-numbers_fit.false, ← t.check_starts-fate.ensures, c.before.enum_told-1.given.1) c.with_starts.ensures
+    let t = c.before.before in
+    rw (met t.numbers_fit.ensures t.if-not-numbers_fit.false, ← t.check_starts-fate.ensures, c.in-Going.is) c.with_starts.ensures
 
 pub with_map_spec : {M : Type 1} → statement M
 with_map_spec =

@@ -9,7 +9,7 @@ unfolding actuators
 returns c =
     let pyramid = c.before.before in
     let thrusters = pyramid.before.before.before.before.before.before in
-    rw (pyramid.cmgs_of-cmgs.ensures, thrusters.thrusters_of-thrusters.ensures, thrusters.before.wheels_of-wheels.ensures)
+    rw (pyramid.cmgs_of-cmgs.ensures, thrusters.thrusters_of-thrusters.ensures, thrusters.wheels_of-wheels.ensures)
 
 pub actuators_of_spec : {M : Type 1} → statement M
 actuators_of_spec =

@@ -4,7 +4,7 @@ use Rattle.problem_numbers.proofs.prepared_of.Statement.{statement}
 use Rattle.problem_numbers.proofs.prepared_of.Tie as tie
 
 returns : tie.Need-returns
-returns c = rw (c.prepare.ensures, c.before.actuators_of.ensures)
+returns c = rw (c.prepare.ensures, c.actuators_of.ensures)
 
 pub prepared_of_spec : {M : Type 1} → statement M
 prepared_of_spec = tie.close (tie.spec (λ c κs. search rules) (λ c κs. search rules) returns)

@@ -10,7 +10,7 @@ returns c =
     let momenta = c.before.before in
     let actuators = momenta.before in
     let weights = actuators.before in
-    rw (momenta.momenta_of_law.ensures, actuators.actuators_of-actuators.ensures, weights.weights_of-weights.ensures, weights.before.limit_of_law.ensures)
+    rw (momenta.momenta_of-momenta.ensures, actuators.actuators_of-actuators.ensures, weights.weights_of-weights.ensures, weights.limit_of-slew.ensures)
 
 pub problem_of_spec : {M : Type 1} → statement M
 problem_of_spec =

@@ -6,7 +6,7 @@ use Rattle.problem_numbers.proofs.wheel_of.Tie as tie
 
 returns : tie.Need-returns
 unfolding wheel_of
-returns c = rw c.limit_of_law.ensures
+returns c = rw c.limit_of-most.ensures
 
 pub wheel_of_spec : {M : Type 1} → statement M
 wheel_of_spec = tie.close (tie.spec (λ c κs. search rules) returns)

@@ -21,11 +21,11 @@ loop-holds : tie.Need-loop-k-init invariant_loop decreases_loop
 loop-holds c = (omega arith, rw c.blank_wheel-blank.ensures (iter_none _ _))
 
 loop-again : tie.Need-loop-k-preserved invariant_loop decreases_loop
-loop-again c = (omega arith, iter_next _ _ _ c.before.before.loop-k.invariant.1 (rw c.wheel_at.ensures refl))
+loop-again c = (omega arith, iter_next _ _ _ c.loop-k.invariant.1 (rw c.wheel_at.ensures refl))
 
 returns : tie.Need-returns invariant_loop decreases_loop
 unfolding wheels iter
-returns c = let e : c.before.loop-k.k ≡ 8 = omega arith in rw e at c.before.loop-k.invariant.1
+returns c = let e : c.loop-k.k ≡ 8 = omega arith in rw e at c.loop-k.invariant.1
 
 pub wheels_of_spec : {M : Type 1} → statement M
 wheels_of_spec =

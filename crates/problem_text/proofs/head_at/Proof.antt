@@ -7,11 +7,11 @@ use Rattle.problem_text.proofs.head_at.Tie as tie
 
 returns : tie.Need-returns-then-s-gt4096
 unfolding head_at_value
-returns c = simp (lt-ltb _ _ c.before.if-s-gt4096.true) c.nothing.ensures
+returns c = simp (lt-ltb _ _ c.if-s-gt4096.true) c.nothing.ensures
 
 returns_2 : tie.Need-returns
 unfolding head_at_value
-returns_2 c = simp (le-ltb _ _ c.before.if-s-gt4096.false) c.lines_at.ensures
+returns_2 c = simp (le-ltb _ _ c.if-s-gt4096.false) c.lines_at.ensures
 
 pub head_at_spec : {M : Type 1} → statement M
 head_at_spec = tie.close (tie.spec (search rules) returns (search rules) returns_2)

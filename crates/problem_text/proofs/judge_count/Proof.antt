@@ -7,19 +7,19 @@ use Rattle.problem_text.proofs.judge_count.Tie as tie
 
 returns : tie.Need-returns-in-Refused
 unfolding judge_count
-returns c = simp c.enum_told-1.given.1
+returns c = simp c.in-Refused.is
 
 returns_2 : tie.Need-returns-then-row-actuators
 unfolding judge_count
 returns_2 c =
-    let enum-told2 = c.before.before.before.before.before.before.enum_told-in-Going-1 in
+    let enum-told2 = c.enum_told-in-Going-1 in
     simp (enum-told2.given.1, eq-eqb _ _ c.if-row-actuators.true)
 
 returns_3 : tie.Need-returns-else-row-actuators
 unfolding judge_count
 returns_3 c =
-    let enum-told2 = c.before.before.before.before.before.before.before.enum_told-in-Going-1 in
-    simp (enum-told2.given.1, ne_eqb _ _ c.before.if-row-actuators.false) c.nothing.ensures
+    let enum-told2 = c.enum_told-in-Going-1 in
+    simp (enum-told2.given.1, ne_eqb _ _ c.if-row-actuators.false) c.nothing.ensures
 
 pub judge_count_spec : {M : Type 1} → statement M
 judge_count_spec = tie.close (tie.spec (search rules) (search rules) (search rules) (search rules) returns returns_2 returns_3)

@@ -8,7 +8,7 @@ returns : tie.Need-returns
 returns c =
     let b = c.before in
     let a = b.before in
-    nine_lines _ _ _ _ _ _ a.before.nothing-c.ensures a.attitude_lines.ensures b.body_lines.ensures c.plan_lines.ensures
+    nine_lines _ _ _ _ _ _ a.nothing-c.ensures a.attitude_lines.ensures b.body_lines.ensures c.plan_lines.ensures
 
 pub lines_at_spec : {M : Type 1} → statement M
 lines_at_spec = tie.close (tie.spec (search rules) (search rules) (search rules) (search rules) returns)

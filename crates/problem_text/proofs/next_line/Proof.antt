@@ -6,11 +6,11 @@ use Rattle.problem_text.proofs.next_line.Tie as tie
 
 returns : tie.Need-returns-in-Refused
 unfolding next_line
-returns c = simp c.enum_told-1.given.1
+returns c = simp c.in-Refused.is
 
 returns_2 : tie.Need-returns-in-Going
 unfolding next_line
-returns_2 c = simp c.before.before.enum_told-in-Going-1.given.1 (rw c.before.line_at_lem.ensures at c.with_row.ensures)
+returns_2 c = simp c.in-Going.is (rw c.before.line_at_lem.ensures at c.with_row.ensures)
 
 pub next_line_spec : {M : Type 1} → statement M
 next_line_spec = tie.close (tie.spec (search rules) (search rules) (search rules) (search rules) returns returns_2)

@@ -6,11 +6,11 @@ use Rattle.problem_text.proofs.next_list.Tie as tie
 
 returns : tie.Need-returns-in-Refused
 unfolding next_list
-returns c = simp c.enum_told-1.given.1
+returns c = simp c.in-Refused.is
 
 returns_2 : tie.Need-returns-in-Going
 unfolding next_list
-returns_2 c = simp c.before.enum_told-in-Going-1.given.1 c.with_list.ensures
+returns_2 c = simp c.in-Going.is c.with_list.ensures
 
 pub next_list_spec : {M : Type 1} → statement M
 next_list_spec = tie.close (tie.spec (search rules) (search rules) (search rules) returns returns_2)

@@ -8,7 +8,7 @@ returns : tie.Need-returns
 returns c =
     let c2 = c.before.before.before in
     let c1 = c2.before.before.before in
-    three_lines _ _ _ _ _ _ _ _ _ c1.next_line_law.ensures c2.next_line-c-2.ensures c.next_line.ensures
+    three_lines _ _ _ _ _ _ _ _ _ c1.next_line-c.ensures c2.next_line-c-2.ensures c.next_line.ensures
 
 pub plan_lines_spec : {M : Type 1} → statement M
 plan_lines_spec =

@@ -6,7 +6,7 @@ use Rattle.problem_text.proofs.problem_of.Tie as tie
 
 returns : tie.Need-returns
 unfolding problem_of
-returns c = rw (c.momenta_of_law.ensures, c.before.weights_of.ensures, c.before.before.quat_of-2.ensures, c.before.before.before.quat_of.ensures)
+returns c = rw (c.momenta_of.ensures, c.weights_of.ensures, c.quat_of-2.ensures, c.quat_of.ensures)
 
 pub problem_of_spec : {M : Type 1} → statement M
 problem_of_spec =

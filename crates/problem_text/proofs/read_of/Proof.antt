@@ -7,8 +7,8 @@ use Rattle.problem_text.proofs.read_of.Tie as tie
 returns : tie.Need-returns
 unfolding read_of
 returns c =
-    let next-list = c.before.before.before.before.next_list in
-    rw (c.problem_of_law.ensures, ← next-list.ensures, ← c.before.before.before.judge_count-c.ensures)
+    let next-list = c.next_list in
+    rw (c.problem_of.ensures, ← next-list.ensures, ← c.judge_count-c.ensures)
 
 pub read_of_spec : {M : Type 1} → statement M
 read_of_spec = tie.close (tie.spec (search rules) (search rules) (search rules) returns)

@@ -6,19 +6,19 @@ use Rattle.problem_text.proofs.with_list.Tie as tie
 
 returns : tie.Need-returns-then-list
 unfolding with_list
-returns c = simp c.before.if-list.true c.nothing.ensures
+returns c = simp c.if-list.true c.nothing.ensures
 
 returns_2 : tie.Need-returns-in-Refused
 unfolding with_list
 returns_2 c =
-    let if1 = c.before.before.before.before.if-list in
-    simp (if1.false, c.before.before.fate-1.given.1) c.nothing-in-Refused.ensures
+    let if1 = c.if-list in
+    simp (if1.false, c.in-Refused.is) c.nothing-in-Refused.ensures
 
 returns_3 : tie.Need-returns-in-Going
 unfolding with_list
 returns_3 c =
-    let if1 = c.before.before.before.before.if-list in
-    simp (if1.false, c.before.before.enum_told-1.given.1)
+    let if1 = c.if-list in
+    simp (if1.false, c.in-Going.is)
 
 pub with_list_spec : {M : Type 1} → statement M
 with_list_spec = tie.close (tie.spec (search rules) returns (search rules) (search rules) (search rules) returns_2 returns_3)

@@ -11,8 +11,8 @@ float-from-bits-box-turn c = search rules
 returns : tie.Need-returns
 unfolding of_bits
 returns c =
-    let apply-tensor = c.before.before.before.before.apply_tensor-jn in
-    rw (c.acceleration_of.ensures, c.before.box_turn.ensures, c.before.before.box_turn-b.ensures, c.before.before.before.box_turn-a.ensures, apply-tensor.ensures)
+    let apply-tensor = c.apply_tensor-jn in
+    rw (c.acceleration_of.ensures, c.box_turn.ensures, c.box_turn-b.ensures, c.box_turn-a.ensures, apply-tensor.ensures)
 
 pub alpha_from_box_spec : {M : Type 1} → statement M
 alpha_from_box_spec =

@@ -7,7 +7,7 @@ use Rattle.profile.proofs.bang_coast_bang.Tie as tie
 
 returns : tie.Need-returns-then-n
 unfolding bang_coast_bang with_relative of_bits
-returns c = rw (c.refused.ensures, ← c.before.before.before.relative-rel.ensures, ← c.before.before.norm3-n.ensures, c.before.if-n.true)
+returns c = rw (c.refused.ensures, ← c.relative-rel.ensures, ← c.norm3-n.ensures, c.if-n.true)
 
 returns_2 : tie.Need-returns-then-abs-tie
 unfolding bang_coast_bang with_relative of_bits neg
@@ -16,7 +16,7 @@ returns_2 c =
     let branch1 = after-clamp.before in
     let after-norm3 = branch1.before in
     let after-relative = after-norm3.before in
-    rw (c.refused-then-abs-tie.ensures, ← after-relative.relative-rel.ensures, ← after-norm3.norm3-n.ensures, branch1.if-n.false, ← after-clamp.clamp-dotted.ensures, ← c.before.before.abs.ensures, c.before.if-abs-tie.true)
+    rw (c.refused-then-abs-tie.ensures, ← after-relative.relative-rel.ensures, ← after-norm3.norm3-n.ensures, branch1.if-n.false, ← after-clamp.clamp-dotted.ensures, ← c.abs.ensures, c.if-abs-tie.true)
 
 returns_3 : tie.Need-returns
 unfolding bang_coast_bang with_relative of_bits neg
@@ -27,7 +27,7 @@ returns_3 c =
     let branch1 = after-clamp.before in
     let after-norm3 = branch1.before in
     let after-relative = after-norm3.before in
-    rw (c.with_half.ensures, c.before.acos.ensures, ← after-relative.relative-rel.ensures, ← after-norm3.norm3-n.ensures, branch1.if-n.false, ← after-clamp.clamp-dotted.ensures, ← after-abs.abs.ensures, branch2.if-abs-tie.false)
+    rw (c.with_half.ensures, c.acos.ensures, ← after-relative.relative-rel.ensures, ← after-norm3.norm3-n.ensures, branch1.if-n.false, ← after-clamp.clamp-dotted.ensures, ← after-abs.abs.ensures, branch2.if-abs-tie.false)
 
 pub bang_coast_bang_spec : {M : Type 1} → statement M
 bang_coast_bang_spec =

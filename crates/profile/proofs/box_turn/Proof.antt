@@ -7,11 +7,11 @@ use Rattle.profile.proofs.box_turn.Tie as tie
 
 returns : tie.Need-returns-then-size
 unfolding box_turn of_bits
-returns c = rw (← c.before.abs-size.ensures, c.if-size.true)
+returns c = rw (← c.abs-size.ensures, c.if-size.true)
 
 returns_2 : tie.Need-returns-else-size
 unfolding box_turn of_bits
-returns_2 c = rw (← c.before.before.abs-size.ensures, c.before.if-size.false, c.min.ensures)
+returns_2 c = rw (← c.abs-size.ensures, c.if-size.false, c.min.ensures)
 
 pub box_turn_spec : {M : Type 1} → statement M
 box_turn_spec = tie.close (tie.spec (λ c κs. search rules) (λ c κs. search rules) returns returns_2)

@@ -8,12 +8,12 @@ use Rattle.profile.proofs.relative.Tie as tie
 returns : tie.Need-returns-then-dot
 unfolding relative of_bits
 returns c =
-    let dot = c.before.before.before.before.dot in
-    rw (c.mul.ensures, c.before.negate.ensures, c.before.before.conjugate.ensures, ← dot.ensures, c.before.before.before.if-dot.true)
+    let dot = c.dot in
+    rw (c.mul.ensures, c.negate.ensures, c.conjugate.ensures, ← dot.ensures, c.if-dot.true)
 
 returns_2 : tie.Need-returns-else-dot
 unfolding relative of_bits
-returns_2 c = rw (c.mul-else-dot.ensures, c.before.conjugate-else-dot.ensures, ← c.before.before.before.dot.ensures, c.before.before.if-dot.false)
+returns_2 c = rw (c.mul-else-dot.ensures, c.conjugate-else-dot.ensures, ← c.dot.ensures, c.if-dot.false)
 
 pub relative_spec : {M : Type 1} → statement M
 relative_spec =

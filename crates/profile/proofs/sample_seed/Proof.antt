@@ -30,20 +30,20 @@ unfolding rates_to torques_to
 loop-again c =
     let turned = c.before.before in
     let timed = turned.before.before in
-    let l = timed.before.before.loop-i in
-    let p = timed.before.before.before.args.p in (
+    let l = timed.loop-i in
+    let p = timed.args.p in (
       search rules,
       (search rules, search rules),
       search rules,
       (
-        next_node (λ k. omega_vec p (node_time p.duration k)) _ _ _ l.invariant.3.0 (rw (turned.with_node-next_rates.ensures, turned.before.omega_vec.ensures, timed.node_time-t.ensures, l.invariant.2)),
-        next_node (λ k. torque_vec p (node_time p.duration k)) _ _ _ l.invariant.3.1 (rw (c.with_node-next_torques.ensures, c.before.torque_vec.ensures, timed.node_time-t.ensures, l.invariant.2)),
+        next_node (λ k. omega_vec p (node_time p.duration k)) _ _ _ l.invariant.3.0 (rw (turned.with_node-next_rates.ensures, turned.omega_vec.ensures, timed.node_time-t.ensures, l.invariant.2)),
+        next_node (λ k. torque_vec p (node_time p.duration k)) _ _ _ l.invariant.3.1 (rw (c.with_node-next_torques.ensures, c.torque_vec.ensures, timed.node_time-t.ensures, l.invariant.2)),
       ),
     )
 
 returns : tie.Need-returns invariant_loop decreases_loop
 returns c =
-    let l = c.before.loop-i in
+    let l = c.loop-i in
     let e : l.i ≡ 17 = omega arith in
     let r = rw e at (all_nodes _ _ l.i (omega arith) l.invariant.3.0) in
     let t = rw e at (all_nodes _ _ l.i (omega arith) l.invariant.3.1) in

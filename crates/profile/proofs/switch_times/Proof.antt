@@ -6,13 +6,13 @@ use Rattle.profile.proofs.switch_times.Tie as tie
 
 returns : tie.Need-returns-in-Nothing
 unfolding switch_times lib.Ieee.of_bits
-returns c = rw (c.enum_told-1.given.1, c.before.before.sqrt-bang.ensures)
+returns c = rw (c.in-Nothing.is, c.sqrt-bang.ensures)
 
 returns_2 : tie.Need-returns-in-At
 unfolding switch_times
 returns_2 c =
-    let sqrt = c.before.before.before.before.sqrt-bang in
-    rw (c.before.before.slew_limit-1.given.1, c.limited.ensures, sqrt.ensures)
+    let sqrt = c.sqrt-bang in
+    rw (c.in-At.is, c.limited.ensures, sqrt.ensures)
 
 pub switch_times_spec : {M : Type 1} → statement M
 switch_times_spec = tie.close (tie.spec (λ c κs. search rules) (λ c. search rules) (λ c. search rules) (λ c κs. search rules) returns returns_2)

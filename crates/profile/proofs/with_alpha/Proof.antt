@@ -4,10 +4,10 @@ use Rattle.profile.proofs.with_alpha.Statement.{statement}
 use Rattle.profile.proofs.with_alpha.Tie as tie
 
 returns : tie.Need-returns-in-Not
-returns c = rw (c.before.enum_told-1.given.1, c.refused.ensures)
+returns c = rw (c.in-Not.is, c.refused.ensures)
 
 returns_2 : tie.Need-returns-in-Is
-returns_2 c = rw (c.before.before.before.a-1.given.1, c.with_switches.ensures, c.before.switch_times.ensures)
+returns_2 c = rw (c.in-Is.is, c.with_switches.ensures, c.switch_times.ensures)
 
 pub with_alpha_spec : {M : Type 1} → statement M
 with_alpha_spec =

@@ -5,11 +5,11 @@ use Rattle.profile.proofs.with_switches.Statement.{statement}
 use Rattle.profile.proofs.with_switches.Tie as tie
 
 returns : tie.Need-returns-in-Refused
-returns c = rw (c.before.before.times-1.given.1, c.refused.ensures)
+returns c = rw (c.in-Refused.is, c.refused.ensures)
 
 returns_2 : tie.Need-returns-in-Are
 unfolding of_bits
-returns_2 c = rw (c.before.before.times-in-Are-1.given.1, c.flatten-inertia.ensures)
+returns_2 c = rw (c.in-Are.is, c.flatten-inertia.ensures)
 
 pub with_switches_spec : {M : Type 1} → statement M
 with_switches_spec = tie.close (tie.spec (λ c. search rules) (λ c κs. search rules) (λ c. search rules) (λ c κs. search rules) returns returns_2)

@@ -6,19 +6,19 @@ use Rattle.reach_avoid.proofs.after.Statement.{statement}
 use Rattle.reach_avoid.proofs.after.Tie as tie
 
 returns : tie.Need-returns-then-r-lt3
-returns c = let a = c.before.args in after_out a.x a.y a.i a.j a.t.now (λ p q r s. omega arith)
+returns c = let a = c.args in after_out a.x a.y a.i a.j a.t.now (λ p q r s. omega arith)
 
 returns_2 : tie.Need-returns-then-r-gt19
-returns_2 c = let a = c.before.before.args in after_out a.x a.y a.i a.j a.t.now (λ p q r s. omega arith)
+returns_2 c = let a = c.args in after_out a.x a.y a.i a.j a.t.now (λ p q r s. omega arith)
 
 returns_3 : tie.Need-returns-then-a-lt11
-returns_3 c = let a = c.before.before.before.args in after_out a.x a.y a.i a.j a.t.now (λ p q r s. omega arith)
+returns_3 c = let a = c.args in after_out a.x a.y a.i a.j a.t.now (λ p q r s. omega arith)
 
 returns-4 : tie.Need-returns-then-a-gt139
-returns-4 c = let a = c.before.before.before.before.args in after_out a.x a.y a.i a.j a.t.now (λ p q r s. omega arith)
+returns-4 c = let a = c.args in after_out a.x a.y a.i a.j a.t.now (λ p q r s. omega arith)
 
 returns-5 : tie.Need-returns
-returns-5 c = let a = c.before.before.before.before.before.args in
+returns-5 c = let a = c.args in
     after_in a.x a.y a.i a.j a.t.now (omega arith) (omega arith) (omega arith) (omega arith)
 
 pub after_spec : {M : Type 1} → statement M

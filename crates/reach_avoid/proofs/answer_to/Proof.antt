@@ -17,16 +17,16 @@ returns c = let s = c.before.before in
 returns_2 : tie.Need-returns-then-j-lt3
 returns_2 c = let s = c.before.before.before.before.before in
     let a = s.args in
-    let j = c.before.before.lowest_reply-j in
+    let j = c.lowest_reply-j in
     rw (sub_back j.result 1 (omega arith) (omega arith) c.less.ensures)
-    (reply_with a.n (state_at a.k) (room.drive a.i) (held_away a.t.now s.requires.4 a.k s.requires.0 c.before.before.before.if-t-k-eq0.false)
-    (j.ensures ∙ held_answer a.t.now s.requires.4 a.n s.requires.2 s.requires.3 (state_at a.k) (room.drive a.i)) c.before.if-j-lt3.true)
+    (reply_with a.n (state_at a.k) (room.drive a.i) (held_away a.t.now s.requires.4 a.k s.requires.0 c.if-t-k-eq0.false)
+    (j.ensures ∙ held_answer a.t.now s.requires.4 a.n s.requires.2 s.requires.3 (state_at a.k) (room.drive a.i)) c.if-j-lt3.true)
 
 returns_3 : tie.Need-returns
 returns_3 c = let s = c.before.before.before.before in
     let a = s.args in
-    reply_without a.n (state_at a.k) (room.drive a.i) (held_away a.t.now s.requires.4 a.k s.requires.0 c.before.before.if-t-k-eq0.false)
-    (c.before.lowest_reply-j.ensures ∙ held_answer a.t.now s.requires.4 a.n s.requires.2 s.requires.3 (state_at a.k) (room.drive a.i)) c.if-j-lt3.false
+    reply_without a.n (state_at a.k) (room.drive a.i) (held_away a.t.now s.requires.4 a.k s.requires.0 c.if-t-k-eq0.false)
+    (c.lowest_reply-j.ensures ∙ held_answer a.t.now s.requires.4 a.n s.requires.2 s.requires.3 (state_at a.k) (room.drive a.i)) c.if-j-lt3.false
 
 pub answer_to_spec : {M : Type 1} → statement M
 answer_to_spec =
@@ -35,6 +35,6 @@ answer_to_spec =
     (λ c. search rules)
     returns
     (λ c κs. search rules)
-    (λ c κs. (omega arith, sub-fits c.before.lowest_reply-j.result 1 (omega arith) (omega arith)))
+    (λ c κs. (omega arith, sub-fits c.lowest_reply-j.result 1 (omega arith) (omega arith)))
     returns_2
     returns_3)

@@ -17,11 +17,11 @@ loop-holds : tie.Need-loop-k-init invariant_loop decreases_loop
 loop-holds c = (omega arith, record { size = length-replicate {A = ℕ} 2193 255; done = λ x h. absurd (omega arith); ahead = λ x h l. get_or-replicate 2193 x 255 0 l })
 
 loop-again : tie.Need-loop-k-preserved invariant_loop decreases_loop
-loop-again c = let l = c.before.before.loop-k in
+loop-again c = let l = c.loop-k in
     (omega arith, stored_more (turns_at_value 0) (λ _. 255) l.k l.t c.first_entry.result (omega arith) l.invariant.1 c.first_entry.ensures)
 
 returns : tie.Need-returns invariant_loop decreases_loop
-returns c = let l = c.before.loop-k in record { size = l.invariant.1.size; entry = λ x h. l.invariant.1.done x (omega arith) }
+returns c = let l = c.loop-k in record { size = l.invariant.1.size; entry = λ x h. l.invariant.1.done x (omega arith) }
 
 pub begin_spec : {M : Type 1} → statement M
 begin_spec =

@@ -19,26 +19,26 @@ both : {a b : Bool} → a ≡ true → b ≡ true → (a && b) ≡ true
 both p q = rw (p, q)
 
 returns : tie.Need-returns-then-z-low
-returns c = let f = c.before.ranges in rw (test f.z f.low c.if-z-low.true)
+returns c = let f = c.ranges in rw (test f.z f.low c.if-z-low.true)
 
 returns_2 : tie.Need-returns-then-high-z
-returns_2 c = let a = c.before.before.args in
-    let f = c.before.before.ranges in rw (test f.high f.z c.if-high-z.true) (rw (and-false (le_z a.low a.z)))
+returns_2 c = let a = c.args in
+    let f = c.ranges in rw (test f.high f.z c.if-high-z.true) (rw (and-false (le_z a.low a.z)))
 
 sub-result : tie.Need-overflow_sub-result
 sub-result c = let s = c.before.before in
-    let f = s.ranges in rw (to_z-of_z f.z, to_z-of_z f.low) (s.requires (both (test f.z f.low c.before.if-z-low.false) (test f.high f.z c.if-high-z.false))).0
+    let f = s.ranges in rw (to_z-of_z f.z, to_z-of_z f.low) (s.requires (both (test f.z f.low c.if-z-low.false) (test f.high f.z c.if-high-z.false))).0
 
 cast-result : tie.Need-overflow_cast-result
 cast-result c = let s = c.before.before in
     let f = s.ranges in
-    let p = s.requires (both (test f.z f.low c.before.if-z-low.false) (test f.high f.z c.if-high-z.false)) in
+    let p = s.requires (both (test f.z f.low c.if-z-low.false) (test f.high f.z c.if-high-z.false)) in
     rw (to_z-of_z f.z, to_z-of_z f.low, to_z-of_z p.0) (p.1, record { fits = omega (arith, nat_abs-le (s.args.z -ℤ s.args.low) p.0.sfits) })
 
 returns_3 : tie.Need-returns
 returns_3 c = let s = c.before.before in
     let f = s.ranges in
-    let w = both (test f.z f.low c.before.if-z-low.false) (test f.high f.z c.if-high-z.false) in
+    let w = both (test f.z f.low c.if-z-low.false) (test f.high f.z c.if-high-z.false) in
     rw (to_z-of_z f.z, to_z-of_z f.low, to_z-of_z (s.requires w).0) (rw w)
 
 pub counted_spec : {M : Type 1} → statement M

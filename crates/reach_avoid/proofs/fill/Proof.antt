@@ -15,13 +15,13 @@ abbrev decreases_loop : tie.decreases-loop-m
 decreases_loop t₀ m₀ t m = 64 - m
 
 sweep-requires : tie.Need-sweep-requires invariant_loop decreases_loop
-sweep-requires c κs = (omega arith, c.before.before.loop-m.invariant.1)
+sweep-requires c κs = (omega arith, c.loop-m.invariant.1)
 
 loop-again : tie.Need-loop-m-preserved invariant_loop decreases_loop
-loop-again c = (omega arith, subst (λ m. Holds m c.sweep.new.0) (sym (add-one c.before.before.before.loop-m.m)) c.sweep.ensures)
+loop-again c = (omega arith, subst (λ m. Holds m c.sweep.new.0) (sym (add-one c.loop-m.m)) c.sweep.ensures)
 
 returns : tie.Need-returns invariant_loop decreases_loop
-returns c = let l = c.before.loop-m in
+returns c = let l = c.loop-m in
     let e : l.m ≡ 64 = omega arith in
     rw e at l.invariant.1
 

@@ -6,13 +6,13 @@ use Rattle.reach_avoid.proofs.first_entry.Statement.{statement}
 use Rattle.reach_avoid.proofs.first_entry.Tie as tie
 
 returns : tie.Need-returns-then-x-lt60
-returns c = let k = c.before.args.k in first_out (k / 17) (k % 17) (λ p q r s. omega arith)
+returns c = let k = c.args.k in first_out (k / 17) (k % 17) (λ p q r s. omega arith)
 
 returns_2 : tie.Need-returns-then-x-gt68
-returns_2 c = let k = c.before.before.args.k in first_out (k / 17) (k % 17) (λ p q r s. omega arith)
+returns_2 c = let k = c.args.k in first_out (k / 17) (k % 17) (λ p q r s. omega arith)
 
 returns_3 : tie.Need-returns-then-y-lt6
-returns_3 c = let k = c.before.before.before.args.k in first_out (k / 17) (k % 17) (λ p q r s. omega arith)
+returns_3 c = let k = c.args.k in first_out (k / 17) (k % 17) (λ p q r s. omega arith)
 
 returns-4 : tie.Need-returns-then-y-gt10
 returns-4 c =

@@ -18,17 +18,17 @@ abbrev decreases_loop : tie.decreases-loop-i
 decreases_loop t x y n i₀ i = 5 - i
 
 returns : tie.Need-returns-then-j-eq3 invariant_loop decreases_loop
-returns c = let a = c.before.before.before.before.args in
-    let l = c.before.before.before.loop-i in
-    least_found (sure a.t.now a.n (spot a.x a.y)) 5 l.i (omega arith) l.invariant.1 (eq-eqb _ 3 (sym c.before.lowest_reply-j.ensures ∙ c.if-j-eq3.true))
+returns c = let a = c.args in
+    let l = c.loop-i in
+    least_found (sure a.t.now a.n (spot a.x a.y)) 5 l.i (omega arith) l.invariant.1 (eq-eqb _ 3 (sym c.lowest_reply-j.ensures ∙ c.if-j-eq3.true))
 
 loop-again : tie.Need-loop-i-preserved invariant_loop decreases_loop
-loop-again c = let l = c.before.before.before.loop-i in
-    (omega arith, below_more _ l.i l.invariant.1 (ne_eqb _ 3 (λ e. c.if-j-eq3.false (c.before.lowest_reply-j.ensures ∙ e))))
+loop-again c = let l = c.loop-i in
+    (omega arith, below_more _ l.i l.invariant.1 (ne_eqb _ 3 (λ e. c.if-j-eq3.false (c.lowest_reply-j.ensures ∙ e))))
 
 returns_2 : tie.Need-returns invariant_loop decreases_loop
-returns_2 c = let a = c.before.before.args in
-    let l = c.before.loop-i in least_end (sure a.t.now a.n (spot a.x a.y)) 5 l.i (omega arith) l.invariant.1
+returns_2 c = let a = c.args in
+    let l = c.loop-i in least_end (sure a.t.now a.n (spot a.x a.y)) 5 l.i (omega arith) l.invariant.1
 
 pub lowest_choice_spec : {M : Type 1} → statement M
 lowest_choice_spec =

@@ -18,22 +18,22 @@ abbrev decreases_loop : tie.decreases-loop-j
 decreases_loop t x y i n j₀ j = 3 - j
 
 returns : tie.Need-returns-then-n-e invariant_loop decreases_loop
-returns c = let a = c.before.before.before.before.args in
-    let l = c.before.before.before.loop-j in
+returns c = let a = c.args in
+    let l = c.loop-j in
     least_found (serves a.t.now a.n (spot a.x a.y) a.i) 3 l.j (omega arith) l.invariant.1
-    (serves_by a.t.now a.n (spot a.x a.y) a.i l.j (omega arith) c.before.after-e.ensures ∙ ap not (le-ltb c.before.after-e.result a.n (omega (arith, c.if-n-e.true))))
+    (serves_by a.t.now a.n (spot a.x a.y) a.i l.j (omega arith) c.after-e.ensures ∙ ap not (le-ltb c.after-e.result a.n (omega (arith, c.if-n-e.true))))
 
 loop-again : tie.Need-loop-j-preserved invariant_loop decreases_loop
-loop-again c = let a = c.before.before.before.before.args in
-    let l = c.before.before.before.loop-j in (
+loop-again c = let a = c.args in
+    let l = c.loop-j in (
       omega arith,
       below_more _ l.j l.invariant.1
-          (serves_by a.t.now a.n (spot a.x a.y) a.i l.j (omega arith) c.before.after-e.ensures ∙ ap not (lt-ltb c.before.after-e.result a.n (omega (arith, c.if-n-e.false)))),
+          (serves_by a.t.now a.n (spot a.x a.y) a.i l.j (omega arith) c.after-e.ensures ∙ ap not (lt-ltb c.after-e.result a.n (omega (arith, c.if-n-e.false)))),
     )
 
 returns_2 : tie.Need-returns invariant_loop decreases_loop
-returns_2 c = let a = c.before.before.args in
-    let l = c.before.loop-j in least_end (serves a.t.now a.n (spot a.x a.y) a.i) 3 l.j (omega arith) l.invariant.1
+returns_2 c = let a = c.args in
+    let l = c.loop-j in least_end (serves a.t.now a.n (spot a.x a.y) a.i) 3 l.j (omega arith) l.invariant.1
 
 pub lowest_reply_spec : {M : Type 1} → statement M
 lowest_reply_spec =

@@ -6,15 +6,15 @@ use Rattle.reach_avoid.proofs.next_entry.Statement.{statement}
 use Rattle.reach_avoid.proofs.next_entry.Tie as tie
 
 returns : tie.Need-returns-then-e
-returns c = let a = c.before.before.args in stepped_old a.t.now a.k a.n c.if-e.true
+returns c = let a = c.args in stepped_old a.t.now a.k a.n c.if-e.true
 
 returns_2 : tie.Need-returns-then-i-lt5
-returns_2 c = let a = c.before.before.before.before.args in
-    rw (lt-ltb _ 5 c.if-i-lt5.true) at (stepped_new a.t.now a.k a.n c.before.before.if-e.false c.before.lowest_choice-i.ensures)
+returns_2 c = let a = c.args in
+    rw (lt-ltb _ 5 c.if-i-lt5.true) at (stepped_new a.t.now a.k a.n c.if-e.false c.lowest_choice-i.ensures)
 
 returns_3 : tie.Need-returns
-returns_3 c = let a = c.before.before.before.before.args in
-    rw (le-ltb _ 5 c.if-i-lt5.false) at (stepped_new a.t.now a.k a.n c.before.before.if-e.false c.before.lowest_choice-i.ensures)
+returns_3 c = let a = c.args in
+    rw (le-ltb _ 5 c.if-i-lt5.false) at (stepped_new a.t.now a.k a.n c.if-e.false c.lowest_choice-i.ensures)
 
 pub next_entry_spec : {M : Type 1} → statement M
 next_entry_spec = tie.close (tie.spec (λ c. search rules) returns (λ c κs. search rules) returns_2 returns_3)

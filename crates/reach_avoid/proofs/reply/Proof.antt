@@ -15,39 +15,39 @@ use Rattle.reach_avoid.proofs.reply.Tie as tie
 returns : tie.Need-returns-then-k-eq2193
 returns c = let s = c.before.before in
     let a = s.args in
-    let e = rw (to_z-of_z s.ranges.angle, to_z-of_z s.ranges.rate) at c.before.entry_of_law.ensures in
+    let e = rw (to_z-of_z s.ranges.angle, to_z-of_z s.ranges.rate) at c.entry_of-k.ensures in
     replies _ a.left a.choice (reply_out _ a.left a.choice (λ i w l m. clash i (e.outside c.if-k-eq2193.true)))
 
 returns_2 : tie.Need-returns-then-i-eq255
 returns_2 c = let s = c.before.before.before.before in
     let a = s.args in
-    let i : Counted 2 a.choice _ = counted_word 2 (omega arith) s.ranges.choice c.before.counted-i.ensures in
+    let i : Counted 2 a.choice _ = counted_word 2 (omega arith) s.ranges.choice c.counted-i.ensures in
     replies _ a.left a.choice (reply_out _ a.left a.choice (λ x w l m. clash w (i.outer c.if-i-eq255.true)))
 
 returns_3 : tie.Need-returns-then-left-eq0
-returns_3 c = let a = c.before.before.before.before.before.args in replies _ a.left a.choice (reply_out _ a.left a.choice (λ x w l m. omega arith))
+returns_3 c = let a = c.args in replies _ a.left a.choice (reply_out _ a.left a.choice (λ x w l m. omega arith))
 
 returns-4 : tie.Need-returns-then-left-gt64
-returns-4 c = let a = c.before.before.before.before.before.before.args in replies _ a.left a.choice (reply_out _ a.left a.choice (λ x w l m. omega arith))
+returns-4 c = let a = c.args in replies _ a.left a.choice (reply_out _ a.left a.choice (λ x w l m. omega arith))
 
 answer-to-requires : tie.Need-answer_to-requires
 answer-to-requires c κs =
-    let entry_of_law = c.before.before.before.before.before.before.before.entry_of_law in
-    let if1 = c.before.before.before.before.before.before.if-k-eq2193 in
-    let if2 = c.before.before.before.before.if-i-eq255 in
+    let entry_of_law = c.entry_of-k in
+    let if1 = c.if-k-eq2193 in
+    let if2 = c.if-i-eq255 in
     let s = c.before.before.before.before.before.before.before.before in
-    let n = c.before.before.before.before.before.counted-i in
+    let n = c.counted-i in
     let i : Counted 2 s.args.choice _ = counted_word 2 (omega arith) s.ranges.choice n.ensures in
-    ((entry_of_law.ensures.entry if1.false).0, omega (arith, (i.inner if2.false).2), omega arith, omega arith, c.before.fill-t.ensures)
+    ((entry_of_law.ensures.entry if1.false).0, omega (arith, (i.inner if2.false).2), omega arith, omega arith, c.fill-t.ensures)
 
 returns-5 : tie.Need-returns
 returns-5 c =
-    let if1 = c.before.before.before.before.before.before.before.if-k-eq2193 in
-    let if2 = c.before.before.before.before.before.if-i-eq255 in
+    let if1 = c.if-k-eq2193 in
+    let if2 = c.if-i-eq255 in
     let s = c.before.before.before.before.before.before.before.before.before in
     let a = s.args in
-    let k = c.before.before.before.before.before.before.before.before.entry_of_law in
-    let n = c.before.before.before.before.before.before.counted-i in
+    let k = c.entry_of-k in
+    let n = c.counted-i in
     let st : State = record { angle = a.angle; rate = a.rate } in
     let e : Start st k.result = rw (to_z-of_z s.ranges.angle, to_z-of_z s.ranges.rate) at k.ensures in
     let p = e.entry if1.false in
@@ -62,7 +62,7 @@ reply_spec =
     (tie.spec
     (λ c κs. search rules)
     returns
-    (λ c κs. rw (to_z-of_z c.before.before.ranges.choice) (counted_fits 2 c.before.before.args.choice (omega arith)))
+    (λ c κs. rw (to_z-of_z c.ranges.choice) (counted_fits 2 c.args.choice (omega arith)))
     returns_2
     returns_3
     returns-4

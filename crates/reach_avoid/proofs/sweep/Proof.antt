@@ -21,14 +21,14 @@ loop-again : tie.Need-loop-k-preserved invariant_loop decreases_loop
 loop-again c =
     let entry = c.before.before.before.before in
     let m = entry.args.m in
-    let l = c.before.before.before.loop-k in (
+    let l = c.loop-k in (
       omega arith,
       stored_more (turns_at_value (suc m)) (turns_at_value m) l.k l.t c.next_entry.result (omega arith) l.invariant.1
           (c.next_entry.ensures ∙ ap (stepped l.t l.k) (add-one m) ∙ stepped_is m (omega arith) l.k l.t l.invariant.1 (omega arith)),
     )
 
 returns : tie.Need-returns invariant_loop decreases_loop
-returns c = let l = c.before.loop-k in record { size = l.invariant.1.size; entry = λ x h. l.invariant.1.done x (omega arith) }
+returns c = let l = c.loop-k in record { size = l.invariant.1.size; entry = λ x h. l.invariant.1.done x (omega arith) }
 
 pub sweep_spec : {M : Type 1} → statement M
 sweep_spec =

@@ -24,10 +24,10 @@ returns_2 c = let s = c.before.before.before in
 
 cast-t9 : tie.Need-overflow_cast-result
 cast-t9 c = let s = c.before.before.before.before in
-    let k = s.args.k in record { fits = omega (arith, turns_few (state_at k) (s.requires.1.entry k s.requires.0) c.before.if-n.false) }
+    let k = s.args.k in record { fits = omega (arith, turns_few (state_at k) (s.requires.1.entry k s.requires.0) c.if-n.false) }
 
 less-requires : tie.Need-less-requires
-less-requires c κs = let a = c.before.before.before.before.args in
+less-requires c κs = let a = c.args in
     let i = c.lowest_choice-i in
     let l : i.result ≤ 5 = least_within (sure a.t.now (get_or a.t.now a.k 0) (state_at a.k)) 5 i.ensures in
     (l, sub-fits i.result 2 l (omega arith))
@@ -38,10 +38,10 @@ returns_3 c = let s = c.before.before.before.before.before in
     let st : State = state_at a.k in
     let n : ℕ = get_or a.t.now a.k 0 in
     let q : n ≡ fewest room 255 64 st = s.requires.1.entry a.k s.requires.0 in
-    let zero : n ≡ 0 → ⊥ = c.before.before.before.if-n-eq0.false in
-    let some : n ≡ 255 → ⊥ = c.before.before.if-n.false in
+    let zero : n ≡ 0 → ⊥ = c.if-n-eq0.false in
+    let some : n ≡ 255 → ⊥ = c.if-n.false in
     let few : n ≤ 64 = turns_few st q some in
-    let i = c.before.lowest_choice-i in
+    let i = c.lowest_choice-i in
     rw (sub_back i.result 2 (least_within (sure a.t.now n st) 5 i.ensures) (omega arith) c.less.ensures)
     (tell_forced st q zero some (i.ensures ∙ held_choice a.t.now s.requires.1 n (omega arith) few st))
 

@@ -6,15 +6,15 @@ use Rattle.reference_checks.specs.Checks as Checks
 
 returns : tie.Need-returns-in-Outside
 unfolding Checks.check_attitude Ieee.of_bits
-returns c = rw (← c.before.before.rotation_vector-left.ensures, c.enum_told-1.given.1)
+returns c = rw (← c.rotation_vector-left.ensures, c.in-Outside.is)
 
 returns_2 : tie.Need-returns-then-norm3
 unfolding Checks.check_attitude Ieee.of_bits
-returns_2 c = rw (← c.before.before.before.before.before.rotation_vector-left.ensures, c.before.before.before.left-1.given.1, ← c.before.norm3.ensures, c.if-norm3.true)
+returns_2 c = rw (← c.rotation_vector-left.ensures, c.in-By.is, ← c.norm3.ensures, c.if-norm3.true)
 
 returns_3 : tie.Need-returns-else-norm3
 unfolding Checks.check_attitude Ieee.of_bits
-returns_3 c = rw (← c.before.before.before.before.before.rotation_vector-left.ensures, c.before.before.before.left-1.given.1, ← c.before.norm3.ensures, c.if-norm3.false)
+returns_3 c = rw (← c.rotation_vector-left.ensures, c.in-By.is, ← c.norm3.ensures, c.if-norm3.false)
 
 pub check_attitude_spec : {M : Type 1} → statement M
 check_attitude_spec =

@@ -6,15 +6,15 @@ use Rattle.geom.specs.Tests.{met, unmet}
 
 returns : tie.Need-returns-then-not-within
 unfolding Checks.check_controls
-returns c = rw (unmet c.before.within.ensures c.if-not-within.true)
+returns c = rw (unmet c.within.ensures c.if-not-within.true)
 
 returns_2 : tie.Need-returns-then-not-in_box
 unfolding Checks.check_controls
-returns_2 c = rw (met c.before.before.before.before.before.before.before.before.within.ensures c.before.before.before.before.before.before.before.if-not-within.false, ← c.before.before.body_vector-tau.ensures, unmet c.before.in_box.ensures c.if-not-in_box.true)
+returns_2 c = rw (met c.within.ensures c.if-not-within.false, ← c.body_vector-tau.ensures, unmet c.in_box.ensures c.if-not-in_box.true)
 
 returns_3 : tie.Need-returns
 unfolding Checks.check_controls
-returns_3 c = rw (met c.before.before.before.before.before.before.before.before.before.within.ensures c.before.before.before.before.before.before.before.before.if-not-within.false, ← c.before.before.before.body_vector-tau.ensures, met c.before.before.in_box.ensures c.before.if-not-in_box.false) c.check_powers.ensures
+returns_3 c = rw (met c.within.ensures c.if-not-within.false, ← c.body_vector-tau.ensures, met c.in_box.ensures c.if-not-in_box.false) c.check_powers.ensures
 
 pub check_controls_spec : {M : Type 1} → statement M
 check_controls_spec =

@@ -5,11 +5,11 @@ use Rattle.reference_checks.specs.Checks as Checks
 
 returns : tie.Need-returns-in-Refused
 unfolding Checks.check_first
-returns c = rw (← c.before.before.before.check_sample-fate.ensures, c.before.fate-1.given.1)
+returns c = rw (← c.check_sample-fate.ensures, c.in-Refused.is)
 
 returns_2 : tie.Need-returns-in-Going
 unfolding Checks.check_first
-returns_2 c = rw (← c.before.before.before.check_sample-fate.ensures, c.before.enum_told-1.given.1) c.check_start.ensures
+returns_2 c = rw (← c.check_sample-fate.ensures, c.in-Going.is) c.check_start.ensures
 
 pub check_first_spec : {M : Type 1} → statement M
 check_first_spec =

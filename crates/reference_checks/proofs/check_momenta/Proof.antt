@@ -6,15 +6,15 @@ use Rattle.geom.specs.Tests.{met, unmet}
 
 returns : tie.Need-returns-then-not-within
 unfolding Checks.check_momenta
-returns c = rw (unmet c.before.within.ensures c.if-not-within.true)
+returns c = rw (unmet c.within.ensures c.if-not-within.true)
 
 returns_2 : tie.Need-returns-then-not-is_balanced
 unfolding Checks.check_momenta
-returns_2 c = rw (met c.before.before.before.within.ensures c.before.before.if-not-within.false, unmet c.before.is_balanced.ensures c.if-not-is_balanced.true)
+returns_2 c = rw (met c.within.ensures c.if-not-within.false, unmet c.is_balanced.ensures c.if-not-is_balanced.true)
 
 returns_3 : tie.Need-returns
 unfolding Checks.check_momenta
-returns_3 c = rw (met c.before.before.before.within.ensures c.before.before.if-not-within.false, met c.before.is_balanced.ensures c.if-not-is_balanced.false)
+returns_3 c = rw (met c.within.ensures c.if-not-within.false, met c.is_balanced.ensures c.if-not-is_balanced.false)
 
 pub check_momenta_spec : {M : Type 1} → statement M
 check_momenta_spec =

@@ -5,10 +5,10 @@ use native.Mathlib.Omega.{arith}
 use Rattle.reference_checks.specs.StepLaws.{rest_refused, rest_goes}
 
 returns : tie.Need-returns-in-Refused
-returns c = record { is = rest_refused _ _ c.before.before.before.check_steps-verdict.ensures.is c.before.fate-1.given.1; few = omega (arith, c.before.before.before.check_steps-verdict.ensures.few) }
+returns c = record { is = rest_refused _ _ c.check_steps-verdict.ensures.is c.in-Refused.is; few = omega (arith, c.check_steps-verdict.ensures.few) }
 
 returns_2 : tie.Need-returns-in-Going
-returns_2 c = record { is = rest_goes _ _ c.before.before.before.check_steps-verdict.ensures.is c.before.enum_told-1.given.1 c.check_end-end.ensures; few = omega (arith, c.before.before.before.check_steps-verdict.ensures.few) }
+returns_2 c = record { is = rest_goes _ _ c.check_steps-verdict.ensures.is c.in-Going.is c.check_end-end.ensures; few = omega (arith, c.check_steps-verdict.ensures.few) }
 
 pub check_rest_spec : {M : Type 1} → statement M
 check_rest_spec =

@@ -7,10 +7,10 @@ use Rattle.reference_checks.specs.CaseLaws.{sample_goes}
 
 returns : tie.Need-returns-in-Refused
 unfolding Checks.check_sample
-returns c = rw c.before.fate-1.given.1
+returns c = rw c.in-Refused.is
 
 returns_2 : tie.Need-returns-in-Going
-returns_2 c = c.check_limits.ensures ∙ sample_goes _ _ _ c.before.enum_told-1.given.1
+returns_2 c = c.check_limits.ensures ∙ sample_goes _ _ _ c.in-Going.is
 
 pub check_sample_spec : {M : Type 1} → statement M
 check_sample_spec =

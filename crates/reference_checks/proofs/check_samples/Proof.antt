@@ -6,11 +6,11 @@ use Rattle.reference_checks.specs.Checks as Checks
 
 returns : tie.Need-returns-in-Refused
 unfolding Checks.check_samples
-returns c = record { is = rw (← c.before.before.before.before.sample_of-first.ensures, ← c.before.before.before.check_first-fate.ensures, c.before.fate-1.given.1); few = omega arith }
+returns c = record { is = rw (← c.sample_of-first.ensures, ← c.check_first-fate.ensures, c.in-Refused.is); few = omega arith }
 
 returns_2 : tie.Need-returns-in-Going
 unfolding Checks.check_samples
-returns_2 c = record { is = rw (← c.before.before.before.before.sample_of-first.ensures, ← c.before.before.before.check_first-fate.ensures, c.before.enum_told-1.given.1) c.check_rest.ensures.is; few = c.check_rest.ensures.few }
+returns_2 c = record { is = rw (← c.sample_of-first.ensures, ← c.check_first-fate.ensures, c.in-Going.is) c.check_rest.ensures.is; few = c.check_rest.ensures.few }
 
 pub check_samples_spec : {M : Type 1} → statement M
 check_samples_spec =

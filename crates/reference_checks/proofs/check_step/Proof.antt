@@ -5,11 +5,11 @@ use Rattle.reference_checks.specs.Checks as Checks
 
 returns : tie.Need-returns-in-Refused
 unfolding Checks.check_step
-returns c = rw (← c.before.before.before.check_sample-fate.ensures, c.before.fate-1.given.1)
+returns c = rw (← c.check_sample-fate.ensures, c.in-Refused.is)
 
 returns_2 : tie.Need-returns-in-Going
 unfolding Checks.check_step
-returns_2 c = rw (← c.before.before.before.before.before.before.check_sample-fate.ensures, c.before.before.before.before.enum_told-1.given.1, c.check_controls.ensures, c.before.controls-u.ensures)
+returns_2 c = rw (← c.check_sample-fate.ensures, c.in-Going.is, c.check_controls.ensures, c.controls-u.ensures)
 
 pub check_step_spec : {M : Type 1} → statement M
 check_step_spec =

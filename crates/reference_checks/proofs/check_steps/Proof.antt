@@ -20,13 +20,13 @@ loop-holds : tie.Need-loop-k-init invariant_loop decreases_loop
 loop-holds c = (omega arith, (c.requires.1.1, iter_none _ _))
 
 returns : tie.Need-returns-in-Refused invariant_loop decreases_loop
-returns c = record { is = steps_refused _ _ c.before.before.before.before.before.before.loop-k.invariant.1.1 (c.before.before.before.before.before.before.loop-k.invariant.1.0, c.before.before.before.before.sample_of-next.ensures) c.before.before.before.check_step-fate.ensures (omega arith) (omega arith) c.before.fate-1.given.1; few = omega arith }
+returns c = record { is = steps_refused _ _ c.loop-k.invariant.1.1 (c.loop-k.invariant.1.0, c.sample_of-next.ensures) c.check_step-fate.ensures (omega arith) (omega arith) c.in-Refused.is; few = omega arith }
 
 loop-again : tie.Need-loop-k-preserved invariant_loop decreases_loop
-loop-again c = (omega arith, (c.before.before.before.sample_of-next.ensures, steps_next _ _ c.before.before.before.before.before.loop-k.invariant.1.1 (c.before.before.before.before.before.loop-k.invariant.1.0, c.before.before.before.sample_of-next.ensures) c.before.before.check_step-fate.ensures c.enum_told-1.given.1))
+loop-again c = (omega arith, (c.sample_of-next.ensures, steps_next _ _ c.loop-k.invariant.1.1 (c.loop-k.invariant.1.0, c.sample_of-next.ensures) c.check_step-fate.ensures c.in-Going.is))
 
 returns_2 : tie.Need-returns invariant_loop decreases_loop
-returns_2 c = record { is = steps_all _ c.before.loop-k.k _ c.before.loop-k.invariant.1.1 (omega arith); few = omega arith }
+returns_2 c = record { is = steps_all _ c.loop-k.k _ c.loop-k.invariant.1.1 (omega arith); few = omega arith }
 
 pub check_steps_spec : {M : Type 1} → statement M
 check_steps_spec =

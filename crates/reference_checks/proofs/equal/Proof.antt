@@ -19,11 +19,11 @@ loop-holds : tie.Need-loop-i-init invariant_loop decreases_loop
 loop-holds c = (search rules, iter_none _ _)
 
 loop-again : tie.Need-loop-i-preserved invariant_loop decreases_loop
-loop-again c = (search rules, iter_next _ _ _ c.before.before.before.loop-i.invariant.1 refl)
+loop-again c = (search rules, iter_next _ _ _ c.loop-i.invariant.1 refl)
 
 returns : tie.Need-returns invariant_loop decreases_loop
 unfolding Checks.equal
-returns c = let e : c.before.loop-i.i ≡ c.before.before.args.n = omega arith in rw (← e) c.before.loop-i.invariant.1
+returns c = let e : c.loop-i.i ≡ c.args.n = omega arith in rw (← e) c.loop-i.invariant.1
 
 pub equal_spec : {M : Type 1} → statement M
 equal_spec =

@@ -3,7 +3,7 @@ use Rattle.reference_checks.proofs.fits.Statement.{statement}
 use Rattle.reference_checks.proofs.fits.Tie as tie
 
 returns : tie.Need-returns
-returns c = rw (c.abs.ensures, c.before.is_positive.ensures)
+returns c = rw (c.abs.ensures, c.is_positive.ensures)
 
 pub fits_spec : {M : Type 1} → statement M
 fits_spec =

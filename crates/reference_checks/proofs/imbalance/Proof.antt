@@ -5,7 +5,7 @@ use Rattle.reference_checks.specs.Checks as Checks
 
 returns : tie.Need-returns
 unfolding Checks.imbalance
-returns c = rw (c.sub3.ensures, c.before.required_momentum.ensures, c.before.before.body_vector-held.ensures)
+returns c = rw (c.sub3.ensures, c.required_momentum.ensures, c.body_vector-held.ensures)
 
 pub imbalance_spec : {M : Type 1} → statement M
 imbalance_spec =

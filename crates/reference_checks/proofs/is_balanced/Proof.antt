@@ -6,7 +6,7 @@ use Rattle.reference_checks.specs.Checks as Checks
 
 returns : tie.Need-returns
 unfolding Checks.is_balanced Ieee.of_bits
-returns c = rw (c.norm3-2.ensures, c.before.norm3.ensures, c.before.before.imbalance.ensures)
+returns c = rw (c.norm3-2.ensures, c.norm3.ensures, c.imbalance.ensures)
 
 pub is_balanced_spec : {M : Type 1} → statement M
 is_balanced_spec =

@@ -5,7 +5,7 @@ use Rattle.reference_checks.specs.Checks as Checks
 
 returns : tie.Need-returns
 unfolding Checks.powers_fit Checks.powers_of
-returns c = rw (c.within.ensures, c.before.before.before.powers-p.ensures, c.before.before.before.before.before.rate_at-w.ensures, c.before.before.before.before.before.before.mid_fraction.ensures)
+returns c = rw (c.within.ensures, c.powers-p.ensures, c.rate_at-w.ensures, c.mid_fraction.ensures)
 
 pub powers_fit_spec : {M : Type 1} → statement M
 powers_fit_spec =

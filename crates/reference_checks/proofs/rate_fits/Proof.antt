@@ -3,10 +3,10 @@ use Rattle.reference_checks.proofs.rate_fits.Statement.{statement}
 use Rattle.reference_checks.proofs.rate_fits.Tie as tie
 
 returns : tie.Need-returns-in-Nothing
-returns c = rw c.enum_told-1.given.1
+returns c = rw c.in-Nothing.is
 
 returns_2 : tie.Need-returns-in-At
-returns_2 c = rw (c.before.before.before.slew-1.given.1, c.fits2.ensures, c.before.norm3.ensures)
+returns_2 c = rw (c.in-At.is, c.fits2.ensures, c.norm3.ensures)
 
 pub rate_fits_spec : {M : Type 1} → statement M
 rate_fits_spec =

@@ -5,7 +5,7 @@ use Rattle.reference_checks.specs.Checks as Checks
 
 returns : tie.Need-returns
 unfolding Checks.sample_of
-returns c = rw (c.sample_at.ensures, c.before.fraction.ensures)
+returns c = rw (c.sample_at.ensures, c.fraction.ensures)
 
 pub sample_of_spec : {M : Type 1} → statement M
 sample_of_spec =

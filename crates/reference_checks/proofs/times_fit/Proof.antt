@@ -5,7 +5,7 @@ use Rattle.reference_checks.specs.Checks as Checks
 
 returns : tie.Need-returns
 unfolding Checks.times_fit
-returns c = rw c.before.is_positive.ensures
+returns c = rw c.is_positive.ensures
 
 pub times_fit_spec : {M : Type 1} → statement M
 times_fit_spec =

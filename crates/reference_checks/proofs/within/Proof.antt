@@ -19,11 +19,11 @@ loop-holds : tie.Need-loop-i-init invariant_loop decreases_loop
 loop-holds c = (search rules, iter_none _ _)
 
 loop-again : tie.Need-loop-i-preserved invariant_loop decreases_loop
-loop-again c = (search rules, iter_next _ _ _ c.before.before.before.before.loop-i.invariant.1 (rw c.fits2.ensures))
+loop-again c = (search rules, iter_next _ _ _ c.loop-i.invariant.1 (rw c.fits2.ensures))
 
 returns : tie.Need-returns invariant_loop decreases_loop
 unfolding Checks.within
-returns c = let e : c.before.loop-i.i ≡ c.before.before.args.n = omega arith in rw (← e) c.before.loop-i.invariant.1
+returns c = let e : c.loop-i.i ≡ c.args.n = omega arith in rw (← e) c.loop-i.invariant.1
 
 pub within_spec : {M : Type 1} → statement M
 within_spec =

@@ -5,7 +5,7 @@ use Rattle.reference_motion.specs.Motion as Motion
 
 returns : tie.Need-returns
 unfolding Motion.acceleration_at
-returns c = rw (c.scale3.ensures, c.before.before.shape_acceleration.ensures)
+returns c = rw (c.scale3.ensures, c.shape_acceleration.ensures)
 
 pub acceleration_at_spec : {M : Type 1} → statement M
 acceleration_at_spec =

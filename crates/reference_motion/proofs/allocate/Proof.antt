@@ -5,7 +5,7 @@ use Rattle.reference_motion.specs.Momenta as Momenta
 
 returns : tie.Need-returns
 unfolding Momenta.allocate
-returns c = rw (c.add_projections.ensures, c.before.apply_tensor.ensures, c.before.before.tensor.ensures)
+returns c = rw (c.add_projections.ensures, c.apply_tensor.ensures, c.tensor.ensures)
 
 pub allocate_spec : {M : Type 1} → statement M
 allocate_spec =

@@ -6,7 +6,7 @@ use Rattle.reference_motion.specs.Motion as Motion
 
 returns : tie.Need-returns
 unfolding Motion.correct_log Ieee.of_bits
-returns c = rw (c.before.before.before.before.mul-left.ensures, c.before.before.before.before.before.conjugate.ensures)
+returns c = rw (c.mul-left.ensures, c.conjugate.ensures)
 
 pub correct_log_spec : {M : Type 1} → statement M
 correct_log_spec =

@@ -5,7 +5,7 @@ use Rattle.reference_motion.specs.Motion as Motion
 
 returns : tie.Need-returns
 unfolding Motion.fraction
-returns c = rw (c.to_float-2.ensures, c.before.to_float.ensures)
+returns c = rw (c.to_float-2.ensures, c.to_float.ensures)
 
 pub fraction_spec : {M : Type 1} → statement M
 fraction_spec =

@@ -6,7 +6,7 @@ use Rattle.reference_motion.specs.Motion as Motion
 
 returns : tie.Need-returns
 unfolding Motion.mid_fraction Ieee.of_bits
-returns c = rw (c.to_float-2.ensures, c.before.to_float.ensures)
+returns c = rw (c.to_float-2.ensures, c.to_float.ensures)
 
 pub mid_fraction_spec : {M : Type 1} → statement M
 mid_fraction_spec =

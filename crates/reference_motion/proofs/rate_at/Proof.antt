@@ -5,7 +5,7 @@ use Rattle.reference_motion.specs.Motion as Motion
 
 returns : tie.Need-returns
 unfolding Motion.rate_at
-returns c = rw (c.scale3.ensures, c.before.before.shape_rate.ensures)
+returns c = rw (c.scale3.ensures, c.shape_rate.ensures)
 
 pub rate_at_spec : {M : Type 1} → statement M
 rate_at_spec =

@@ -5,11 +5,11 @@ use Rattle.reference_motion.specs.Motion as Motion
 
 returns : tie.Need-returns-in-Outside
 unfolding Motion.refine_log
-returns c = rw (← c.before.before.exp_so3-turned.ensures, c.enum_told-1.given.1)
+returns c = rw (← c.exp_so3-turned.ensures, c.in-Outside.is)
 
 returns_2 : tie.Need-returns-in-Is
 unfolding Motion.refine_log
-returns_2 c = rw (← c.before.before.before.before.exp_so3-turned.ensures, c.before.before.turned-1.given.1) c.correct_log.ensures
+returns_2 c = rw (← c.exp_so3-turned.ensures, c.in-Is.is) c.correct_log.ensures
 
 pub refine_log_spec : {M : Type 1} → statement M
 refine_log_spec =

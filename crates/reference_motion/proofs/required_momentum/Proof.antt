@@ -5,7 +5,7 @@ use Rattle.reference_motion.specs.Momenta as Momenta
 
 returns : tie.Need-returns
 unfolding Momenta.required_momentum
-returns c = rw (c.sub3.ensures, c.before.apply_tensor.ensures, c.before.before.tensor.ensures, c.before.before.before.rotate_to_body.ensures)
+returns c = rw (c.sub3.ensures, c.apply_tensor.ensures, c.tensor.ensures, c.rotate_to_body.ensures)
 
 pub required_momentum_spec : {M : Type 1} → statement M
 required_momentum_spec =

@@ -6,7 +6,7 @@ use Rattle.reference_motion.specs.Momenta as Momenta
 
 returns : tie.Need-returns
 unfolding Momenta.rotate_to_body Ieee.of_bits
-returns c = rw (c.add3.ensures, c.before.cross-2.ensures, c.before.before.sub3.ensures, c.before.before.before.scale3.ensures, c.before.before.before.before.scale3-t.ensures, c.before.before.before.before.before.cross.ensures)
+returns c = rw (c.add3.ensures, c.cross-2.ensures, c.sub3.ensures, c.scale3.ensures, c.scale3-t.ensures, c.cross.ensures)
 
 pub rotate_to_body_spec : {M : Type 1} → statement M
 rotate_to_body_spec =

@@ -5,7 +5,7 @@ use Rattle.reference_motion.specs.Motion as Motion
 
 returns : tie.Need-returns
 unfolding Motion.rotation_at
-returns c = rw (c.exp_so3.ensures, c.before.scale3.ensures, c.before.before.shape.ensures)
+returns c = rw (c.exp_so3.ensures, c.scale3.ensures, c.shape.ensures)
 
 pub rotation_at_spec : {M : Type 1} → statement M
 rotation_at_spec =

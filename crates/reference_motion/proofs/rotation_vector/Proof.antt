@@ -5,11 +5,11 @@ use Rattle.reference_motion.specs.Motion as Motion
 
 returns : tie.Need-returns-in-Outside
 unfolding Motion.rotation_vector
-returns c = rw (← c.before.before.rotation_between-rotation.ensures, c.enum_told-1.given.1)
+returns c = rw (← c.rotation_between-rotation.ensures, c.in-Outside.is)
 
 returns_2 : tie.Need-returns-in-By
 unfolding Motion.rotation_vector
-returns_2 c = rw (← c.before.before.before.before.before.before.rotation_between-rotation.ensures, c.before.before.before.before.rotation-1.given.1, c.refine_log.ensures, c.before.mul.ensures, c.before.before.conjugate.ensures)
+returns_2 c = rw (← c.rotation_between-rotation.ensures, c.in-By.is, c.refine_log.ensures, c.mul.ensures, c.conjugate.ensures)
 
 pub rotation_vector_spec : {M : Type 1} → statement M
 rotation_vector_spec =

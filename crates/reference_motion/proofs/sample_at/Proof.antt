@@ -5,11 +5,11 @@ use Rattle.reference_motion.specs.Momenta as Momenta
 
 returns : tie.Need-returns-in-Outside
 unfolding Momenta.sample_at
-returns c = rw (← c.before.before.rotation_at-turned.ensures, c.enum_told-1.given.1, c.before.before.before.before.before.acceleration_at-a.ensures, c.before.before.before.before.before.before.rate_at-w.ensures)
+returns c = rw (← c.rotation_at-turned.ensures, c.in-Outside.is, c.acceleration_at-a.ensures, c.rate_at-w.ensures)
 
 returns_2 : tie.Need-returns-in-Is
 unfolding Momenta.sample_at
-returns_2 c = rw (← c.before.before.before.before.before.before.rotation_at-turned.ensures, c.before.before.before.before.turned-1.given.1, c.momenta_at_law.ensures, c.before.shape.ensures, c.before.before.mul-q.ensures, c.before.before.before.before.before.before.before.before.before.acceleration_at-a.ensures, c.before.before.before.before.before.before.before.before.before.before.rate_at-w.ensures)
+returns_2 c = rw (← c.rotation_at-turned.ensures, c.in-Is.is, c.momenta_at-h.ensures, c.shape.ensures, c.mul-q.ensures, c.acceleration_at-a.ensures, c.rate_at-w.ensures)
 
 pub sample_at_spec : {M : Type 1} → statement M
 sample_at_spec =

@@ -6,7 +6,7 @@ use Rattle.reference_motion.specs.Momenta as Momenta
 
 returns : tie.Need-returns
 unfolding Momenta.thrusts_at Ieee.of_bits
-returns c = rw (c.allocate.ensures, c.before.before.euler_lhs-torque.ensures, c.before.before.before.tensor.ensures, c.before.before.before.before.rate_at-w.ensures, c.before.before.before.before.before.acceleration_at-a.ensures)
+returns c = rw (c.allocate.ensures, c.euler_lhs-torque.ensures, c.tensor.ensures, c.rate_at-w.ensures, c.acceleration_at-a.ensures)
 
 pub thrusts_at_spec : {M : Type 1} → statement M
 thrusts_at_spec =

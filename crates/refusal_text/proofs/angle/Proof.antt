@@ -9,15 +9,15 @@ use Rattle.refusal_text.proofs.angle.Tie as tie
 
 before-runs : tie.Need-returns-in-1
 unfolding angle
-before-runs c = let e : c.before.args.when ≡ 1 = c.match.keys1 in (rw e, omega arith)
+before-runs c = let e : c.args.when ≡ 1 = c.in-1.is in (rw e, omega arith)
 
 sampled : tie.Need-returns-in-3
 unfolding angle
-sampled c = let e : c.before.args.when ≡ 3 = c.match.keys2 in (rw e, omega arith)
+sampled c = let e : c.args.when ≡ 3 = c.in-3.is in (rw e, omega arith)
 
 in-runs : tie.Need-returns-in_default
 unfolding angle
-in-runs c = (rw (ne_eqb c.before.args.when 1 c.match.rest.0.1, ne_eqb c.before.args.when 3 c.match.rest.1), omega arith)
+in-runs c = (rw (ne_eqb c.args.when 1 c.in_default.in_default-own.rest.0.1, ne_eqb c.args.when 3 c.in_default.in_default-own.rest.1), omega arith)
 
 pub angle_spec : {M : Type 1} → statement M
 angle_spec = tie.close (tie.spec before-runs sampled in-runs)

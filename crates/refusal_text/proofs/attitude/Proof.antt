@@ -12,7 +12,7 @@ sampled c = (rw (eq-eqb _ _ c.if-when-eq3.true), omega arith)
 
 planned : tie.Need-returns
 unfolding attitude
-planned c = (rw (ne_eqb _ _ c.before.if-when-eq3.false) c.at_most.ensures.0, omega (arith, c.at_most.ensures.1))
+planned c = (rw (ne_eqb _ _ c.if-when-eq3.false) c.at_most.ensures.0, omega (arith, c.at_most.ensures.1))
 
 pub attitude_spec : {M : Type 1} → statement M
 attitude_spec = tie.close (tie.spec sampled (search rules) planned)

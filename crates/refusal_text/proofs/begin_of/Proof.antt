@@ -19,16 +19,16 @@ loop-holds : tie.Need-loop-k-init invariant_loop decreases_loop
 loop-holds c = (omega arith, refl)
 
 found : tie.Need-returns-then-left-eq0 invariant_loop decreases_loop
-found c = let l = c.before.before.loop-k in (sym (line_here _) ∙ (rw c.if-left-eq0.true at l.invariant.1), l.invariant.0)
+found c = let l = c.loop-k in (sym (line_here _) ∙ (rw c.if-left-eq0.true at l.invariant.1), l.invariant.0)
 
 loop-again : tie.Need-loop-k-preserved invariant_loop decreases_loop
 loop-again c =
     let f = c.before.before in
-    let l = f.before.before.loop-k in
+    let l = f.loop-k in
     (omega arith, rw c.passed-left.ensures (line_next l.left l.k _ (omega arith) f.if-left-eq0.false) ∙ l.invariant.1)
 
 ends : tie.Need-returns invariant_loop decreases_loop
-ends c = let l = c.before.loop-k in (line_none l.left l.k _ (omega arith) ∙ l.invariant.1, l.invariant.0)
+ends c = let l = c.loop-k in (line_none l.left l.k _ (omega arith) ∙ l.invariant.1, l.invariant.0)
 
 pub begin_of_spec : {M : Type 1} → statement M
 begin_of_spec = tie.close (tie.spec invariant_loop decreases_loop loop-holds found (search rules) (search rules) (search rules) (search rules) loop-again ends)

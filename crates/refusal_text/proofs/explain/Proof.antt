@@ -9,7 +9,7 @@ returns : tie.Need-returns
 unfolding table explain
 returns c =
     let p = c.before.before in
-    puts_short (explain_short _ _ _ _) (rw p.before.met.ensures at p.put_sentence.ensures)
+    puts_short (explain_short _ _ _ _) (rw p.met.ensures at p.put_sentence.ensures)
 
 pub explain_spec : {M : Type 1} → statement M
 explain_spec = tie.close (tie.spec (search rules) (search rules) (search rules) (search rules) returns)

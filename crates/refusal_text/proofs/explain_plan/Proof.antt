@@ -5,10 +5,10 @@ use Rattle.refusal_text.proofs.explain_plan.Statement.{statement}
 use Rattle.refusal_text.proofs.explain_plan.Tie as tie
 
 refused : tie.Need-returns-in-Refused
-refused c = let p = c.before.before in rw p.before.before.before.fate-1.given.1 p.explain.ensures
+refused c = let p = c.before.before in rw p.in-Refused.is p.explain.ensures
 
 answered : tie.Need-returns-in-Going
-answered c = rw c.enum_told-1.given.1 (puts_none _ 0 212)
+answered c = rw c.in-Going.is (puts_none _ 0 212)
 
 pub explain_plan_spec : {M : Type 1} → statement M
 explain_plan_spec = tie.close (tie.spec (search rules) (search rules) (search rules) (search rules) refused answered)

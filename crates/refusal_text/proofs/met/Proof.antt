@@ -11,11 +11,11 @@ sampled c = search rules
 
 before-runs : tie.Need-returns-then-runs-eq0
 unfolding met
-before-runs c = rw (c.before.if-sampled.false, eq-eqb _ _ c.if-runs-eq0.true)
+before-runs c = rw (c.if-sampled.false, eq-eqb _ _ c.if-runs-eq0.true)
 
 in-runs : tie.Need-returns-else-runs-eq0
 unfolding met
-in-runs c = rw (c.before.if-sampled.false, ne_eqb _ _ c.if-runs-eq0.false)
+in-runs c = rw (c.if-sampled.false, ne_eqb _ _ c.if-runs-eq0.false)
 
 pub met_spec : {M : Type 1} → statement M
 met_spec = tie.close (tie.spec sampled before-runs in-runs)

@@ -21,28 +21,28 @@ loop-holds c = (omega arith, refl, λ after next p. p)
 same_length : tie.Need-shape_of-out-then-b-eq10 invariant_loop decreases_loop
 same_length c =
     let p = c.before.before in
-    puts_length p.put_byte.ensures ∙ p.before.before.before.before.before.loop-k.invariant.1
+    puts_length p.put_byte.ensures ∙ p.loop-k.invariant.1
 
 line-feed : tie.Need-returns-then-b-eq10 invariant_loop decreases_loop
 line-feed c =
     let p = c.before.before in
-    let l = p.before.before.before.before.before.loop-k in
-    ends_line _ _ l.k l.invariant.2 (omega arith) p.before.before.if-b-eq10.true p.put_byte.ensures
+    let l = p.loop-k in
+    ends_line _ _ l.k l.invariant.2 (omega arith) p.if-b-eq10.true p.put_byte.ensures
 
 loop-again : tie.Need-loop-k-preserved invariant_loop decreases_loop
 loop-again c =
     let p = c.before.before in
-    let l = p.before.before.before.before.before.loop-k in (
+    let l = p.loop-k in (
       omega (arith, p.put_marked-at.ensures.ends, p.put_marked-at.ensures.short),
       puts_length p.put_marked-at.ensures ∙ l.invariant.1,
-      goes_on _ _ l.k l.invariant.2 (omega arith) p.before.before.if-b-eq10.false p.put_marked-at.ensures,
+      goes_on _ _ l.k l.invariant.2 (omega arith) p.if-b-eq10.false p.put_marked-at.ensures,
     )
 
 same-length-2 : tie.Need-shape_of-out invariant_loop decreases_loop
-same-length-2 c = c.before.loop-k.invariant.1
+same-length-2 c = c.loop-k.invariant.1
 
 text-end : tie.Need-returns invariant_loop decreases_loop
-text-end c = let l = c.before.loop-k in ends_text _ _ l.k l.invariant.2 (omega arith)
+text-end c = let l = c.loop-k in ends_text _ _ l.k l.invariant.2 (omega arith)
 
 pub put_line_spec : {M : Type 1} → statement M
 put_line_spec =

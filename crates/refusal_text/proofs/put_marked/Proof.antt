@@ -7,10 +7,10 @@ use Rattle.refusal_text.proofs.put_marked.Statement.{statement}
 use Rattle.refusal_text.proofs.put_marked.Tie as tie
 
 count : tie.Need-returns-then-b-eq35
-count c = let p = c.before.before in rw (eq-eqb _ _ p.before.before.if-b-eq35.true) p.put_digits.ensures
+count c = let p = c.before.before in rw (eq-eqb _ _ p.if-b-eq35.true) p.put_digits.ensures
 
 byte : tie.Need-returns
-byte c = let p = c.before.before in rw (ne_eqb _ _ p.before.before.if-b-eq35.false) (puts_most (omega arith) p.put_byte.ensures)
+byte c = let p = c.before.before in rw (ne_eqb _ _ p.if-b-eq35.false) (puts_most (omega arith) p.put_byte.ensures)
 
 pub put_marked_spec : {M : Type 1} → statement M
 put_marked_spec = tie.close (tie.spec (search rules) (search rules) count (search rules) (search rules) byte)

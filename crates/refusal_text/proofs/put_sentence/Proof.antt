@@ -12,8 +12,8 @@ returns c =
     let p = c.before.before in
     let k = p.before.before.before in
     let b = k.before in
-    rw (← b.before.line_for.ensures, ← b.begin_of-k.ensures.0, drop-drop, get_or-drop, get_or-drop)
-    (rw (p.before.above.ensures, k.number_at-least.ensures, add_assoc b.begin_of-k.result 9 1) at p.put_line.ensures)
+    rw (← b.line_for.ensures, ← b.begin_of-k.ensures.0, drop-drop, get_or-drop, get_or-drop)
+    (rw (p.above.ensures, k.number_at-least.ensures, add_assoc b.begin_of-k.result 9 1) at p.put_line.ensures)
 
 pub put_sentence_spec : {M : Type 1} → statement M
 put_sentence_spec = tie.close (tie.spec (search rules) (search rules) (search rules) (search rules) (search rules) (search rules) (search rules) (search rules) returns)

@@ -16,11 +16,11 @@ decreases_loop b₀ at t i₀ x₀ b i x = 129 - x
 loop-again : tie.Need-loop-x-preserved invariant_loop decreases_loop
 loop-again c =
     let put = c.before.before in
-    let l = put.before.before.before.loop-x in
+    let l = put.loop-x in
     first_next l.invariant (omega arith) put.put_angle-i.ensures put.put-angle.auto.0
 
 returns : tie.Need-returns invariant_loop decreases_loop
-returns c = first_all c.before.loop-x.invariant (omega arith)
+returns c = first_all c.loop-x.invariant (omega arith)
 
 pub put_angles_spec : {M : Type 1} → statement M
-put_angles_spec = tie.close (tie.spec invariant_loop decreases_loop (λ c. first_none) (search rules) (search rules) (search rules) loop-again (λ c. c.before.loop-x.invariant.same) returns)
+put_angles_spec = tie.close (tie.spec invariant_loop decreases_loop (λ c. first_none) (search rules) (search rules) (search rules) loop-again (λ c. c.loop-x.invariant.same) returns)

@@ -16,14 +16,14 @@ decreases_loop b₀ at t x i₀ y₀ b i y = 17 - y
 loop-again : tie.Need-loop-y-preserved invariant_loop decreases_loop
 loop-again c =
     let put = c.before.before in
-    let l = put.before.before.before.before.loop-y in
+    let l = put.loop-y in
     first_next l.invariant (omega arith) put.put_turns-i.ensures put.put-turns.auto.0
 
 returns : tie.Need-returns invariant_loop decreases_loop
-returns c = first_all c.before.loop-y.invariant (omega arith)
+returns c = first_all c.loop-y.invariant (omega arith)
 
 pub put_rates_spec : {M : Type 1} → statement M
 put_rates_spec =
     tie.close
     (tie.spec invariant_loop decreases_loop (λ c. first_none) (search rules) (search rules) (search rules) (search rules) (search rules) (search rules) loop-again
-    (λ c. c.before.loop-y.invariant.same) returns)
+    (λ c. c.loop-y.invariant.same) returns)

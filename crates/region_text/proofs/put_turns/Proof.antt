@@ -9,7 +9,7 @@ returns : tie.Need-returns
 unfolding turns
 returns c =
     let digits = c.before.before in
-    puts_join digits.before.before.before.before.put_byte-i.ensures digits.put_digits.ensures
+    puts_join digits.put_byte-i.ensures digits.put_digits.ensures
 
 pub put_turns_spec : {M : Type 1} → statement M
 put_turns_spec = tie.close (tie.spec (search rules) (search rules) (search rules) returns)

@@ -11,7 +11,7 @@ put-with-requires : tie.Need-put_with-with-requires
 put-with-requires c κs =
     let known = c.before in
     let d = known.before in
-    rw (to_z-of_z {w = w64} (record { sfits = known.known_told-1.given.0.1 })) (reply_small d.d-1.given.0.0 (rw d.d-1.given.1 at d.before.before.reply-d.ensures.1).lawful)
+    rw (to_z-of_z {w = w64} (record { sfits = known.in-With.known_told-1-own.given.0.1 })) (reply_small d.in-With.x (rw d.in-With.is at d.reply-d.ensures.1).lawful)
 
 returns : tie.Need-shape_of-out-in-Without
 returns c =
@@ -28,7 +28,7 @@ returns_2 c =
     let put = c.before.before in
     let none = put.before.before.before in
     let replied = none.before.before in
-    let s = replied.before.before.before in
+    let s = replied.before.before in
     let e = rw (to_z-of_z s.ranges.angle, to_z-of_z s.ranges.rate, to_z-of_z s.ranges.choice) at replied.reply-d.ensures.0 in
     rw (← e, none.enum_told-1.given.1) (prints_given _ (omega arith) put.put_all_lem.ensures)
 

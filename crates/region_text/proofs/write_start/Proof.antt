@@ -11,13 +11,13 @@ put-forced-requires : tie.Need-enum_told-in-HeldOff
 put-forced-requires c κs =
     let known = c.before in
     let s = known.before in
-    rw (to_z-of_z {w = w64} (record { sfits = known.known_told-1.given.1.0.1 })) (rw s.s-1.given.1 at s.before.before.outcome-s.ensures.1).lawful
+    rw (to_z-of_z {w = w64} (record { sfits = known.known_told-1.given.1.0.1 })) (rw s.s-1.given.1 at s.outcome-s.ensures.1).lawful
 
 returns : tie.Need-returns-in-Forced
 returns c =
     let put = c.before.before in
     let home = put.before.before.before in
-    let told = home.before.before in
+    let told = home.before in
     let s = told.before.before.before in
     let e = rw (to_z-of_z s.ranges.angle, to_z-of_z s.ranges.rate) at told.outcome-s.ensures.0 in
     rw (← e, home.enum_told-1.given.1) (prints_given _ (omega arith) put.put_all_lem.ensures)
@@ -37,7 +37,7 @@ returns_3 c =
     let put = c.before.before in
     let held = put.before.before.before in
     let told = held.before.before in
-    let s = told.before.before.before in
+    let s = told.before.before in
     let e = rw (to_z-of_z s.ranges.angle, to_z-of_z s.ranges.rate) at told.outcome-s.ensures.0 in
     rw (← e, held.enum_told-in-HeldOff-1.given.1) (prints_given _ (omega arith) put.put_all-held.ensures)
 

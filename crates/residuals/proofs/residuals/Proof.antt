@@ -6,19 +6,19 @@ use Rattle.residuals.proofs.residuals.Statement.{statement}
 use Rattle.residuals.proofs.residuals.Tie as tie
 
 residuals-of-requires : tie.Need-residuals_of-requires
-residuals-of-requires c κs = let a = admitted _ c.before.before.before.admit-checked.ensures c.before.enum_told-1.given.1 in (a.sized, a.narrow)
+residuals-of-requires c κs = let a = admitted _ c.admit-checked.ensures c.in-Going.is in (a.sized, a.narrow)
 
 returns : tie.Need-returns-in-Refused
 unfolding MeasuredResiduals.residuals
 returns c =
-    let admit = c.before.before.before.before.admit-checked in
-    rw (← admit.ensures, c.before.before.fate-1.given.1, c.refused_residuals.ensures)
+    let admit = c.admit-checked in
+    rw (← admit.ensures, c.in-Refused.is, c.refused_residuals.ensures)
 
 returns_2 : tie.Need-returns-in-Going
 unfolding MeasuredResiduals.residuals
 returns_2 c =
-    let admit = c.before.before.before.before.admit-checked in
-    rw (← admit.ensures, c.before.before.enum_told-1.given.1, c.residuals_of.ensures)
+    let admit = c.admit-checked in
+    rw (← admit.ensures, c.in-Going.is, c.residuals_of.ensures)
 
 pub residuals_spec : {M : Type 1} → statement M
 residuals_spec =

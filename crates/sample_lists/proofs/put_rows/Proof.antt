@@ -27,31 +27,31 @@ loop-holds : tie.Need-loop-j-init invariant_loop decreases_loop
 loop-holds c =
     let first = c.before in
     let e = first.unplaced-placed.ensures in
-    (omega arith, refl, rw e (omega arith), rw e (passed_none first.before.before.args.nodes.now first.unplaced-placed.result.t), rw c.unturned-turning.ensures (omega arith), (λ a b. absurd (omega (arith, a))), (λ a b. absurd (omega (arith, a))), goes_first _ _)
+    (omega arith, refl, rw e (omega arith), rw e (passed_none first.args.nodes.now first.unplaced-placed.result.t), rw c.unturned-turning.ensures (omega arith), (λ a b. absurd (omega (arith, a))), (λ a b. absurd (omega (arith, a))), goes_first _ _)
 
 returns : tie.Need-returns-in-Refused invariant_loop decreases_loop
 returns c =
-    let made = c.before.before.before in
+    let made = c.before in
     let then = made.before.before in
-    let l = then.before.before.before.before.before.before.loop-j in
-    goes_cut _ l.invariant.7 (finish_is _ _ _ _ _ _ _ then.before.before.before.before.before.before.before.before.before.step_rows-steps.ensures l.invariant.6 then.if-j-ge2.true (omega arith) made.finish-made.ensures) (omega arith) c.before.fate-1.given.1
+    let l = then.loop-j in
+    goes_cut _ l.invariant.7 (finish_is _ _ _ _ _ _ _ then.step_rows-steps.ensures l.invariant.6 then.if-j-ge2.true (omega arith) made.finish-made.ensures) (omega arith) c.in-Refused.is
 
 -- where a row is written: the loop's turn
 abbrev turn_of_law : tie.After-numbers-row invariant_loop decreases_loop → tie.At-loop-j invariant_loop decreases_loop
-turn_of_law c = let then = c.before.before.before.before.before.before in then.before.before.before.before.before.before
+turn_of_law c = let then = c.before.before.before.before.before in then.before.before.before.before.before.before
 
 mul-row : tie.Need-offset_bounds-out-j invariant_loop decreases_loop
-mul-row c = omega (arith, (turn_of_law c).before.before.before.before.requires)
+mul-row c = omega (arith, (turn_of_law c).requires)
 
 slice-set-from-row : tie.Need-bounds-out-j invariant_loop decreases_loop
-slice-set-from-row c = omega (arith, (turn_of_law c).before.before.before.before.requires, (turn_of_law c).loop-j.invariant.1)
+slice-set-from-row c = omega (arith, (turn_of_law c).requires, (turn_of_law c).loop-j.invariant.1)
 
 loop-again : tie.Need-loop-j-preserved invariant_loop decreases_loop
 loop-again c =
     let place = c.before in
     let hold = place.before in
     let turn = hold.before.before in
-    let l = turn.before.before.loop-j in
+    let l = turn.loop-j in
     let s = turn.before.before.before.before.before in (
       omega arith,
       ⊎_elim (λ w. rw w.7 (length-set l.out (l.j - 2) w.6.result ∙ l.invariant.1)) (λ w. rw w.1 l.invariant.1) c.if-j-ge2.branch,
@@ -64,7 +64,7 @@ loop-again c =
           (λ w.
           let e : l.j - 2 + 1 ≡ l.j + 1 - 2 = omega (arith, w.0.taken) in
           let is = finish_is _ _ _ _ _ _ _ s.step_rows-steps.ensures l.invariant.6 w.0.taken (omega arith) w.2.ensures in
-          rw (w.7, ← e) (goes_next _ l.invariant.7 is (omega (arith, s.before.requires, w.0.taken)) w.4.given.1 w.6.ensures))
+          rw (w.7, ← e) (goes_next _ l.invariant.7 is (omega (arith, s.requires, w.0.taken)) w.4.given.1 w.6.ensures))
           (λ w. let e : l.j - 2 ≡ l.j + 1 - 2 = omega (arith, w.0.left) in rw (w.1, ← e) l.invariant.7)
           c.if-j-ge2.branch,
     )
@@ -72,7 +72,7 @@ loop-again c =
 returns_2 : tie.Need-returns invariant_loop decreases_loop
 returns_2 c =
     let entry = c.before.before.before.before.before in
-    let l = c.before.loop-j in
+    let l = c.loop-j in
     let e : l.j - 2 ≡ entry.args.count = omega arith in
     rw e at (goes_whole _ l.invariant.7)
 

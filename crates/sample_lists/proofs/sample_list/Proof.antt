@@ -8,24 +8,24 @@ use Rattle.sample_lists.proofs.sample_list.Tie as tie
 
 returns : tie.Need-returns-then-count-out
 returns c =
-    let sample-count = c.before.before.before.before.sample_count-counted in
-    lists_short _ _ _ _ _ _ _ (rw (← sample-count.ensures, c.before.before.counted-1.given.1)) c.if-count-out.true
+    let sample-count = c.sample_count-counted in
+    lists_short _ _ _ _ _ _ _ (rw (← sample-count.ensures, c.in-Of.is)) c.if-count-out.true
 
 put-rows-requires : tie.Need-put_rows-requires
 put-rows-requires c κs =
     let n = c.before.before.before in
-    let e = sym n.before.before.sample_count-counted.ensures ∙ n.counted-1.given.1 in
-    (some_count _ _ _ e, given_count _ _ _ e, c.before.if-count-out.false)
+    let e = sym n.sample_count-counted.ensures ∙ n.in-Of.is in
+    (some_count _ _ _ e, given_count _ _ _ e, c.if-count-out.false)
 
 returns_2 : tie.Need-returns-in-TooMany
-returns_2 c = lists_many _ _ _ _ _ _ _ (rw (← c.before.before.sample_count-counted.ensures, c.enum_told-1.given.1))
+returns_2 c = lists_many _ _ _ _ _ _ _ (rw (← c.sample_count-counted.ensures, c.in-TooMany.is))
 
 returns_3 : tie.Need-returns-else-count-out
 returns_3 c =
     let put = c.before in
     let room = put.before.before in
     let counted = room.before.before in
-    lists_room _ _ _ _ _ _ _ (rw (← counted.before.before.sample_count-counted.ensures, counted.counted-1.given.1)) room.if-count-out.false put.put_rows.ensures
+    lists_room _ _ _ _ _ _ _ (rw (← counted.sample_count-counted.ensures, counted.in-Of.is)) room.if-count-out.false put.put_rows.ensures
 
 pub sample_list_spec : {M : Type 1} → statement M
 sample_list_spec =

@@ -4,10 +4,10 @@ use Rattle.sample_program.proofs.course.Statement.{statement}
 use Rattle.sample_program.proofs.course.Tie as tie
 
 returns : tie.Need-returns-in-Search
-returns c = rw c.before.enum_told-1.given.1 c.search_course.ensures
+returns c = rw c.in-Search.is c.search_course.ensures
 
 returns_2 : tie.Need-returns-in-Eigenaxis
-returns_2 c = rw c.before.before.method-1.given.1 c.eigenaxis_course.ensures
+returns_2 c = rw c.in-Eigenaxis.is c.eigenaxis_course.ensures
 
 pub course_spec : {M : Type 1} → statement M
 course_spec = tie.close (tie.spec (search rules) (search rules) (search rules) (search rules) returns returns_2)

@@ -6,7 +6,7 @@ use Rattle.sample_text.proofs.alpha_of.Tie as tie
 
 returns : tie.Need-returns
 unfolding alpha_of
-returns c = rw (c.before.profiled-made.ensures, c.before.before.before.check-checked.ensures)
+returns c = rw (c.profiled-made.ensures, c.check-checked.ensures)
 
 pub alpha_of_spec : {M : Type 1} → statement M
 alpha_of_spec = tie.close (tie.spec (search rules) (search rules) returns)

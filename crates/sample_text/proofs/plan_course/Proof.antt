@@ -10,7 +10,7 @@ returns c =
     let at_read = at-plan-read.before.before.before in
     let made = at-plan-read.plan_read-a.ensures in
     record {
-      is = course_planned _ _ at_read.read-read.ensures made.0 c.before.alpha_of.ensures c.course_of.ensures;
+      is = course_planned _ _ at_read.read-read.ensures made.0 c.alpha_of.ensures c.course_of.ensures;
       left = rw (c.course_of.ensures, runs_of) made.1;
       between = promised_course _ _ _ c.course_of.ensures made.2;
     }

@@ -8,15 +8,15 @@ returns : tie.Need-returns-in-Refused
 unfolding answer headed
 returns c =
     let made = c.before.before.before.before.before in
-    let fate = made.before.before.before.fate-1.given.1 in
-    (rw fate, rw (c.before.before.put_numbers.ensures, made.float_of-in-Refused.ensures, made.before.float_of.ensures, fate))
+    let fate = made.in-Refused.is in
+    (rw fate, rw (c.put_numbers.ensures, made.float_of-in-Refused.ensures, made.float_of.ensures, fate))
 
 returns_2 : tie.Need-returns-in-Going
 unfolding answer headed
 returns_2 c =
     let made = c.before.before.before.before.before in
-    let fate = made.before.before.enum_told-1.given.1 in
-    (rw fate, rw (c.before.before.put_numbers-in-Going.ensures, made.numbers_of-v.ensures, fate))
+    let fate = made.in-Going.is in
+    (rw fate, rw (c.put_numbers-in-Going.ensures, made.numbers_of-v.ensures, fate))
 
 pub put_dense_spec : {M : Type 1} → statement M
 put_dense_spec =

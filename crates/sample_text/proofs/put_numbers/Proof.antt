@@ -13,14 +13,14 @@ decreases_loop out₀ v k₀ out k = length v - k
 
 loop-again : tie.Need-loop-k-preserved invariant_loop decreases_loop
 loop-again c =
-    let a = c.before.before.before.args in
-    let l = c.before.before.loop-k in
+    let a = c.args in
+    let l = c.loop-k in
     (omega arith, l.invariant.1 ∙ sets_next l.out a.v.now l.k (omega arith), length-set l.out _ _ ∙ l.invariant.2)
 
 returns : tie.Need-returns invariant_loop decreases_loop
 returns c =
-    let a = c.before.before.args in
-    let l = c.before.loop-k in
+    let a = c.args in
+    let l = c.loop-k in
     sym (l.invariant.1 ∙ sets_done l.out a.v.now l.k (omega arith)) ∙ sets_all a.out.now a.v.now (omega arith)
 
 pub put_numbers_spec : {M : Type 1} → statement M

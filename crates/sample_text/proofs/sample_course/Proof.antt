@@ -6,11 +6,11 @@ use Rattle.sample_text.proofs.sample_course.Tie as tie
 
 returns : tie.Need-returns-in-Refused
 unfolding sample_course
-returns c = rw (c.refused.ensures, c.before.before.fate-1.given.1)
+returns c = rw (c.refused.ensures, c.in-Refused.is)
 
 returns_2 : tie.Need-returns-in-Going
 unfolding sample_course
-returns_2 c = rw (c.sample_of.ensures, c.before.enum_told-1.given.1)
+returns_2 c = rw (c.sample_of.ensures, c.in-Going.is)
 
 pub sample_course_spec : {M : Type 1} → statement M
 sample_course_spec = tie.close (tie.spec (search rules) (search rules) (search rules) (search rules) returns returns_2)

@@ -6,7 +6,7 @@ use Rattle.sample_text.proofs.sample_of.Tie as tie
 
 returns : tie.Need-returns
 unfolding sample_of
-returns c = rw (c.sample.ensures, c.before.before.rows-by_rows.ensures, c.before.before.before.tensor-j.ensures)
+returns c = rw (c.sample.ensures, c.rows-by_rows.ensures, c.tensor-j.ensures)
 
 pub sample_of_spec : {M : Type 1} → statement M
 sample_of_spec = tie.close (tie.spec (search rules) (search rules) (search rules) returns)

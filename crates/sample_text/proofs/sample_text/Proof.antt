@@ -9,10 +9,10 @@ returns c = gives_short _ _ _ _ _ c.if-out-lt14.true
 
 returns_2 : tie.Need-returns
 returns_2 c =
-    let put = c.before.before.put_dense.ensures in
+    let put = c.put_dense.ensures in
     let sampled = c.before.before.before.before in
-    let made = sampled.before.before.before.plan_course-c.ensures in
-    gives _ _ _ _ _ sampled.before.before.before.before.before.if-out-lt14.false made sampled.sample_course-d.ensures put.0 put.1
+    let made = sampled.plan_course-c.ensures in
+    gives _ _ _ _ _ sampled.if-out-lt14.false made sampled.sample_course-d.ensures put.0 put.1
 
 pub sample_text_spec : {M : Type 1} → statement M
 sample_text_spec = tie.close (tie.spec returns (search rules) (search rules) (search rules) (search rules) (search rules) returns_2)

@@ -7,21 +7,21 @@ use Rattle.samples.proofs.sample.Tie as tie
 
 time-of-requires : tie.Need-time_of-t-requires
 time-of-requires c κs =
-    let sample-count = c.before.before.before.before.sample_count-counted in
-    (c.if-index-count.true, given_count _ _ _ (sym sample-count.ensures ∙ c.before.before.counted-1.given.1))
+    let sample-count = c.sample_count-counted in
+    (c.if-index-count.true, given_count _ _ _ (sym sample-count.ensures ∙ c.in-Of.is))
 
 returns : tie.Need-returns-in-TooMany
-returns c = c.refused.ensures ∙ too_many _ _ _ _ _ _ _ (sym c.before.before.before.sample_count-counted.ensures ∙ c.before.enum_told-1.given.1)
+returns c = c.refused.ensures ∙ too_many _ _ _ _ _ _ _ (sym c.sample_count-counted.ensures ∙ c.in-TooMany.is)
 
 returns_2 : tie.Need-returns-then-index-count
 returns_2 c =
     let n = c.before.before.before.before in
-    rw (c.interpolate.ensures, c.before.time_of-t.ensures) (in_count _ _ _ _ _ _ _ (sym n.before.before.sample_count-counted.ensures ∙ n.counted-1.given.1) c.before.before.if-index-count.true)
+    rw (c.interpolate.ensures, c.time_of-t.ensures) (in_count _ _ _ _ _ _ _ (sym n.sample_count-counted.ensures ∙ n.in-Of.is) c.if-index-count.true)
 
 returns_3 : tie.Need-returns-else-index-count
 returns_3 c =
     let n = c.before.before.before in
-    c.refused-else-index-count.ensures ∙ past_count _ _ _ _ _ _ _ (sym n.before.before.sample_count-counted.ensures ∙ n.counted-1.given.1) c.before.if-index-count.false
+    c.refused-else-index-count.ensures ∙ past_count _ _ _ _ _ _ _ (sym n.sample_count-counted.ensures ∙ n.in-Of.is) c.if-index-count.false
 
 pub sample_spec : {M : Type 1} → statement M
 sample_spec =

@@ -7,29 +7,29 @@ use Rattle.scvx.proofs.room.Statement.{statement}
 use Rattle.scvx.proofs.room.Tie as tie
 
 add-result : tie.Need-overflow_add-result
-add-result c = omega (arith, numbers_most c.before.before.args.p c.before.before.requires, width_most c.before.before.args.p)
+add-result c = omega (arith, numbers_most c.args.p c.requires, width_most c.args.p)
 
 add-result-2 : tie.Need-overflow_add-result-2
-add-result-2 c = omega (arith, numbers_most c.before.before.args.p c.before.before.requires, width_most c.before.before.args.p)
+add-result-2 c = omega (arith, numbers_most c.args.p c.requires, width_most c.args.p)
 
 mul-result : tie.Need-overflow_mul-result
 mul-result c =
-    let n = numbers_most c.before.before.args.p c.before.before.requires in
-    let m = width_most c.before.before.args.p in
-    omega (arith, product_most c.before.numbers-n.result c.width-m.result (omega arith) (omega arith))
+    let n = numbers_most c.args.p c.requires in
+    let m = width_most c.args.p in
+    omega (arith, product_most c.numbers-n.result c.width-m.result (omega arith) (omega arith))
 
 mul-result-2 : tie.Need-overflow_mul-result-2
-mul-result-2 c = omega (arith, width_most c.before.before.args.p)
+mul-result-2 c = omega (arith, width_most c.args.p)
 
 add-result-3 : tie.Need-overflow_add-result-3
 add-result-3 c =
-    let n = numbers_most c.before.before.args.p c.before.before.requires in
-    let m = width_most c.before.before.args.p in
-    omega (arith, product_most c.before.numbers-n.result c.width-m.result (omega arith) (omega arith))
+    let n = numbers_most c.args.p c.requires in
+    let m = width_most c.args.p in
+    omega (arith, product_most c.numbers-n.result c.width-m.result (omega arith) (omega arith))
 
 returns : tie.Need-returns
 unfolding Search.room
-returns c = rw (c.before.numbers-n.ensures, c.width-m.ensures)
+returns c = rw (c.numbers-n.ensures, c.width-m.ensures)
 
 pub room_spec : {M : Type 1} → statement M
 room_spec =

@@ -26,23 +26,23 @@ room : (k n : ℕ) → k < 16 → n ≤ 12 → 1 + k * n + n ≤ 193
 room k n h w = omega (arith, row_end k 16 n h)
 
 mul_at : tie.Need-overflow_mul-at invariant_loop decreases_loop
-mul_at c = omega (arith, room c.before.loop-k.k c.before.before.before.args.n (search rules) c.before.before.before.requires.1.0)
+mul_at c = omega (arith, room c.loop-k.k c.args.n (search rules) c.requires.1.0)
 
 add_at : tie.Need-overflow_add-at invariant_loop decreases_loop
-add_at c = omega (arith, room c.before.loop-k.k c.before.before.before.args.n (search rules) c.before.before.before.requires.1.0)
+add_at c = omega (arith, room c.loop-k.k c.args.n (search rules) c.requires.1.0)
 
 add-end : tie.Need-overflow_add-end invariant_loop decreases_loop
-add-end c = omega (arith, room c.before.loop-k.k c.before.before.before.args.n (search rules) c.before.before.before.requires.1.0)
+add-end c = omega (arith, room c.loop-k.k c.args.n (search rules) c.requires.1.0)
 
 mul-out : tie.Need-offset_bounds-out-at invariant_loop decreases_loop
 mul-out c =
     let start = c.before.before.before.before in
-    omega (arith, room c.before.before.loop-k.k start.args.n (search rules) start.requires.1.0)
+    omega (arith, room c.loop-k.k start.args.n (search rules) start.requires.1.0)
 
 part-out-end : tie.Need-slice_bounds-out-end invariant_loop decreases_loop
 part-out-end c =
     let start = c.before.before.before.before in
-    omega (arith, room c.before.before.loop-k.k start.args.n (search rules) start.requires.1.0)
+    omega (arith, room c.loop-k.k start.args.n (search rules) start.requires.1.0)
 
 put-row-requires : tie.Need-put_row-requires invariant_loop decreases_loop
 put-row-requires c κs =
@@ -62,14 +62,14 @@ loop-again c =
     let s = start in
     let n = s.args.n in
     let l = looped.loop-k in
-    let f = c.before.put_row_law in
+    let f = c.put_row in
     let r = room l.k n (omega arith) s.requires.1.0 in
     let g = length_slice l.out-1 (1 + l.k * n) (1 + l.k * n + n) (omega arith) in
     let e : 1 + l.k * n + n - (1 + l.k * n) ≡ n = omega arith in
     (omega arith, (length_pasted l.out-1 f.new.0 (1 + l.k * n) (1 + l.k * n + n) (omega arith) (omega arith) f.auto.0 ∙ l.invariant.1.0, iter_next _ _ _ l.invariant.1.1 (rw (← s.requires.0, f.ensures, g, e, after-row-of.row_of-u.ensures))))
 
 returns : tie.Need-returns invariant_loop decreases_loop
-returns c = let e : c.before.loop-k.k ≡ 16 = omega arith in rw (← e) c.before.loop-k.invariant.1.1
+returns c = let e : c.loop-k.k ≡ 16 = omega arith in rw (← e) c.loop-k.invariant.1.1
 
 pub allocate_rows_spec : {M : Type 1} → statement M
 allocate_rows_spec =

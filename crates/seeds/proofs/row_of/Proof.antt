@@ -5,7 +5,7 @@ use Rattle.seeds.proofs.row_of.Statement.{statement}
 use Rattle.seeds.proofs.row_of.Tie as tie
 
 returns : tie.Need-returns
-returns c = rw c.before.allocate_body_torque-row.ensures
+returns c = rw c.allocate_body_torque-row.ensures
 
 pub row_of_spec : {M : Type 1} → statement M
 row_of_spec =

@@ -7,7 +7,7 @@ use Rattle.seeds.proofs.seed_decision.Tie as tie
 
 returns : tie.Need-returns
 unfolding Seeds.seed_decision Seeds.seed_held Seeds.allocated Ieee.of_bits
-returns c = (rw (c.before.before.project_rows-projected.ensures, c.before.before.before.allocate_rows-rows.ensures), rw (c.held_counts-held.ensures, c.before.before.before.allocate_rows-rows.ensures))
+returns c = (rw (c.project_rows-projected.ensures, c.allocate_rows-rows.ensures), rw (c.held_counts-held.ensures, c.allocate_rows-rows.ensures))
 
 pub seed_decision_spec : {M : Type 1} → statement M
 seed_decision_spec =

@@ -6,7 +6,7 @@ use Rattle.sentences.proofs.main.Statement.{statement}
 use Rattle.sentences.proofs.main.Tie as tie
 
 array-share-prefix-out : tie.Need-slice_bounds-out-end
-array-share-prefix-out c = let told = c.before.write_table-n.ensures in omega (arith, told.ends, told.short)
+array-share-prefix-out c = let told = c.write_table-n.ensures in omega (arith, told.ends, told.short)
 
 slice-aggregate-write-all : tie.Need-slice_bounds-write_all-end
 slice-aggregate-write-all c = let within = array-share-prefix-out c.before in search (rules, within, length-take-le)

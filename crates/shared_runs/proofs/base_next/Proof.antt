@@ -12,7 +12,7 @@ use Rattle.shared_runs.proofs.base_next.Tie as tie
 steps-under-requires : tie.Need-steps_under-w-requires
 steps-under-requires c κs =
     let e = c.before.before in
-    let pre = e.before.before.before.before.before.before.requires in
+    let pre = e.requires in
     let k = pre.1.1.1.1 (not-false _ e.if-not-b.false) in
     (record { sized = pre.0; narrow = pre.1.0; angles = (k.skew-1, pre.1.1.0); sound = k.sound }, (omega arith, omega arith))
 
@@ -36,7 +36,7 @@ keep-error-requires c κs =
     let r = t.steps_under-w.ensures in
     let held = start.requires.1.1.1 in
     let k = held.1 (not-false _ e.if-not-b.false) in
-    rw c.before.before.target_of.ensures
+    rw c.target_of.ensures
     (omega arith, (r.size ∙ held.0.nodes, (held.0.errors, (kept_same a.p a.z.now a.b a.nodes.now t.steps_under-w.new.1.1.1.1.1.1.1.1.0 a.errors.now r.size r.below k).begins.kept)))
 
 returns_3 : tie.Need-returns
@@ -47,7 +47,7 @@ returns_3 c =
     let sums = target.before in
     let t = sums.before.before.before in
     let e = t.before.before.before in
-    let held = e.before.before.before.before.before.before.requires.1.1.1 in
+    let held = e.requires.1.1.1 in
     let r = t.steps_under-w.ensures in
     let k = held.1 (not-false _ e.if-not-b.false) in (
       record { nodes = r.size ∙ held.0.nodes; errors = kept.keep_error-known.ensures.1 },
@@ -65,8 +65,8 @@ pub base_next_spec : {M : Type 1} → statement M
 base_next_spec =
     tie.close
     (tie.spec
-    (λ c. c.before.before.before.before.before.before.requires.1.1.1)
-    (λ c. c.before.before.before.before.before.before.before.requires.1.1.1)
+    (λ c. c.requires.1.1.1)
+    (λ c. c.requires.1.1.1)
     (λ c. search rules)
     steps-under-requires
     (λ c. search rules)

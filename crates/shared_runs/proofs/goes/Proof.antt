@@ -7,7 +7,7 @@ use Rattle.shared_runs.proofs.goes.Statement.{statement}
 use Rattle.shared_runs.proofs.goes.Tie as tie
 
 returns : tie.Need-returns-in-Going
-returns c = λ h. (c.enum_told-1.given.1, h)
+returns c = λ h. (c.in-Going.is, h)
 
 returns_2 : tie.Need-returns-in-Refused
 returns_2 c = λ h. let z : ◌≡◌ {A = ℕ} 0 1 = cc in absurd (omega arith)

@@ -25,14 +25,14 @@ returns c = λ h. let z : ◌≡◌ {A = ℕ} 0 1 = cc in absurd (omega arith)
 
 loop-again : tie.Need-loop-i-preserved invariant_loop decreases_loop
 loop-again c =
-    let l = c.before.before.before.before.before.loop-i in
-    let a = c.before.before.before.before.before.before.before.before.args in
-    (omega arith, below_more (λ k. at a.y.now k ≡ at a.z.now k) l.i l.invariant.1 (same_is _ _ (met c.before.same_bits.ensures c.if-not-same_bits.false)))
+    let l = c.loop-i in
+    let a = c.args in
+    (omega arith, below_more (λ k. at a.y.now k ≡ at a.z.now k) l.i l.invariant.1 (same_is _ _ (met c.same_bits.ensures c.if-not-same_bits.false)))
 
 returns_2 : tie.Need-returns invariant_loop decreases_loop
 returns_2 c =
     let entry = c.before.before.before.before in
-    λ h. let l = c.before.loop-i in let e : l.i ≡ entry.args.e = omega arith in rw e at l.invariant.1
+    λ h. let l = c.loop-i in let e : l.i ≡ entry.args.e = omega arith in rw e at l.invariant.1
 
 pub same_front_spec : {M : Type 1} → statement M
 same_front_spec =

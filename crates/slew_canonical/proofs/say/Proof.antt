@@ -6,7 +6,7 @@ use Rattle.slew_canonical.proofs.say.Statement.{statement}
 use Rattle.slew_canonical.proofs.say.Tie as tie
 
 array-share-prefix-sentence : tie.Need-slice_bounds-sentence-end
-array-share-prefix-sentence c = let told = c.before.explain-n.ensures in omega (arith, told.ends, told.short)
+array-share-prefix-sentence c = let told = c.explain-n.ensures in omega (arith, told.ends, told.short)
 
 slice-aggregate-write-all : tie.Need-slice_bounds-write_all-end
 slice-aggregate-write-all c = let within = array-share-prefix-sentence c.before in search (rules, within, length-take-le)

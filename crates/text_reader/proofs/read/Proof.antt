@@ -6,7 +6,7 @@ use Rattle.text_reader.proofs.read.Tie as tie
 
 returns : tie.Need-returns
 unfolding read_in
-returns c = rw (c.read_of.ensures, c.before.read_list.ensures, c.before.before.read_head.ensures)
+returns c = rw (c.read_of.ensures, c.read_list.ensures, c.read_head.ensures)
 
 pub read_spec : {M : Type 1} → statement M
 read_spec = tie.close (tie.spec (search rules) (search rules) (search rules) returns)

@@ -12,7 +12,7 @@ returns c = simp (lt-leb _ _ c.if-controls-gt12.true) (puts_none _ _ _)
 
 returns_2 : tie.Need-returns-then-wheels-gt8
 unfolding path
-returns_2 c = simp (le-leb _ _ c.before.if-controls-gt12.false, lt-leb _ _ c.if-wheels-gt8.true) (puts_none _ _ _)
+returns_2 c = simp (le-leb _ _ c.if-controls-gt12.false, lt-leb _ _ c.if-wheels-gt8.true) (puts_none _ _ _)
 
 returns_3 : tie.Need-returns
 unfolding path path_text

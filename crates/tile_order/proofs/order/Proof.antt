@@ -11,12 +11,12 @@ use borrow.Author.Rules.{rules}
 use Rattle.tile_order.proofs.order.Statement.{statement}
 use Rattle.tile_order.proofs.order.Tie as tie
 
-taken : (c : tie.Else-refused) → Table c.before.before.before.args.tiles c.before.before.before.args.times.now
-taken c = table _ _ (sym c.before.refused.ensures ∙ c.if-refused.false)
+taken : (c : tie.Else-refused) → Table c.args.tiles c.args.times.now
+taken c = table _ _ (sym c.refused.ensures ∙ c.if-refused.false)
 
 returns : tie.Need-returns-then-refused
 unfolding answer
-returns c = carries _ _ _ (rw (sym c.before.before.refused.ensures ∙ c.before.if-refused.true) c.refusal.ensures)
+returns c = carries _ _ _ (rw (sym c.refused.ensures ∙ c.if-refused.true) c.refusal.ensures)
 
 returns_2 : tie.Need-returns
 unfolding answer
@@ -25,7 +25,7 @@ returns_2 c =
     let k = f.before in
     let s = k.before.before in
     carries _ _ _
-    (rw (sym s.before.before.refused.ensures ∙ s.before.if-refused.false)
+    (rw (sym s.refused.ensures ∙ s.if-refused.false)
     (ap₂ found (rw (k.cost_of-bound.ensures, s.straight-best.ensures) at c.visit-exhausted.ensures.0) f.floor-lowest.ensures))
 
 pub order_spec : {M : Type 1} → statement M
@@ -38,7 +38,7 @@ order_spec =
     (λ c κs. (taken c).few)
     (λ c κs. let r = taken c.before.before in
     let p = straight_part _ r.some r.few in
-    (r.some, r.few, r.size, rw c.before.straight-best.ensures p.below))
+    (r.some, r.few, r.size, rw c.straight-best.ensures p.below))
     (λ c κs. let r = taken c.before.before.before in (r.some, r.few, r.size))
     (λ c. (taken c.before.before.before.before).some)
     (λ c κs. let r = taken c.before.before.before.before.before.before.before.before.before in

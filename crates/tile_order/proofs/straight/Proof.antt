@@ -16,8 +16,8 @@ decreases_loop n order₀ i₀ order i = n - i
 
 returns : tie.Need-returns invariant_loop decreases_loop
 returns c =
-    let l = c.before.loop-i in
-    let e : l.i ≡ c.before.before.args.n = omega arith in
+    let l = c.loop-i in
+    let e : l.i ≡ c.args.n = omega arith in
     rw e at l.invariant.1
 
 pub straight_spec : {M : Type 1} → statement M
@@ -31,5 +31,5 @@ straight_spec =
     (λ c. omega arith)
     (λ c. omega arith)
     (λ c. omega arith)
-    (λ c. (omega arith, iter_next _ _ c.before.loop-i.i c.before.loop-i.invariant.1 refl))
+    (λ c. (omega arith, iter_next _ _ c.loop-i.i c.loop-i.invariant.1 refl))
     returns)

@@ -7,26 +7,26 @@ use Rattle.wheel_record.proofs.commit.Tie as tie
 
 returns : tie.Need-returns-then-not-answered
 unfolding Commits.commit
-returns c = rw (not-true c.before.before.args.answered c.before.if-not-answered.true) c.not_started.ensures
+returns c = rw (not-true c.args.answered c.if-not-answered.true) c.not_started.ensures
 
 returns_2 : tie.Need-returns-then-k-on_record
 unfolding Commits.commit
 returns_2 c =
     let entry = c.before.before.before.before.before in
-    let if1 = c.before.before.before.before.if-not-answered in
-    rw (not-false entry.args.answered if1.false, ← c.before.before.before.leading_same-k.ensures, ne_eqb _ _ c.before.if-k-on_record.true) c.not_started-then-k-on_record.ensures
+    let if1 = c.if-not-answered in
+    rw (not-false entry.args.answered if1.false, ← c.leading_same-k.ensures, ne_eqb _ _ c.if-k-on_record.true) c.not_started-then-k-on_record.ensures
 
 returns_3 : tie.Need-returns-then-k-began
 unfolding Commits.commit
 returns_3 c =
     let entry = c.before.before.before.before.before.before.before in
-    let if1 = c.before.before.before.before.before.before.if-not-answered in
-    let leading-same = c.before.before.before.before.before.leading_same-k in
+    let if1 = c.if-not-answered in
+    let leading-same = c.leading_same-k in
     rw (
       not-false entry.args.answered if1.false,
       ← leading-same.ensures,
-      eq-eqb _ _ c.before.before.before.if-k-on_record.false,
-      ne_eqb _ _ c.before.if-k-began.true,
+      eq-eqb _ _ c.if-k-on_record.false,
+      ne_eqb _ _ c.if-k-began.true,
     )
     c.not_started-then-k-began.ensures
 
@@ -34,12 +34,12 @@ returns-4 : tie.Need-returns
 unfolding Commits.commit
 returns-4 c =
     let entry = c.before.before.before.before.before.before in
-    let if1 = c.before.before.before.before.before.if-not-answered in
-    let leading-same = c.before.before.before.before.leading_same-k in
+    let if1 = c.if-not-answered in
+    let leading-same = c.leading_same-k in
     rw (
       not-false entry.args.answered if1.false,
       ← leading-same.ensures,
-      eq-eqb _ _ c.before.before.if-k-on_record.false,
+      eq-eqb _ _ c.if-k-on_record.false,
       eq-eqb _ _ c.if-k-began.false,
     )
 

@@ -21,13 +21,13 @@ loop-holds : tie.Need-loop-k-init invariant_loop decreases_loop
 loop-holds c = (omega arith, iter_none _ _)
 
 returns : tie.Need-returns-then-not-same_wheel invariant_loop decreases_loop
-returns c = leading_stays _ _ _ c.before.before.before.loop-k.invariant.1 c.before.before.before.loop-k.invariant.0 (unmet c.before.same_wheel.ensures c.if-not-same_wheel.true)
+returns c = leading_stays _ _ _ c.loop-k.invariant.1 c.loop-k.invariant.0 (unmet c.same_wheel.ensures c.if-not-same_wheel.true)
 
 loop-again : tie.Need-loop-k-preserved invariant_loop decreases_loop
-loop-again c = (omega arith, leading_next _ _ _ c.before.before.before.loop-k.invariant.1 (met c.before.same_wheel.ensures c.if-not-same_wheel.false))
+loop-again c = (omega arith, leading_next _ _ _ c.loop-k.invariant.1 (met c.same_wheel.ensures c.if-not-same_wheel.false))
 
 returns_2 : tie.Need-returns invariant_loop decreases_loop
-returns_2 c = leading_whole _ _ _ c.before.loop-k.invariant.1 (omega arith)
+returns_2 c = leading_whole _ _ _ c.loop-k.invariant.1 (omega arith)
 
 pub leading_same_spec : {M : Type 1} → statement M
 leading_same_spec = tie.close (tie.spec invariant_loop decreases_loop loop-holds (λ c κs. search rules) returns (λ c. search rules) (λ c. search rules) loop-again returns_2)

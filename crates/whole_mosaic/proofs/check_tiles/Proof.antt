@@ -8,13 +8,13 @@ use Rattle.whole_mosaic.proofs.check_tiles.Statement.{statement}
 use Rattle.whole_mosaic.proofs.check_tiles.Tie as tie
 
 sub-check-rows : tie.Need-overflow_sub-tiles
-sub-check-rows c = let counted = c.before.before in omega (arith, count_least counted.before.args.tiles (sym counted.check_count-fate.ensures ∙ c.enum_told-1.given.1))
+sub-check-rows c = let counted = c.before in omega (arith, count_least counted.args.tiles (sym counted.check_count-fate.ensures ∙ c.in-Going.is))
 
 returns : tie.Need-returns-in-Refused
-returns c = tiles_refused _ _ _ _ _ c.before.before.before.check_count-fate.ensures c.before.fate-1.given.1
+returns c = tiles_refused _ _ _ _ _ c.check_count-fate.ensures c.in-Refused.is
 
 returns_2 : tie.Need-returns-in-Going
-returns_2 c = c.check_rows.ensures ∙ tiles_room _ _ _ _ _ c.before.before.before.check_count-fate.ensures c.before.enum_told-1.given.1
+returns_2 c = c.check_rows.ensures ∙ tiles_room _ _ _ _ _ c.check_count-fate.ensures c.in-Going.is
 
 pub check_tiles_spec : {M : Type 1} → statement M
 check_tiles_spec =

@@ -6,23 +6,23 @@ use Rattle.whole_mosaic.proofs.plan_mosaic.Statement.{statement}
 use Rattle.whole_mosaic.proofs.plan_mosaic.Tie as tie
 
 sub-put-legs : tie.Need-overflow_sub-tiles
-sub-put-legs c = lends_tile _ _ _ _ _ c.before.before.check_tiles-fate.ensures c.enum_told-1.given.1
+sub-put-legs c = lends_tile _ _ _ _ _ c.check_tiles-fate.ensures c.in-Going.is
 
 put-legs-requires : tie.Need-put_legs-requires
 put-legs-requires c κs =
     let told = c.before.before.before.before.before in
-    lends _ _ _ _ _ told.before.before.check_tiles-fate.ensures told.enum_told-1.given.1
+    lends _ _ _ _ _ told.check_tiles-fate.ensures told.in-Going.is
 
 returns : tie.Need-returns-in-Refused
 returns c =
-    let check-tiles = c.before.before.before.before.before.check_tiles-fate in
-    filled_not _ _ _ _ _ _ _ _ _ _ check-tiles.ensures c.before.before.before.fate-1.given.1 c.before.start.ensures c.halted.ensures
+    let check-tiles = c.check_tiles-fate in
+    filled_not _ _ _ _ _ _ _ _ _ _ check-tiles.ensures c.in-Refused.is c.start.ensures c.halted.ensures
 
 returns_2 : tie.Need-returns-in-Going
 returns_2 c =
     let put = c.before.before.before.before.before.before in
     let told = put.before.before.before.before.before.before in
-    filled_all _ _ _ _ _ _ _ _ _ _ told.before.before.check_tiles-fate.ensures told.enum_told-1.given.1 put.put_legs.ensures
+    filled_all _ _ _ _ _ _ _ _ _ _ told.check_tiles-fate.ensures told.in-Going.is put.put_legs.ensures
 
 pub plan_mosaic_spec : {M : Type 1} → statement M
 plan_mosaic_spec =

@@ -7,15 +7,15 @@ use Rattle.actuators.proofs.allocation.along_axes.Tie as tie
 returns : tie.Need-returns-in-Refused
 unfolding Allocate.along_axes
 returns c =
-    let invert3 = c.before.before.before.before.invert3-inverse in
-    rw (← invert3.ensures, c.before.enum_told-1.given.1) c.unserved.ensures
+    let invert3 = c.invert3-inverse in
+    rw (← invert3.ensures, c.in-Refused.is) c.unserved.ensures
 
 returns_2 : tie.Need-returns-in-Going
 unfolding Allocate.along_axes
 returns_2 c =
     let after-enum-told2 = c.before.before.before in
     let after-invert3 = after-enum-told2.before.before.before in
-    rw (← after-invert3.invert3-inverse.ensures, after-enum-told2.enum_told-in-Going-1.given.1, c.three.ensures, c.before.apply_tensor.ensures, c.before.before.tensor.ensures)
+    rw (← after-invert3.invert3-inverse.ensures, after-enum-told2.enum_told-in-Going-1.given.1, c.three.ensures, c.apply_tensor.ensures, c.tensor.ensures)
 
 pub along_axes_spec : {M : Type 1} → statement M
 along_axes_spec =

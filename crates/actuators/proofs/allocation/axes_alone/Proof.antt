@@ -17,7 +17,7 @@ returns : tie.Need-returns-then-alone
 unfolding Allocate.axes_alone Ieee.of_bits Ieee.neg
 returns c =
     let told = c.before.before.before.before.before in
-    rw (← told.before.alone.ensures, told.if-alone.true, c.along_axes.ensures, c.before.scale3.ensures, c.before.before.columns.ensures)
+    rw (← told.alone.ensures, told.if-alone.true, c.along_axes.ensures, c.scale3.ensures, c.columns.ensures)
 
 columns-requires-2 : tie.Need-columns-requires-then-alone-2
 columns-requires-2 c κs =
@@ -29,14 +29,14 @@ unfolding Allocate.axes_alone
 returns_2 c =
     let told = c.before.before.before.before in
     let other = told.before.before in
-    rw (← other.before.alone.ensures, other.if-alone.false, ← told.before.alone-2.ensures, told.if-alone-2.true, c.along_axes-then-alone-2.ensures, c.before.columns-then-alone-2.ensures)
+    rw (← other.alone.ensures, other.if-alone.false, ← told.alone-2.ensures, told.if-alone-2.true, c.along_axes-then-alone-2.ensures, c.columns-then-alone-2.ensures)
 
 returns_3 : tie.Need-returns
 unfolding Allocate.axes_alone
 returns_3 c =
     let told = c.before in
     let other = told.before.before in
-    rw (← other.before.alone.ensures, other.if-alone.false, ← told.before.alone-2.ensures, told.if-alone-2.false) c.unserved.ensures
+    rw (← other.alone.ensures, other.if-alone.false, ← told.alone-2.ensures, told.if-alone-2.false) c.unserved.ensures
 
 pub axes_alone_spec : {M : Type 1} → statement M
 axes_alone_spec =

@@ -6,7 +6,7 @@ use Rattle.actuators.proofs.allocation.four.Tie as tie
 
 returns : tie.Need-returns
 unfolding Ieee.of_bits
-returns c = rw (c.column-4.ensures, c.before.column-3.ensures, c.before.before.column-2.ensures, c.before.before.before.column.ensures)
+returns c = rw (c.column-4.ensures, c.column-3.ensures, c.column-2.ensures, c.column.ensures)
 
 pub four_spec : {M : Type 1} → statement M
 four_spec =

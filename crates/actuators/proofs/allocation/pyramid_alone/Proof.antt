@@ -8,15 +8,15 @@ use Rattle.actuators.proofs.allocation.pyramid_alone.Tie as tie
 returns : tie.Need-returns-in-Refused
 unfolding Allocate.pyramid_alone Ieee.of_bits
 returns c =
-    let pyramid-a = c.before.before.before.before.pyramid_a-jacobian in
-    rw (← pyramid-a.ensures, c.before.enum_told-1.given.1) c.unserved.ensures
+    let pyramid-a = c.pyramid_a-jacobian in
+    rw (← pyramid-a.ensures, c.in-Refused.is) c.unserved.ensures
 
 returns_2 : tie.Need-returns-in-Going
 unfolding Allocate.pyramid_alone Ieee.of_bits Ieee.neg
 returns_2 c =
     let after-enum-told2 = c.before.before.before.before in
     let after-pyramid-a = after-enum-told2.before.before.before in
-    rw (← after-pyramid-a.pyramid_a-jacobian.ensures, after-enum-told2.enum_told-in-Going-1.given.1, c.least_rates.ensures, c.before.rows.ensures, c.before.before.scale3-v.ensures)
+    rw (← after-pyramid-a.pyramid_a-jacobian.ensures, after-enum-told2.enum_told-in-Going-1.given.1, c.least_rates.ensures, c.rows.ensures, c.scale3-v.ensures)
 
 pub pyramid_alone_spec : {M : Type 1} → statement M
 pyramid_alone_spec =

@@ -6,27 +6,27 @@ use Rattle.actuators.proofs.checks.cmgs_turn.Tie as tie
 
 returns : tie.Need-returns-in_default
 unfolding Prepare.cmgs_next
-returns c = rw c.enum_told-in_default-1.given.1
+returns c = rw c.in_default.is
 
 returns_2 : tie.Need-returns-in-Without
 unfolding Prepare.cmgs_next
 returns_2 c =
-    let enum_told = c.before.before.before.before.enum_told-1 in
-    rw (enum_told.given.1, c.before.enum_told-in-Without-1.given.1) c.so_far.ensures
+    let enum_told = c.enum_told-1 in
+    rw (enum_told.given.1, c.in-Without.is) c.so_far.ensures
 
 returns_3 : tie.Need-returns-then-pyramid_outside
 unfolding Prepare.cmgs_next
 returns_3 c =
     let tested = c.before.before in
     let known = tested.before.before in
-    rw (known.before.before.before.enum_told-1.given.1, known.cmgs-1.given.1, ← tested.pyramid_outside.ensures, c.before.if-pyramid_outside.true) c.refused.ensures
+    rw (known.in-Going.is, known.in-With.is, ← tested.pyramid_outside.ensures, c.if-pyramid_outside.true) c.refused.ensures
 
 returns-4 : tie.Need-returns-else-pyramid_outside
 unfolding Prepare.cmgs_next
 returns-4 c =
     let tested = c.before.before in
     let known = tested.before.before in
-    rw (known.before.before.before.enum_told-1.given.1, known.cmgs-1.given.1, ← tested.pyramid_outside.ensures, c.before.if-pyramid_outside.false) c.so_far-else-pyramid_outside.ensures
+    rw (known.in-Going.is, known.in-With.is, ← tested.pyramid_outside.ensures, c.if-pyramid_outside.false) c.so_far-else-pyramid_outside.ensures
 
 pub cmgs_turn_spec : {M : Type 1} → statement M
 cmgs_turn_spec =

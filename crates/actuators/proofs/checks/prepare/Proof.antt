@@ -7,11 +7,11 @@ use Rattle.actuators.proofs.checks.prepare.Tie as tie
 
 returns : tie.Need-returns-then-wheel_count-gt-MAX_WHEELS
 unfolding Prepare.prepare
-returns c = rw (lt-ltb _ _ c.before.if-wheel_count-gt-MAX_WHEELS.true) c.refused.ensures
+returns c = rw (lt-ltb _ _ c.if-wheel_count-gt-MAX_WHEELS.true) c.refused.ensures
 
 returns_2 : tie.Need-returns-then-thruster_count-gt-MAX_THRUSTERS
 unfolding Prepare.prepare
-returns_2 c = rw (le-ltb _ _ c.before.before.if-wheel_count-gt-MAX_WHEELS.false, lt-ltb _ _ c.before.if-thruster_count-gt-MAX_THRUSTERS.true) c.refused-then-thruster_count-gt-MAX_THRUSTERS.ensures
+returns_2 c = rw (le-ltb _ _ c.if-wheel_count-gt-MAX_WHEELS.false, lt-ltb _ _ c.if-thruster_count-gt-MAX_THRUSTERS.true) c.refused-then-thruster_count-gt-MAX_THRUSTERS.ensures
 
 returns_3 : tie.Need-returns
 unfolding Prepare.prepare Prepare.filled
@@ -25,8 +25,8 @@ returns_3 c =
       le-ltb _ _ branch2.if-thruster_count-gt-MAX_THRUSTERS.false,
       ← after-unfilled.unfilled.ensures,
       ← after-so-far.so_far-start.ensures,
-      ← c.before.before.wheels_checked_law.ensures,
-      ← c.before.thrusters_checked-thrusting.ensures,
+      ← c.wheels_checked-wheeled.ensures,
+      ← c.thrusters_checked-thrusting.ensures,
     )
     c.cmgs_turn.ensures
 

@@ -8,8 +8,8 @@ use Rattle.actuators.proofs.checks.pyramid_outside.Tie as tie
 returns : tie.Need-returns
 unfolding Prepare.pyramid_outside Ieee.of_bits
 returns c =
-    let outside = c.before.before.before.before.outside in
-    rw (c.outside-4.ensures, c.before.outside-3.ensures, c.before.before.outside-2.ensures, outside.ensures)
+    let outside = c.outside in
+    rw (c.outside-4.ensures, c.outside-3.ensures, c.outside-2.ensures, outside.ensures)
 
 pub pyramid_outside_spec : {M : Type 1} → statement M
 pyramid_outside_spec = tie.close (tie.spec (λ c κs. search rules) (λ c κs. search rules) (λ c κs. search rules) (λ c κs. search rules) returns)

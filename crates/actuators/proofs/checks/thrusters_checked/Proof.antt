@@ -19,11 +19,11 @@ loop-holds : tie.Need-loop-k-init invariant_loop decreases_loop
 loop-holds c = (search rules, iter_none _ _)
 
 loop-again : tie.Need-loop-k-preserved invariant_loop decreases_loop
-loop-again c = (search rules, iter_next _ _ _ c.before.before.before.loop-k.invariant.1 c.thruster_turn-prepared.ensures)
+loop-again c = (search rules, iter_next _ _ _ c.loop-k.invariant.1 c.thruster_turn-prepared.ensures)
 
 returns : tie.Need-returns invariant_loop decreases_loop
 unfolding Prepare.thrusters_checked
-returns c = let e : c.before.loop-k.k ≡ c.before.before.args.count = omega arith in rw (← e) c.before.loop-k.invariant.1
+returns c = let e : c.loop-k.k ≡ c.args.count = omega arith in rw (← e) c.loop-k.invariant.1
 
 pub thrusters_checked_spec : {M : Type 1} → statement M
 thrusters_checked_spec =

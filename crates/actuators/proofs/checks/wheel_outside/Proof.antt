@@ -6,7 +6,7 @@ use Rattle.actuators.proofs.checks.wheel_outside.Tie as tie
 
 returns : tie.Need-returns
 unfolding Prepare.wheel_outside
-returns c = rw (c.power_outside_law.ensures, c.before.outside-2.ensures, c.before.before.outside.ensures)
+returns c = rw (c.power_outside.ensures, c.outside-2.ensures, c.outside.ensures)
 
 pub wheel_outside_spec : {M : Type 1} → statement M
 wheel_outside_spec = tie.close (tie.spec (λ c κs. search rules) (λ c κs. search rules) (λ c κs. search rules) returns)

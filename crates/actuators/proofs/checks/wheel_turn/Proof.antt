@@ -6,29 +6,29 @@ use Rattle.actuators.proofs.checks.wheel_turn.Tie as tie
 
 returns : tie.Need-returns-in_default
 unfolding Prepare.wheel_next
-returns c = rw c.enum_told-in_default-1.given.1
+returns c = rw c.in_default.is
 
 returns_2 : tie.Need-returns-then-wheel_outside
 unfolding Prepare.wheel_next Prepare.wheel_checked
 returns_2 c =
     let tested = c.before.before in
-    rw (tested.before.enum_told-1.given.1, ← tested.wheel_outside.ensures, c.before.if-wheel_outside.true) c.refused.ensures
+    rw (tested.in-Going.is, ← tested.wheel_outside.ensures, c.if-wheel_outside.true) c.refused.ensures
 
 returns_3 : tie.Need-returns-in-Not
 unfolding Prepare.wheel_next Prepare.wheel_checked
 returns_3 c =
-    let measured = c.before.before.before in
+    let measured = c.before.before in
     let inside = measured.before.before.before in
     let tested = inside.before in
-    rw (tested.before.enum_told-1.given.1, ← tested.wheel_outside.ensures, inside.if-wheel_outside.false, ← measured.unit3-unit.ensures, c.before.enum_told-in-Not-1.given.1) c.refused-in-Not.ensures
+    rw (tested.in-Going.is, ← tested.wheel_outside.ensures, inside.if-wheel_outside.false, ← measured.unit3-unit.ensures, c.in-Not.is) c.refused-in-Not.ensures
 
 returns-4 : tie.Need-returns-in-Is
 unfolding Prepare.wheel_next Prepare.wheel_checked
 returns-4 c =
-    let measured = c.before.before.before.before.before in
+    let measured = c.before.before.before in
     let inside = measured.before.before.before in
     let tested = inside.before in
-    rw (tested.before.enum_told-1.given.1, ← tested.wheel_outside.ensures, inside.if-wheel_outside.false, ← measured.unit3-unit.ensures, c.before.before.before.unit-1.given.1, ← c.before.with_wheel.ensures) c.so_far.ensures
+    rw (tested.in-Going.is, ← tested.wheel_outside.ensures, inside.if-wheel_outside.false, ← measured.unit3-unit.ensures, c.in-Is.is, ← c.with_wheel.ensures) c.so_far.ensures
 
 pub wheel_turn_spec : {M : Type 1} → statement M
 wheel_turn_spec =

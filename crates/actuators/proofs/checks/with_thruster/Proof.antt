@@ -14,7 +14,7 @@ put-axis-requires c κs =
 
 returns : tie.Need-returns
 unfolding Prepare.with_thruster
-returns c = rw c.before.before.put_axis.ensures
+returns c = rw c.put_axis.ensures
 
 pub with_thruster_spec : {M : Type 1} → statement M
 with_thruster_spec = tie.close (tie.spec (λ c. search rules) put-axis-requires (λ c. search rules) (λ c. search rules) returns)

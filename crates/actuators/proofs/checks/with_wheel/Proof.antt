@@ -8,12 +8,12 @@ use Rattle.actuators.proofs.checks.with_wheel.Statement.{statement}
 use Rattle.actuators.proofs.checks.with_wheel.Tie as tie
 
 put-axis-requires : tie.Need-put_axis-requires
-put-axis-requires c κs = let l : length c.before.before.args.map.wheel_axes-1 ≡ 24 = search rules in omega arith
+put-axis-requires c κs = let l : length c.args.map.wheel_axes-1 ≡ 24 = search rules in omega arith
 
 returns : tie.Need-returns
 unfolding Prepare.with_wheel
 returns c =
-    let put-axis = c.before.before.before.before.before.before.put_axis in
+    let put-axis = c.put_axis in
     rw put-axis.ensures
 
 pub with_wheel_spec : {M : Type 1} → statement M

@@ -13,7 +13,7 @@ returns c =
     let after-dot43 = after-dot44.before in
     let after-dot42 = after-dot43.before in
     let after-dot4 = after-dot42.before in
-    rw (c.dot4-9.ensures, c.before.dot4-8.ensures, c.before.before.dot4-7.ensures, after-dot46.dot4-6.ensures, after-dot45.dot4-5.ensures, after-dot44.dot4-4.ensures, after-dot43.dot4-3.ensures, after-dot42.dot4-2.ensures, after-dot4.dot4.ensures)
+    rw (c.dot4-9.ensures, c.dot4-8.ensures, c.dot4-7.ensures, after-dot46.dot4-6.ensures, after-dot45.dot4-5.ensures, after-dot44.dot4-4.ensures, after-dot43.dot4-3.ensures, after-dot42.dot4-2.ensures, after-dot4.dot4.ensures)
 
 pub gram_spec : {M : Type 1} → statement M
 gram_spec =

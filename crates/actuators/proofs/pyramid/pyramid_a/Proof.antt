@@ -6,13 +6,13 @@ use Rattle.actuators.proofs.pyramid.pyramid_a.Tie as tie
 
 returns : tie.Need-returns-in-Outside
 unfolding Pyramid.pyramid_a
-returns c = rw (← c.before.before.before.sin_cos-pair.ensures, c.before.enum_told-1.given.1) c.beyond.ensures
+returns c = rw (← c.sin_cos-pair.ensures, c.in-Outside.is) c.beyond.ensures
 
 returns_2 : tie.Need-returns-in-Are
 unfolding Pyramid.pyramid_a
 returns_2 c =
-    let sin-cos = c.before.before.before.before.sin_cos-pair in
-    rw (← sin-cos.ensures, c.before.before.pair-1.given.1) c.pyramid_from.ensures
+    let sin-cos = c.sin_cos-pair in
+    rw (← sin-cos.ensures, c.in-Are.is) c.pyramid_from.ensures
 
 pub pyramid_a_spec : {M : Type 1} → statement M
 pyramid_a_spec =

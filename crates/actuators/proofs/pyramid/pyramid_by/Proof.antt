@@ -4,25 +4,25 @@ use Rattle.actuators.proofs.pyramid.pyramid_by.Statement.{statement}
 use Rattle.actuators.proofs.pyramid.pyramid_by.Tie as tie
 
 returns : tie.Need-returns-in_default
-returns c = rw c.before.enum_told-1.given.1 c.beyond.ensures
+returns c = rw c.in_default.is c.beyond.ensures
 
 returns_2 : tie.Need-returns-in_default-b1
 returns_2 c =
     let after-b0 = c.before.before.before.before in
-    rw (after-b0.b0-1.given.1, c.before.enum_told-in_default-b1-1.given.1) c.beyond-in_default-b1.ensures
+    rw (after-b0.b0-1.given.1, c.in_default-b1.is) c.beyond-in_default-b1.ensures
 
 returns_3 : tie.Need-returns-in_default-b2
 returns_3 c =
     let after-b1 = c.before.before.before.before in
     let after-b0 = after-b1.before.before.before in
-    rw (after-b0.b0-1.given.1, after-b1.b1-1.given.1, c.before.enum_told-in_default-b2-1.given.1) c.beyond-in_default-b2.ensures
+    rw (after-b0.b0-1.given.1, after-b1.b1-1.given.1, c.in_default-b2.is) c.beyond-in_default-b2.ensures
 
 returns-4 : tie.Need-returns-in_default-b3
 returns-4 c =
     let after-b2 = c.before.before.before.before in
     let after-b1 = after-b2.before.before.before in
     let after-b0 = after-b1.before.before.before in
-    rw (after-b0.b0-1.given.1, after-b1.b1-1.given.1, after-b2.b2-1.given.1, c.before.enum_told-in_default-b3-1.given.1) c.beyond-in_default-b3.ensures
+    rw (after-b0.b0-1.given.1, after-b1.b1-1.given.1, after-b2.b2-1.given.1, c.in_default-b3.is) c.beyond-in_default-b3.ensures
 
 returns-5 : tie.Need-returns
 returns-5 c =

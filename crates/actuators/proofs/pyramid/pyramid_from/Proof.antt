@@ -10,7 +10,7 @@ returns c =
     let after-sin-cos4 = c.before in
     let after-sin-cos3 = after-sin-cos4.before in
     let after-sin-cos2 = after-sin-cos3.before in
-    rw (← after-sin-cos2.before.sin_cos-b0.ensures, ← after-sin-cos2.sin_cos-b1.ensures, ← after-sin-cos3.sin_cos-b2.ensures, ← after-sin-cos4.sin_cos-b3.ensures) c.pyramid_by_law.ensures
+    rw (← after-sin-cos2.sin_cos-b0.ensures, ← after-sin-cos2.sin_cos-b1.ensures, ← after-sin-cos3.sin_cos-b2.ensures, ← after-sin-cos4.sin_cos-b3.ensures) c.pyramid_by.ensures
 
 pub pyramid_from_spec : {M : Type 1} → statement M
 pyramid_from_spec =

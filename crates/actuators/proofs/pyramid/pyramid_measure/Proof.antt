@@ -6,13 +6,13 @@ use Rattle.actuators.proofs.pyramid.pyramid_measure.Tie as tie
 
 returns : tie.Need-returns-in-Refused
 unfolding Pyramid.pyramid_measure
-returns c = rw (← c.before.before.before.pyramid_a-jacobian.ensures, c.enum_told-1.given.1)
+returns c = rw (← c.pyramid_a-jacobian.ensures, c.in-Refused.is)
 
 returns_2 : tie.Need-returns-in-Going
 unfolding Pyramid.pyramid_measure
 returns_2 c =
-    let pyramid-a = c.before.before.before.before.pyramid_a-jacobian in
-    rw (← pyramid-a.ensures, c.before.enum_told-in-Going-1.given.1, c.singularity_of.ensures)
+    let pyramid-a = c.pyramid_a-jacobian in
+    rw (← pyramid-a.ensures, c.in-Going.is, c.singularity_of.ensures)
 
 pub pyramid_measure_spec : {M : Type 1} → statement M
 pyramid_measure_spec = tie.close (tie.spec (λ c κs. search rules) (λ c. search rules) (λ c. search rules) (λ c κs. search rules) returns returns_2)

@@ -11,11 +11,11 @@ float-from-bits-t6 c = search rules
 
 returns : tie.Need-returns-in-Without
 unfolding Pyramid.singularity Ieee.of_bits
-returns c = rw c.enum_told-1.given.1
+returns c = rw c.in-Without.is
 
 returns_2 : tie.Need-returns-in-With
 unfolding Pyramid.singularity
-returns_2 c = rw c.before.before.cmgs-1.given.1 c.pyramid_measure.ensures
+returns_2 c = rw c.in-With.is c.pyramid_measure.ensures
 
 pub singularity_spec : {M : Type 1} → statement M
 singularity_spec = tie.close (tie.spec (λ c. search rules) float-from-bits-t6 (λ c. search rules) (λ c κs. search rules) returns returns_2)

@@ -6,7 +6,7 @@ use Rattle.actuators.proofs.pyramid.singularity_of.Tie as tie
 
 returns : tie.Need-returns
 unfolding Pyramid.singularity_of
-returns c = rw (c.det3.ensures, c.before.gram-square.ensures, c.before.before.rows-matrix.ensures)
+returns c = rw (c.det3.ensures, c.gram-square.ensures, c.rows-matrix.ensures)
 
 pub singularity_of_spec : {M : Type 1} → statement M
 singularity_of_spec = tie.close (tie.spec (λ c κs. search rules) (λ c κs. search rules) (λ c κs. search rules) returns)

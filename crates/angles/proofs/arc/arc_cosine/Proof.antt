@@ -11,7 +11,7 @@ returns : tie.Need-returns
 unfolding arc_of
 returns c =
     let e = c.before.before in
-    c.over_60.ensures ∙ ap (λ (a : ℕ). round binary64 false (2 * a) (2 ^ 60)) (ap (λ (r : Ended). r.sum) e.arc_ended-e.ensures.0 ∙ arc_size e.before.args.w)
+    c.over_60.ensures ∙ ap (λ (a : ℕ). round binary64 false (2 * a) (2 ^ 60)) (ap (λ (r : Ended). r.sum) e.arc_ended-e.ensures.0 ∙ arc_size e.args.w)
 
 pub arc_cosine_spec : {M : Type 1} → statement M
 arc_cosine_spec = tie.close (tie.spec (λ c κs. search rules) (λ c. search rules) (λ c κs. search rules) returns)

@@ -23,15 +23,15 @@ truncating-f64-to-u64-requires c κs = (whole_at _ (kept c) c.requires).0.0
 
 sub-d : tie.Need-overflow_sub-d
 sub-d c =
-    let q = whole_at _ (kept c.before) c.before.requires in
+    let q = whole_at _ (kept c.before) c.requires in
     subst (λ (n : ℕ). n ≤ 2 ^ 60) (sym (c.truncating_f64_to_u64-x.ensures ∙ q.0.1)) q.1
 
 returns : tie.Need-returns
 returns c =
     let r = c.before in
     let t = r.before in
-    let q = whole_at _ (kept t.before) t.before.requires in
-    (answer t.before.args.w t.truncating_f64_to_u64-x.result r.root_59.result c.arc_sum.result (t.truncating_f64_to_u64-x.ensures ∙ q.0.1) r.root_59.ensures.0 c.arc_sum.ensures.0, c.arc_sum.ensures.1)
+    let q = whole_at _ (kept t.before) t.requires in
+    (answer t.args.w t.truncating_f64_to_u64-x.result r.root_59.result c.arc_sum.result (t.truncating_f64_to_u64-x.ensures ∙ q.0.1) r.root_59.ensures.0 c.arc_sum.ensures.0, c.arc_sum.ensures.1)
 
 pub arc_ended_spec : {M : Type 1} → statement M
 arc_ended_spec = tie.close (tie.spec truncating-f64-to-u64-requires sub-d (λ c κs. search rules) (λ c κs. search rules) returns)

@@ -17,7 +17,7 @@ joined c =
     let a = b.before in
     let z = a.before in
     let s = (start c).args.s in
-    c.arc_terms-f.ensures.1 s (e.arc_terms-e.ensures.1 s (d.arc_terms-d.ensures.1 s (b.arc_terms-c.ensures.1 s (a.arc_terms-b.ensures.1 s (z.arc_terms-a.ensures.1 s z.before.first_part-first.ensures.1)))))
+    c.arc_terms-f.ensures.1 s (e.arc_terms-e.ensures.1 s (d.arc_terms-d.ensures.1 s (b.arc_terms-c.ensures.1 s (a.arc_terms-b.ensures.1 s (z.arc_terms-a.ensures.1 s z.first_part-first.ensures.1)))))
 
 returns : tie.Need-returns-then-f-eq0
 returns c =

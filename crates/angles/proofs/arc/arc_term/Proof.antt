@@ -15,7 +15,7 @@ sub-high-product : tie.Need-overflow_sub-share
 sub-high-product c = let s = c.before.before.before in some_share s.args.n s.requires.1
 
 sub-high-product-2 : tie.Need-overflow_sub-share-2
-sub-high-product-2 c = omega (arith, div-le_self (2 ^ 63) (c.before.before.before.args.n + 1))
+sub-high-product-2 c = omega (arith, div-le_self (2 ^ 63) (c.args.n + 1))
 
 returns : tie.Need-returns
 returns c =

@@ -32,14 +32,14 @@ add-t11 : tie.Need-overflow_add-result invariant_loop decreases_loop
 add-t11 c = omega arith
 
 -- what the loop knows of s
-known : (c : tie.At-loop-n invariant_loop decreases_loop) (s : ℕ) → ArcRun c.before.before.before.args.h s c.before.before.before.args.from c.before.before.before.args.start → ArcAt c.before.before.before.args.h s c.loop.n c.loop.a × ((j : ℕ) → j < c.loop.n → arc_part c.before.before.before.args.h s j ≡ 0 → ⊥)
-known c s r = c.loop-n.invariant.3 s (record { summed = r.summed; next = r.next c.before.if-start-ne0.false }) (r.going c.before.if-start-ne0.false)
+known : (c : tie.At-loop-n invariant_loop decreases_loop) (s : ℕ) → ArcRun c.args.h s c.args.from c.args.start → ArcAt c.args.h s c.loop-n.n c.loop-n.a × ((j : ℕ) → j < c.loop-n.n → arc_part c.args.h s j ≡ 0 → ⊥)
+known c s r = c.loop-n.invariant.3 s (record { summed = r.summed; next = r.next c.if-start-ne0.false }) (r.going c.if-start-ne0.false)
 
 returns_2 : tie.Need-returns-then-a-n invariant_loop decreases_loop
 returns_2 c =
     let l = c.before.before.before in
     let b = l.before.before.before in
-    (record { room = omega (arith, l.loop-n.invariant.1.room); small = omega (arith, mul-zero (2 * b.args.to + 1)) }, λ s r. let k = known l s r in run_stops b.args.h s b.requires.0 l.loop.n b.args.to l.loop.a c.before.before.loop-n-test.true b.requires.2 c.if-a-n.true k.0 k.1)
+    (record { room = omega (arith, l.loop-n.invariant.1.room); small = omega (arith, mul-zero (2 * b.args.to + 1)) }, λ s r. let k = known l s r in run_stops b.args.h s b.requires.0 l.loop-n.n b.args.to l.loop-n.a c.loop-n-test.true b.requires.2 c.if-a-n.true k.0 k.1)
 
 arc-term-requires : tie.Need-arc_term-a-requires invariant_loop decreases_loop
 arc-term-requires c κs = let l = c.before.before.before in let b = l.before.before.before in (b.requires.0, omega arith, l.loop-n.invariant.1, l.loop-n.invariant.2)
@@ -55,14 +55,14 @@ loop-again c =
     let e = c.before in
     let l = e.before.before.before in
     let b = l.before.before.before in
-    (omega arith, c.arc_term-a.ensures.0, omega arith, λ s t f. let k = l.loop-n.invariant.3 s t f in (c.arc_term-a.ensures.1 s k.0, some_more b.args.h s b.requires.0 l.loop.n l.loop.a e.if-a-n.false k.0 k.1))
+    (omega arith, c.arc_term-a.ensures.0, omega arith, λ s t f. let k = l.loop-n.invariant.3 s t f in (c.arc_term-a.ensures.1 s k.0, some_more b.args.h s b.requires.0 l.loop-n.n l.loop-n.a e.if-a-n.false k.0 k.1))
 
 returns_3 : tie.Need-returns invariant_loop decreases_loop
 returns_3 c =
     let l = c.before in
     let b = l.before.before.before in
-    let e : l.loop.n ≡ b.args.to = omega arith in
-    (subst (λ (n : ℕ). ArcFits n l.loop.a) e l.loop-n.invariant.1, λ s r. let k = known l s r in run_goes b.args.h s b.requires.0 b.args.to l.loop.a (subst (λ (n : ℕ). ArcAt b.args.h s n l.loop.a) e k.0) (subst (λ (n : ℕ). (j : ℕ) → j < n → arc_part b.args.h s j ≡ 0 → ⊥) e k.1))
+    let e : l.loop-n.n ≡ b.args.to = omega arith in
+    (subst (λ (n : ℕ). ArcFits n l.loop-n.a) e l.loop-n.invariant.1, λ s r. let k = known l s r in run_goes b.args.h s b.requires.0 b.args.to l.loop-n.a (subst (λ (n : ℕ). ArcAt b.args.h s n l.loop-n.a) e k.0) (subst (λ (n : ℕ). (j : ℕ) → j < n → arc_part b.args.h s j ≡ 0 → ⊥) e k.1))
 
 pub arc_terms_spec : {M : Type 1} → statement M
 arc_terms_spec =

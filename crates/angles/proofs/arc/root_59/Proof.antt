@@ -13,9 +13,9 @@ small d h = root_le (d * 2 ^ 59) (2 ^ 60 * 2 ^ 60) (isqrt (d * 2 ^ 59)) (2 ^ 60)
 
 returns : tie.Need-returns
 returns c =
-    let d = c.before.args.d in
+    let d = c.args.d in
     let e : c.isqrt.result ≡ isqrt (d * 2 ^ 59) = c.isqrt.ensures ∙ ap isqrt (joined d) in
-    (e, subst (λ (r : ℕ). r ≤ 2 ^ 60) (sym e) (small d c.before.requires))
+    (e, subst (λ (r : ℕ). r ≤ 2 ^ 60) (sym e) (small d c.requires))
 
 pub root_59_spec : {M : Type 1} → statement M
 root_59_spec = tie.close (tie.spec (λ c. search rules) (λ c κs. search rules) returns)

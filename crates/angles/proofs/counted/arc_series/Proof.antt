@@ -17,17 +17,17 @@ by w b e = ap (λ (b : Bool). cond b (Series.Ends (end_of (arc_at w)).sum (end_o
 
 arc-ended-requires : tie.Need-arc_ended-e-requires
 unfolding in_unit
-arc-ended-requires c κs = sym (and_yes _ _ c.before.if-w.true) ∙ c.if-w-2.true
+arc-ended-requires c κs = sym (and_yes _ _ c.if-w.true) ∙ c.if-w-2.true
 
 returns : tie.Need-returns-then-w-2
 unfolding in_unit
 returns c =
     let t = c.before in
-    ap (λ (e : Ended). Series.Ends e.sum e.terms) c.arc_ended-e.ensures.0 ∙ by _ true (sym (and_yes _ _ t.before.if-w.true) ∙ t.if-w-2.true)
+    ap (λ (e : Ended). Series.Ends e.sum e.terms) c.arc_ended-e.ensures.0 ∙ by _ true (sym (and_yes _ _ t.if-w.true) ∙ t.if-w-2.true)
 
 returns_2 : tie.Need-returns-else-w-2
 unfolding in_unit
-returns_2 c = by _ false (sym (and_yes _ _ c.before.if-w.true) ∙ c.if-w-2.false)
+returns_2 c = by _ false (sym (and_yes _ _ c.if-w.true) ∙ c.if-w-2.false)
 
 returns_3 : tie.Need-returns-else-w
 unfolding in_unit

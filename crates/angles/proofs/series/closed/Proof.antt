@@ -7,7 +7,7 @@ use Rattle.angles.proofs.series.closed.Statement.{statement}
 use Rattle.angles.proofs.series.closed.Tie as tie
 
 returns : tie.Need-returns-then-p-eq0
-returns c = λ k u h e. subst (λ (q : Stage). Ends k u q.sum (q.terms + 1)) (sym e) (ends_zero k u (sym (ap (λ (q : Stage). q.term) e) ∙ c.before.if-p-eq0.true))
+returns c = λ k u h e. subst (λ (q : Stage). Ends k u q.sum (q.terms + 1)) (sym e) (ends_zero k u (sym (ap (λ (q : Stage). q.term) e) ∙ c.if-p-eq0.true))
 
 returns_2 : tie.Need-returns-else-p-eq0
 returns_2 c = λ k u h e. subst (λ (q : Stage). Ends k u q.sum q.terms) (sym e) (ends_some k u (λ z. c.if-p-eq0.false (ap (λ (q : Stage). q.term) e ∙ z)))

@@ -7,44 +7,44 @@ use Rattle.angles.proofs.series.cosine_size.Statement.{statement}
 use Rattle.angles.proofs.series.cosine_size.Tie as tie
 
 cosine-step-requires : tie.Need-cosine_step-p1-requires
-cosine-step-requires c κs = (lit≤ tt, c.before.before.requires, c.before.square_of-square.ensures, c.cosine_start-p0.ensures _)
+cosine-step-requires c κs = (lit≤ tt, c.requires, c.square_of-square.ensures, c.cosine_start-p0.ensures _)
 
 cosine-step-requires-2 : tie.Need-cosine_step-p2-requires
-cosine-step-requires-2 c κs = (lit≤ tt, c.before.before.before.requires, c.before.before.square_of-square.ensures, c.cosine_step-p1.ensures)
+cosine-step-requires-2 c κs = (lit≤ tt, c.requires, c.square_of-square.ensures, c.cosine_step-p1.ensures)
 
 cosine-step-requires-3 : tie.Need-cosine_step-p3-requires
 cosine-step-requires-3 c κs =
     let entry = c.before.before.before.before in
-    (lit≤ tt, entry.requires, c.before.before.before.square_of-square.ensures, c.cosine_step-p2.ensures)
+    (lit≤ tt, entry.requires, c.square_of-square.ensures, c.cosine_step-p2.ensures)
 
 cosine-step-requires-4 : tie.Need-cosine_step-p4-requires
 cosine-step-requires-4 c κs =
     let entry = c.before.before.before.before.before in
-    let square-of = c.before.before.before.before.square_of-square in
+    let square-of = c.square_of-square in
     (lit≤ tt, entry.requires, square-of.ensures, c.cosine_step-p3.ensures)
 
 cosine-step-requires-5 : tie.Need-cosine_step-p5-requires
 cosine-step-requires-5 c κs =
     let entry = c.before.before.before.before.before.before in
-    let square-of = c.before.before.before.before.before.square_of-square in
+    let square-of = c.square_of-square in
     (lit≤ tt, entry.requires, square-of.ensures, c.cosine_step-p4.ensures)
 
 cosine-step-requires-6 : tie.Need-cosine_step-p6-requires
 cosine-step-requires-6 c κs =
     let entry = c.before.before.before.before.before.before.before in
-    let square-of = c.before.before.before.before.before.before.square_of-square in
+    let square-of = c.square_of-square in
     (lit≤ tt, entry.requires, square-of.ensures, c.cosine_step-p5.ensures)
 
 cosine-step-requires-7 : tie.Need-cosine_step-p7-requires
 cosine-step-requires-7 c κs =
     let entry = c.before.before.before.before.before.before.before.before in
-    let square-of = c.before.before.before.before.before.before.before.square_of-square in
+    let square-of = c.square_of-square in
     (lit≤ tt, entry.requires, square-of.ensures, c.cosine_step-p6.ensures)
 
 cosine-step-requires-8 : tie.Need-cosine_step-p8-requires
 cosine-step-requires-8 c κs =
     let entry = c.before.before.before.before.before.before.before.before.before in
-    let square-of = c.before.before.before.before.before.before.before.before.square_of-square in
+    let square-of = c.square_of-square in
     (lit≤ tt, entry.requires, square-of.ensures, c.cosine_step-p7.ensures)
 
 closed-requires : tie.Need-closed-requires
@@ -52,8 +52,8 @@ closed-requires c κs = subst (λ (q : Stage). q.terms ≤ 9) (sym c.cosine_step
 
 returns : tie.Need-returns
 returns c =
-    let h = c.before.before.before.before.before.before.before.before.before.before.before.requires in
-    let e = c.closed.ensures 0 _ h c.before.cosine_step-p8.ensures in
+    let h = c.requires in
+    let e = c.closed.ensures 0 _ h c.cosine_step-p8.ensures in
     λ b. cosine_end b _ _ _ h e.sum e.terms
 
 pub cosine_size_spec : {M : Type 1} → statement M

@@ -6,7 +6,7 @@ use Rattle.angles.proofs.series.cosine_step.Statement.{statement}
 use Rattle.angles.proofs.series.cosine_step.Tie as tie
 
 returns : tie.Need-returns-then-u-cosine_least
-returns c = let s = c.before.before in stays 0 s.args.u s.args.j s.args.p s.requires.3 (zero_below 0 s.args.u s.args.j (omega arith) s.requires.0 (omega (arith, c.before.cosine_least.ensures)))
+returns c = let s = c.before.before in stays 0 s.args.u s.args.j s.args.p s.requires.3 (zero_below 0 s.args.u s.args.j (omega arith) s.requires.0 (omega (arith, c.cosine_least.ensures)))
 
 pub cosine_step_spec : {M : Type 1} → statement M
 cosine_step_spec = tie.close (tie.spec (λ c κs. search rules) (λ c κs. search rules) returns (λ c. search rules))

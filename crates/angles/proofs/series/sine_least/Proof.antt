@@ -6,7 +6,7 @@ use Rattle.angles.proofs.series.sine_least.Statement.{statement}
 use Rattle.angles.proofs.series.sine_least.Tie as tie
 
 returns-8 : tie.Need-returns-in_default
-returns-8 c = let r = c.match.rest in ap (least_of 1) (sym (seventh c.before.args.j c.before.requires r.0.0.0.0.0.0.1 r.0.0.0.0.0.1 r.0.0.0.0.1 r.0.0.0.1 r.0.0.1 r.0.1 r.1))
+returns-8 c = let r = c.in_default.in_default-own.rest in ap (least_of 1) (sym (seventh c.args.j c.requires r.0.0.0.0.0.0.1 r.0.0.0.0.0.1 r.0.0.0.0.1 r.0.0.0.1 r.0.0.1 r.0.1 r.1))
 
 pub sine_least_spec : {M : Type 1} → statement M
 sine_least_spec =

@@ -12,7 +12,7 @@ returns c = ap (λ (x : ℕ). record { sum = x; term = x; terms = tally x }) (sy
 
 returns_2 : tie.Need-returns-else-u-eq0
 unfolding sum_of term_of count_of
-returns_2 c = ap (λ (k : ℕ). record { sum = c.before.args.u; term = c.before.args.u; terms = k }) (tally_some c.before.args.u (omega arith))
+returns_2 c = ap (λ (k : ℕ). record { sum = c.args.u; term = c.args.u; terms = k }) (tally_some c.args.u (omega arith))
 
 pub sine_start_spec : {M : Type 1} → statement M
 sine_start_spec = tie.close (tie.spec returns returns_2)

@@ -6,7 +6,7 @@ use Rattle.angles.proofs.series.sine_step.Statement.{statement}
 use Rattle.angles.proofs.series.sine_step.Tie as tie
 
 returns : tie.Need-returns-then-u-sine_least
-returns c = let s = c.before.before in stays 1 s.args.u s.args.j s.args.p s.requires.3 (zero_below 1 s.args.u s.args.j (omega arith) s.requires.0 (omega (arith, c.before.sine_least.ensures)))
+returns c = let s = c.before.before in stays 1 s.args.u s.args.j s.args.p s.requires.3 (zero_below 1 s.args.u s.args.j (omega arith) s.requires.0 (omega (arith, c.sine_least.ensures)))
 
 pub sine_step_spec : {M : Type 1} → statement M
 sine_step_spec = tie.close (tie.spec (λ c κs. search rules) (λ c κs. search rules) returns (λ c. search rules))

@@ -4,6 +4,7 @@ use Rattle.angles.specs.Angles.{Q}
 use Rattle.angles.proofs.Division.{few_quarters, doubled}
 use Rattle.angles.proofs.turn.divided.Statement.{statement}
 use Rattle.angles.proofs.turn.divided.Tie as tie
+use Rattle.angles.proofs.turn.divided.Lts.{then-r-ge-QUARTER, else-r-ge-QUARTER}
 
 abbrev invariant_loop : tie.invariant-loop-i
 invariant_loop x n k₀ r₀ i₀ k r i = (x * 2 ^ i ≡ k * Q + r) × (r < Q) × (i ≤ n) × (k < 4096)
@@ -31,17 +32,17 @@ loop-less c = omega arith
 
 loop-again : tie.Need-loop-i-preserved invariant_loop decreases_loop
 loop-again c =
-    let a = c.before.before.before.args in
-    let i = c.before.before.loop-i.i in
+    let a = c.args in
+    let i = c.loop-i.i in
     let d : a.x * 2 ^ (i + 1) ≡ a.x * 2 ^ i * 2 = doubled a.x i in
-    let e : a.x * 2 ^ (i + 1) ≡ c.if-r-ge-QUARTER.k * Q + c.if-r-ge-QUARTER.r = ⊎_elim (λ w. omega arith) (λ w. omega arith) c.if-r-ge-QUARTER.branch in
-    (e, ⊎_elim (λ w. omega arith) (λ w. omega arith) c.if-r-ge-QUARTER.branch, omega arith, few_quarters a.x (i + 1) c.if-r-ge-QUARTER.k c.if-r-ge-QUARTER.r c.before.before.before.ranges.x.fits (omega arith) e)
+    let e : a.x * 2 ^ (i + 1) ≡ c.if-r-ge-QUARTER.k * Q + c.if-r-ge-QUARTER.r = (elim c.if-r-ge-QUARTER.branch [ then-r-ge-QUARTER w ↦ omega arith | else-r-ge-QUARTER w ↦ omega arith ]) in
+    (e, (elim c.if-r-ge-QUARTER.branch [ then-r-ge-QUARTER w ↦ omega arith | else-r-ge-QUARTER w ↦ omega arith ]), omega arith, few_quarters a.x (i + 1) c.if-r-ge-QUARTER.k c.if-r-ge-QUARTER.r c.ranges.x.fits (omega arith) e)
 
 returns : tie.Need-returns invariant_loop decreases_loop
 returns c =
-    let n = c.before.before.args.n in
-    let e : n ≡ c.before.loop-i.i = omega arith in
-    (ap (λ (j : ℕ). c.before.before.args.x * 2 ^ j) e ∙ c.before.loop-i.invariant.0, omega arith, omega arith)
+    let n = c.args.n in
+    let e : n ≡ c.loop-i.i = omega arith in
+    (ap (λ (j : ℕ). c.args.x * 2 ^ j) e ∙ c.loop-i.invariant.0, omega arith, omega arith)
 
 pub divided_spec : {M : Type 1} → statement M
 divided_spec =

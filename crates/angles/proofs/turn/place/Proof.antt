@@ -7,7 +7,7 @@ use Rattle.angles.proofs.turn.place.Tie as tie
 returns : tie.Need-returns
 returns c =
     let t = c.nearest_turn.result in
-    subst (λ (y : ℕ). TurnOf y t.quarter t.size t.below) (sym c.before.split-s.ensures.0) c.nearest_turn.ensures
+    subst (λ (y : ℕ). TurnOf y t.quarter t.size t.below) (sym c.split-s.ensures.0) c.nearest_turn.ensures
 
 pub place_spec : {M : Type 1} → statement M
 place_spec = tie.close (tie.spec (λ c κs. search rules) (λ c κs. search rules) returns)

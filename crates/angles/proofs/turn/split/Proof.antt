@@ -24,12 +24,12 @@ shr-divided c =
 returns : tie.Need-returns-then-e-le1015
 returns c =
     let s = c.before.before in
-    (cut_down (x s) (held s) s.requires.0 s.requires.1 c.before.if-e-le1015.true ∙ sym (mul-one _) ∙ c.divided.ensures.0, c.divided.ensures.1, c.divided.ensures.2)
+    (cut_down (x s) (held s) s.requires.0 s.requires.1 c.if-e-le1015.true ∙ sym (mul-one _) ∙ c.divided.ensures.0, c.divided.ensures.1, c.divided.ensures.2)
 
 returns_2 : tie.Need-returns-then-s-le10
 returns_2 c =
     let s = c.before.before.before in
-    (cut_up (x s) (held s) s.requires.0 s.requires.1 c.before.before.if-e-le1015.false ∙ sym (no_loss (x s) (held s) s.requires.0 s.requires.1 _ c.before.if-s-le10.true) ∙ sym (mul-one _) ∙ c.divided-then-s-le10.ensures.0, c.divided-then-s-le10.ensures.1, c.divided-then-s-le10.ensures.2)
+    (cut_up (x s) (held s) s.requires.0 s.requires.1 c.if-e-le1015.false ∙ sym (no_loss (x s) (held s) s.requires.0 s.requires.1 _ c.if-s-le10.true) ∙ sym (mul-one _) ∙ c.divided-then-s-le10.ensures.0, c.divided-then-s-le10.ensures.1, c.divided-then-s-le10.ensures.2)
 
 divided-requires-3 : tie.Need-divided-requires-2
 divided-requires-3 c κs =
@@ -39,7 +39,7 @@ divided-requires-3 c κs =
 returns_3 : tie.Need-returns
 returns_3 c =
     let s = c.before.before.before in
-    (cut_up (x s) (held s) s.requires.0 s.requires.1 c.before.before.if-e-le1015.false ∙ in_steps (x s) (held s) s.requires.0 s.requires.1 c.before.if-s-le10.false ∙ ap (λ (n : ℕ). n * 2 ^ (to_bits binary64 (x s) / 2 ^ 52 - 1015 - 10)) (sym (no_loss (x s) (held s) s.requires.0 s.requires.1 10 (lit≤ tt))) ∙ c.divided-2.ensures.0, c.divided-2.ensures.1, c.divided-2.ensures.2)
+    (cut_up (x s) (held s) s.requires.0 s.requires.1 c.if-e-le1015.false ∙ in_steps (x s) (held s) s.requires.0 s.requires.1 c.if-s-le10.false ∙ ap (λ (n : ℕ). n * 2 ^ (to_bits binary64 (x s) / 2 ^ 52 - 1015 - 10)) (sym (no_loss (x s) (held s) s.requires.0 s.requires.1 10 (lit≤ tt))) ∙ c.divided-2.ensures.0, c.divided-2.ensures.1, c.divided-2.ensures.2)
 
 pub split_spec : {M : Type 1} → statement M
 split_spec =

@@ -13,7 +13,7 @@ returns c =
     let last = c.before.before in
     let torques = last.before.before.before.before in
     let first = torques.before.before.before.before in
-    let args = first.before.before.before.args in
+    let args = first.args in
     let j = inertia_line args.inertia in
     let l = torques_line args.limit in
     puts_most (omega arith) (puts_pieces (j ++ l) (slew_line args.slew) (puts_pieces j l first.put_inertia-i.ensures torques.put_torques-j.ensures) last.put_slew.ensures)

@@ -9,7 +9,7 @@ use Rattle.canonical.proofs.writing.put_limit.Tie as tie
 
 returns : tie.Need-shape_of-b-in-At
 returns c =
-    let enum_told = c.before.before.before.before.before.enum_told-1 in
+    let enum_told = c.enum_told-1 in
     rw enum_told.given.1 (puts_most (omega arith) (puts_piece non c.before.before.put_all_lem.ensures))
 
 returns_2 : tie.Need-returns-in-At

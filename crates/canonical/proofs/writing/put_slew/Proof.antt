@@ -14,7 +14,7 @@ returns c =
     let last = c.before.before in
     let limited = last.before.before.before.before.before in
     let begun = limited.before.before.before.before in
-    let slew = begun.before.before.before.before.args.slew in
+    let slew = begun.args.slew in
     let head = lit (bytes " (slew") in
     let tail = lit (bytes ")\n") in
     puts_most (omega arith)

@@ -18,14 +18,14 @@ decreases_loop b₀ at n wheels i₀ k₀ b i k = n - k
 loop-again : tie.Need-loop-k-preserved invariant_loop decreases_loop
 loop-again c =
     let put = c.before.before in
-    let l = put.before.before.before.before.loop-k in
+    let l = put.loop-k in
     first_next l.invariant (omega arith) put.put_wheel-i.ensures put.put-wheel.auto.0
 
 returns : tie.Need-returns invariant_loop decreases_loop
 unfolding wheels_text
-returns c = first_all c.before.loop-k.invariant (omega arith)
+returns c = first_all c.loop-k.invariant (omega arith)
 
 pub put_wheels_spec : {M : Type 1} → statement M
 put_wheels_spec =
     tie.close
-    (tie.spec invariant_loop decreases_loop (λ c. first_none) (search rules) (search rules) (search rules) (search rules) (search rules) loop-again (λ c. c.before.loop-k.invariant.same) returns)
+    (tie.spec invariant_loop decreases_loop (λ c. first_none) (search rules) (search rules) (search rules) (search rules) (search rules) loop-again (λ c. c.loop-k.invariant.same) returns)

@@ -4,7 +4,7 @@ use Rattle.cases.proofs.read.at.Statement.{statement}
 use Rattle.cases.proofs.read.at.Tie as tie
 
 returns : tie.Need-returns-then-k-lt1024
-returns c = simp (lt-ltb _ _ c.before.if-k-lt1024.true)
+returns c = simp (lt-ltb _ _ c.if-k-lt1024.true)
 
 returns_2 : tie.Need-returns-else-k-lt1024
 returns_2 c = simp (le-ltb _ _ c.if-k-lt1024.false)

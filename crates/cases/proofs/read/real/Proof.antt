@@ -5,7 +5,7 @@ use Rattle.cases.proofs.read.real.Statement.{statement}
 use Rattle.cases.proofs.read.real.Tie as tie
 
 returns : tie.Need-returns
-returns c = c.real_of.ensures ∙ ap (of_bits binary64) c.before.at.ensures
+returns c = c.real_of.ensures ∙ ap (of_bits binary64) c.at.ensures
 
 pub real_spec : {M : Type 1} → statement M
 real_spec = tie.close (tie.spec (λ c κs. search rules) (λ c κs. search rules) returns)

@@ -8,10 +8,10 @@ float-to-bits-result : tie.Need-float_to_bits-result
 float-to-bits-result c = equals_itself _ c.if-x.true
 
 returns : tie.Need-returns-then-x
-returns c = by_bits _ _ _ c.before.at-w.ensures c.if-x.true
+returns c = by_bits _ _ _ c.at-w.ensures c.if-x.true
 
 returns_2 : tie.Need-returns
-returns_2 c = by_nan _ _ _ c.before.before.at-w.ensures c.before.if-x.false _ c.real_of-y.ensures
+returns_2 c = by_nan _ _ _ c.at-w.ensures c.if-x.false _ c.real_of-y.ensures
 
 pub same_spec : {M : Type 1} → statement M
 same_spec = tie.close (tie.spec (λ c κs. search rules) float-to-bits-result returns (λ c κs. search rules) returns_2)

@@ -16,11 +16,11 @@ loop-holds : tie.Need-loop-k-init invariant_loop decreases_loop
 loop-holds c = (omega arith, iter_none _ _)
 
 loop-again : tie.Need-loop-k-preserved invariant_loop decreases_loop
-loop-again c = (omega arith, iter_next _ _ _ c.before.before.loop-k.invariant.1 c.taken-w.ensures)
+loop-again c = (omega arith, iter_next _ _ _ c.loop-k.invariant.1 c.taken-w.ensures)
 
 returns : tie.Need-returns invariant_loop decreases_loop
 unfolding word_at
-returns c = let l = c.before.loop-k in let e : l.k ≡ 17 = omega arith in l.invariant.1 ∙ ap (iter _ _) e
+returns c = let l = c.loop-k in let e : l.k ≡ 17 = omega arith in l.invariant.1 ∙ ap (iter _ _) e
 
 pub word_at_spec : {M : Type 1} → statement M
 word_at_spec =

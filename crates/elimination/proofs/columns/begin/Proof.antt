@@ -21,8 +21,8 @@ returns : tie.Need-returns-then-best
 returns c = let s = c.before.before.before.before.before.before.before.before.before.before.before.before.before.before in
     let a = s.args in
     let n : ℕ = length a.b-1.now in
-    let f = c.before.before.before.before.before.before.column_at in
-    let g = c.before.before.pivot-best in
+    let f = c.column_at in
+    let g = c.pivot-best in
     let p = pivot_found n (length a.col-1.now) _ a.k (λ w. rows w w a.a-1.now) f.new.0 _ _ s.requires.1 f.auto.0 f.ensures g.ensures in
     record { stage = pivot_small n a.k (rows n n a.a-1.now) a.b-1.now _ _ p true c.if-best.true; first = λ e. never e }
 
@@ -30,23 +30,23 @@ place-requires : tie.Need-place-requires
 place-requires c κs = let s = c.before.before.before.before.before.before.before.before.before.before.before.before.before.before.before.before.before.before.before in
     let a = s.args in
     let n : ℕ = length a.b-1.now in
-    let f = c.before.before.before.before.before.before.before.before.before.before.before.column_at in
-    let g = c.before.before.before.before.before.before.before.pivot-best in
+    let f = c.column_at in
+    let g = c.pivot-best in
     let p = pivot_found n (length a.col-1.now) _ a.k (λ w. rows w w a.a-1.now) f.new.0 _ _ s.requires.1 f.auto.0 f.ensures g.ensures in
     (s.requires.0, f.auto.0 ∙ s.requires.1, s.requires.2, p.inside)
 
 returns_2 : tie.Need-returns
 unfolding Elimination.reduce
 returns_2 c =
-    let if1 = c.before.before.before.before.before.before.before.before.before.before.before.before.before.before.before.before.if-best in
-    let place = c.before.before.before.before.before.before.before.before.before.before.place in
+    let if1 = c.if-best in
+    let place = c.place in
     let s = c.before.before.before.before.before.before.before.before.before.before.before.before.before.before.before.before.before.before.before.before.before.before.before.before.before.before.before.before.before.before in
     let a = s.args in
     let n : ℕ = length a.b-1.now in
     let k : ℕ = a.k in
     let m : List (List Float) = rows n n a.a-1.now in
-    let f = c.before.before.before.before.before.before.before.before.before.before.before.before.before.before.before.before.before.before.before.before.before.before.column_at in
-    let g = c.before.before.before.before.before.before.before.before.before.before.before.before.before.before.before.before.before.before.pivot-best in
+    let f = c.column_at in
+    let g = c.pivot-best in
     let p = pivot_found n (length a.col-1.now) _ k (λ w. rows w w a.a-1.now) f.new.0 _ _ s.requires.1 f.auto.0 f.ensures g.ensures in
     let q = place.ensures in
     let swapped : List (List Float) = Elimination.swap_rows n k g.result.at m in

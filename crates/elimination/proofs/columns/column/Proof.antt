@@ -14,27 +14,27 @@ use Rattle.elimination.proofs.columns.column.Statement.{statement}
 use Rattle.elimination.proofs.columns.column.Tie as tie
 
 returns : tie.Need-returns-then-not-begin
-returns c = let a = c.before.before.before.before.before.before.before.before.before.before.before.before.before.before.before.before.before.before.before.before.before.before.args in
+returns c = let a = c.args in
     let n : ℕ = length a.b-1.now in
-    let f = c.before.before.before.before.before.before.before.before.before.before.before.begin in
+    let f = c.begin in
     let g : f.result ≡ false = not-true _ c.if-not-begin.true in
     f.ensures.stage ∙ ap (λ r. Elimination.after r (cond r (Elimination.eliminate n a.k (rows n n f.new.0)) (rows n n f.new.0)) f.new.1.0) g
 
 eliminate-requires : tie.Need-eliminate-requires
 eliminate-requires c κs = let s = c.before.before.before.before.before.before.before.before.before.before.before.before.before.before.before.before.before.before.before.before.before.before.before.before in
-    let f = c.before.before.before.before.before.before.before.before.before.before.before.before.before.begin in
+    let f = c.begin in
     let e : length s.args.b-1.now ≡ length f.new.1.1.0 = sym (f.auto.1.1.0 ∙ s.requires.0.tops) in
-    let g : f.result ≡ true = not-false _ c.before.before.if-not-begin.false in
+    let g : f.result ≡ true = not-false _ c.if-not-begin.false in
     (omega arith, f.auto.0 ∙ s.requires.0.matrix ∙ ap (λ k. k * k) e, f.ensures.first g ∙ ap (λ w. row w f.new.0 s.args.k) e)
 
 returns_2 : tie.Need-returns
 returns_2 c =
-    let if1 = c.before.before.before.before.before.if-not-begin in
+    let if1 = c.if-not-begin in
     let s = c.before.before.before.before.before.before.before.before.before.before.before.before.before.before.before.before.before.before.before.before.before.before.before.before.before.before.before in
     let n : ℕ = length s.args.b-1.now in
     let k : ℕ = s.args.k in
-    let f = c.before.before.before.before.before.before.before.before.before.before.before.before.before.before.before.before.begin in
-    let e = c.before.before.eliminate in
+    let f = c.begin in
+    let e = c.eliminate in
     let g : f.result ≡ true = not-false _ if1.false in
     let done : rows n n e.new.0 ≡ Elimination.eliminate n k (rows n n f.new.0) =
     subst (λ w. rows w w e.new.0 ≡ Elimination.eliminate w k (rows w w f.new.0)) (f.auto.1.1.0 ∙ s.requires.0.tops) e.ensures in

@@ -14,17 +14,17 @@ use Rattle.elimination.proofs.columns.columns.Statement.{statement}
 use Rattle.elimination.proofs.columns.columns.Tie as tie
 
 returns : tie.Need-returns-then-not-begin
-returns c = let a = c.before.before.before.before.before.before.before.before.before.before.before.before.before.before.before.before.before.before.before.before.before.before.before.args in
+returns c = let a = c.args in
     let n : ℕ = length a.b-1.now in
-    let f = c.before.before.before.before.before.before.before.before.before.before.before.begin in
+    let f = c.begin in
     let g : f.result ≡ false = not-true _ c.if-not-begin.true in
     ap (Elimination.column n (a.k + 1)) (f.ensures.stage ∙ ap (λ r. Elimination.after r (cond r (Elimination.eliminate n a.k (rows n n f.new.0)) (rows n n f.new.0)) f.new.1.0) g)
 
 finish-requires : tie.Need-finish-requires
 finish-requires c κs =
-    let if1 = c.before.before.before.before.before.before.if-not-begin in
+    let if1 = c.if-not-begin in
     let s = c.before.before.before.before.before.before.before.before.before.before.before.before.before.before.before.before.before.before.before.before.before.before.before.before.before.before.before.before.before in
-    let f = c.before.before.before.before.before.before.before.before.before.before.before.before.before.before.before.before.before.begin in
+    let f = c.begin in
     let e : length s.args.b-1.now ≡ length f.new.1.0 = sym f.auto.1.0 in
     let g : f.result ≡ true = not-false _ if1.false in (
       record { matrix = f.auto.0 ∙ s.requires.0.matrix ∙ ap (λ k. k * k) e; tops = s.requires.1 ∙ e; spares = f.auto.1.1.1.0 ∙ s.requires.0.spares ∙ e },
@@ -36,12 +36,12 @@ finish-requires c κs =
 
 returns_2 : tie.Need-returns
 returns_2 c =
-    let if1 = c.before.before.before.before.before.before.before.before.before.before.before.before.before.before.before.before.before.if-not-begin in
-    let a = c.before.before.before.before.before.before.before.before.before.before.before.before.before.before.before.before.before.before.before.before.before.before.before.before.before.before.before.before.before.before.before.before.before.before.before.before.before.before.before.before.args in
+    let if1 = c.if-not-begin in
+    let a = c.args in
     let n : ℕ = length a.b-1.now in
     let k : ℕ = a.k in
-    let f = c.before.before.before.before.before.before.before.before.before.before.before.before.before.before.before.before.before.before.before.before.before.before.before.before.before.before.before.before.begin in
-    let h = c.before.before.before.before.before.before.before.before.before.before.finish in
+    let f = c.begin in
+    let h = c.finish in
     let g : f.result ≡ true = not-false _ if1.false in
     ap (Elimination.column n (k + 1)) (f.ensures.stage ∙ ap (λ r. Elimination.after r (cond r (Elimination.eliminate n k (rows n n f.new.0)) (rows n n f.new.0)) f.new.1.0) g)
     ∙ subst (λ w. Elimination.column w (k + 1) (Elimination.going (Elimination.eliminate w k (rows w w f.new.0)) f.new.1.0) ≡ Elimination.after h.result (rows w w h.new.0) h.new.1.0) f.auto.1.0 h.ensures

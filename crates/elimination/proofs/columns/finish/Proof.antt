@@ -36,10 +36,10 @@ returns c = let s = c.before.before.before.before.before.before.before.before.be
     let a = s.args in
     let n : ℕ = length a.b-1.now in
     let k : ℕ = a.k in
-    let f = c.before.before.before.before.before.before.before.before.before.before.column_after in
-    let g = c.before.before.before.before.before.before.pivot-next_best in
-    let if1 = c.before.before.before.before.if-next_best in
-    let t = c.before.before.eliminate in
+    let f = c.column_after in
+    let g = c.pivot-next_best in
+    let if1 = c.if-next_best in
+    let t = c.eliminate in
     let m : List (List Float) = Elimination.eliminate n k (rows n n a.a-1.now) in
     let p = pivot_found n (length a.col-1.now) _ (k + 1) (λ w. Elimination.eliminate w k (rows w w a.a-1.now)) f.new.0 _ _ s.requires.1 f.auto.0 f.ensures g.ensures in
     let done : rows n n t.new.0 ≡ m = subst (λ w. rows w w t.new.0 ≡ Elimination.eliminate w k (rows w w a.a-1.now)) s.requires.3 t.ensures in
@@ -49,32 +49,32 @@ elim-row-requires : tie.Need-elim_row-requires
 elim-row-requires c κs = let s = c.before.before.before.before.before.before.before.before.before.before.before.before.before.before.before.before in
     let a = s.args in
     let n : ℕ = length a.b-1.now in
-    let f = c.before.before.before.before.before.before.before.column_after in
-    let g = c.before.before.before.pivot-next_best in
+    let f = c.column_after in
+    let g = c.pivot-next_best in
     let p = pivot_found n (length a.col-1.now) _ (a.k + 1) (λ w. Elimination.eliminate w a.k (rows w w a.a-1.now)) f.new.0 _ _ s.requires.1 f.auto.0 f.ensures g.ensures in
     (omega arith, subst (λ w. g.result.at * w + w ≤ length a.a-1.now) (sym s.requires.3) (omega (arith, s.requires.0.matrix, row_end g.result.at n n p.inside)))
 
 place-requires : tie.Need-place-requires
 place-requires c κs =
-    let elim-row = c.before.before.before.before.before.before.before.elim_row in
+    let elim-row = c.elim_row in
     let s = c.before.before.before.before.before.before.before.before.before.before.before.before.before.before.before.before.before.before.before.before.before.before.before.before in
     let a = s.args in
     let n : ℕ = length a.b-1.now in
-    let f = c.before.before.before.before.before.before.before.before.before.before.before.before.before.before.before.column_after in
-    let g = c.before.before.before.before.before.before.before.before.before.before.before.pivot-next_best in
+    let f = c.column_after in
+    let g = c.pivot-next_best in
     let p = pivot_found n (length a.col-1.now) _ (a.k + 1) (λ w. Elimination.eliminate w a.k (rows w w a.a-1.now)) f.new.0 _ _ s.requires.1 f.auto.0 f.ensures g.ensures in
     (record { matrix = elim-row.auto.0 ∙ s.requires.0.matrix; tops = s.requires.0.tops; spares = s.requires.0.spares }, f.auto.0 ∙ s.requires.1, omega arith, p.inside)
 
 eliminate-two-requires : tie.Need-eliminate_two-requires
 eliminate-two-requires c κs = let s = c.before.before.before.before.before.before.before.before.before.before.before.before.before.before.before.before.before.before.before.before.before.before.before.before.before.before.before.before.before.before.before.before.before.before.before.before.before in
-    let q = c.before.before.before.before.before.before.before.before.before.before.before.before.place in
-    let e = c.before.before.before.before.before.before.before.before.before.before.before.before.before.before.before.before.before.before.before.before.elim_row in
+    let q = c.place in
+    let e = c.elim_row in
     (omega arith, q.auto.1.1.0 ∙ s.requires.0.tops ∙ sym s.requires.3, q.auto.0 ∙ e.auto.0 ∙ s.requires.0.matrix ∙ ap (λ k. k * k) (sym s.requires.3))
 
 returns_2 : tie.Need-returns
 unfolding Elimination.reduce
 returns_2 c =
-    let if1 = c.before.before.before.before.before.before.before.before.before.before.before.before.before.before.before.before.before.before.before.before.before.before.before.before.before.if-next_best in
+    let if1 = c.if-next_best in
     let s = c.before.before.before.before.before.before.before.before.before.before.before.before.before.before.before.before.before.before.before.before.before.before.before.before.before.before.before.before.before.before.before.before.before.before.before.before.before.before.before.before in
     let a = s.args in
     let n : ℕ = length a.b-1.now in
@@ -82,11 +82,11 @@ returns_2 c =
     let v : List Float = a.a-1.now in
     let top : List Float = a.top.now in
     let m : List (List Float) = Elimination.eliminate n k (rows n n v) in
-    let f = c.before.before.before.before.before.before.before.before.before.before.before.before.before.before.before.before.before.before.before.before.before.before.before.before.before.before.before.before.before.before.before.column_after in
-    let g = c.before.before.before.before.before.before.before.before.before.before.before.before.before.before.before.before.before.before.before.before.before.before.before.before.before.before.before.pivot-next_best in
-    let r = c.before.before.before.before.before.before.before.before.before.before.before.before.before.before.before.before.before.before.before.before.before.before.before.elim_row in
-    let q = c.before.before.before.before.before.before.before.before.before.before.before.before.before.before.before.place in
-    let t = c.before.before.eliminate_two in
+    let f = c.column_after in
+    let g = c.pivot-next_best in
+    let r = c.elim_row in
+    let q = c.place in
+    let t = c.eliminate_two in
     let at_p : ℕ = g.result.at in
     let w : List Float = r.new.0 in
     let u : List Float = q.new.0 in

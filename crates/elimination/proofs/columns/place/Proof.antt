@@ -15,7 +15,7 @@ use Rattle.elimination.proofs.columns.place.Tie as tie
 take-right-requires : tie.Need-take_right-requires
 take-right-requires c κs =
     let entry = c.before.before.before.before.before.before.before.before.before.before.before.before.before.before.before.before.before.before.before.before.before.before in
-    let r = c.before.before.before.before.before.scale_right in
+    let r = c.scale_right in
     let a = entry.args in
     (omega (arith, r.auto.0), length-set a.col.now a.p (at a.col.now a.k) ∙ entry.requires.1 ∙ sym r.auto.0)
 
@@ -24,9 +24,9 @@ returns c = let st = c.before.before.before.before.before.before.before.before.b
     let a = st.args in
     let n : ℕ = length a.b-1.now in
     let k : ℕ = a.k in
-    let r = c.before.before.before.before.before.before.before.before.before.before.before.before.before.before.before.before.place_rows-d in
-    let s = c.before.before.before.before.before.before.before.before.scale_right in
-    let t = c.before.before.take_right in
+    let r = c.place_rows-d in
+    let s = c.scale_right in
+    let t = c.take_right in
     let col : List Float = set a.col.now a.p (at a.col.now k) in
     let pl : Inner.Placed n k a.p a.a-1.now r.new.0 r.new.1.0 r.result =
     subst (λ w. Inner.Placed w k a.p a.a-1.now r.new.0 r.new.1.0 r.result) st.requires.0.tops r.ensures in
@@ -40,7 +40,7 @@ pub place_spec : {M : Type 1} → statement M
 place_spec =
     tie.close
     (tie.spec
-    (λ c κs. let s = c.before.before.before.before.before.before.before.before.requires.0 in (omega arith, omega arith, s.spares ∙ sym s.tops, s.matrix ∙ ap (λ k. k * k) (sym s.tops)))
+    (λ c κs. let s = c.requires.0 in (omega arith, omega arith, s.spares ∙ sym s.tops, s.matrix ∙ ap (λ k. k * k) (sym s.tops)))
     (λ c κs. search rules)
     (λ c. search rules)
     (λ c. search rules)

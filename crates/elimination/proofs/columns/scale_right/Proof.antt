@@ -19,4 +19,4 @@ scale_right_spec =
     (λ c. omega arith)
     (λ c. simp length-set (omega arith))
     (λ c. simp length-set)
-    (λ c. let a = c.before.before.args in right_placed a.b.now a.k a.p a.d (omega arith) (omega arith)))
+    (λ c. let a = c.args in right_placed a.b.now a.k a.p a.d (omega arith) (omega arith)))

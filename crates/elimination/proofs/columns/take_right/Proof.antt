@@ -17,8 +17,8 @@ abbrev decreases_loop : tie.decreases-loop-i
 decreases_loop b₀ col k y i₀ b i = length b₀ - i
 
 loop-again : tie.Need-loop-i-preserved invariant_loop decreases_loop
-loop-again c = let l = c.before.before.before.loop-i in
-    let a = c.before.before.before.before.before.args in (
+loop-again c = let l = c.loop-i in
+    let a = c.args in (
       omega arith,
       simp length-set (omega arith),
       filled_set _ 0 l.i a.b.now l.b _ (omega arith) (omega arith) l.invariant.2
@@ -26,8 +26,8 @@ loop-again c = let l = c.before.before.before.loop-i in
     )
 
 returns : tie.Need-returns invariant_loop decreases_loop
-returns c = let l = c.before.loop-i in
-    let a = c.before.before.before.args in
+returns c = let l = c.loop-i in
+    let a = c.args in
     let e : l.i ≡ length a.b.now = omega arith in
     right_put a.b.now l.b a.col.now a.k (omega arith) l.invariant.1 (rw e at l.invariant.2)
 

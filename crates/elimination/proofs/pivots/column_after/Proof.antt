@@ -18,12 +18,12 @@ abbrev decreases_loop : tie.decreases-loop-i
 decreases_loop col₀ a top k n l y i₀ col i = length col₀ - i
 
 loop-again : tie.Need-loop-i-preserved invariant_loop decreases_loop
-loop-again c = let l = c.before.before.before.loop-i in
-    let a = c.before.before.before.before.before.args in
+loop-again c = let l = c.loop-i in
+    let a = c.args in
     (omega arith, simp length-set (omega arith), filled_set _ 0 l.i a.col.now l.col _ (omega arith) (omega arith) l.invariant.2 refl)
 
 returns : tie.Need-returns invariant_loop decreases_loop
-returns c = let l = c.before.loop-i in
+returns c = let l = c.loop-i in
     let s = c.before.before.before in
     let a = s.args in
     column_put (length a.col.now) a.k a.a.now a.top.now l.col s.requires.0 l.invariant.1 s.requires.3 (λ x h. l.invariant.2.done x (omega arith) (omega arith))
@@ -38,13 +38,13 @@ column_after_spec =
     (λ c. omega arith)
     (λ c. omega arith)
     (λ c. (omega arith, refl, filled_none _ _ _))
-    (λ c. let a = c.before.before.before.args in omega (arith, row_end c.before.loop-i.i (length a.col.now) (length a.col.now) (omega arith)))
-    (λ c. let a = c.before.before.before.args in omega (arith, row_end c.before.loop-i.i (length a.col.now) (length a.col.now) (omega arith)))
-    (λ c. let a = c.before.before.before.args in omega (arith, row_end c.before.loop-i.i (length a.col.now) (length a.col.now) (omega arith)))
-    (λ c. let a = c.before.before.before.before.args in omega (arith, row_end c.before.before.loop-i.i (length a.col.now) (length a.col.now) (omega arith)))
-    (λ c. let a = c.before.before.before.before.args in omega (arith, row_end c.before.before.loop-i.i (length a.col.now) (length a.col.now) (omega arith)))
-    (λ c. let a = c.before.before.before.before.args in omega (arith, row_end c.before.before.loop-i.i (length a.col.now) (length a.col.now) (omega arith)))
-    (λ c. let a = c.before.before.before.before.before.args in omega (arith, row_end c.before.before.before.loop-i.i (length a.col.now) (length a.col.now) (omega arith)))
+    (λ c. let a = c.args in omega (arith, row_end c.loop-i.i (length a.col.now) (length a.col.now) (omega arith)))
+    (λ c. let a = c.args in omega (arith, row_end c.loop-i.i (length a.col.now) (length a.col.now) (omega arith)))
+    (λ c. let a = c.args in omega (arith, row_end c.loop-i.i (length a.col.now) (length a.col.now) (omega arith)))
+    (λ c. let a = c.args in omega (arith, row_end c.loop-i.i (length a.col.now) (length a.col.now) (omega arith)))
+    (λ c. let a = c.args in omega (arith, row_end c.loop-i.i (length a.col.now) (length a.col.now) (omega arith)))
+    (λ c. let a = c.args in omega (arith, row_end c.loop-i.i (length a.col.now) (length a.col.now) (omega arith)))
+    (λ c. let a = c.args in omega (arith, row_end c.loop-i.i (length a.col.now) (length a.col.now) (omega arith)))
     (λ c. omega arith)
     (λ c. omega arith)
     (λ c. omega arith)

@@ -17,13 +17,13 @@ abbrev decreases_loop : tie.decreases-loop-i
 decreases_loop col₀ a k n i₀ col i = length col₀ - i
 
 loop-again : tie.Need-loop-i-preserved invariant_loop decreases_loop
-loop-again c = let l = c.before.before.loop-i in
-    let a = c.before.before.before.args in
+loop-again c = let l = c.loop-i in
+    let a = c.args in
     (omega arith, simp length-set (omega arith), filled_set _ 0 l.i a.col.now l.col _ (omega arith) (omega arith) l.invariant.2 refl)
 
 returns : tie.Need-returns invariant_loop decreases_loop
-returns c i h = let l = c.before.loop-i in
-    let a = c.before.before.args in
+returns c i h = let l = c.loop-i in
+    let a = c.args in
     let n : ℕ = length a.col.now in
     l.invariant.2.done i (omega arith) (omega arith) ∙ sym (cell_rows n n a.a.now i a.k h (omega arith))
 
@@ -34,10 +34,10 @@ column_at_spec =
     invariant_loop
     decreases_loop
     (λ c. (omega arith, refl, filled_none _ _ _))
-    (λ c. let a = c.before.before.args in omega (arith, row_end c.before.loop-i.i (length a.col.now) (length a.col.now) (omega arith)))
-    (λ c. let a = c.before.before.args in omega (arith, row_end c.before.loop-i.i (length a.col.now) (length a.col.now) (omega arith)))
-    (λ c. let a = c.before.before.args in omega (arith, row_end c.before.loop-i.i (length a.col.now) (length a.col.now) (omega arith)))
-    (λ c. let a = c.before.before.before.args in omega (arith, row_end c.before.before.loop-i.i (length a.col.now) (length a.col.now) (omega arith)))
+    (λ c. let a = c.args in omega (arith, row_end c.loop-i.i (length a.col.now) (length a.col.now) (omega arith)))
+    (λ c. let a = c.args in omega (arith, row_end c.loop-i.i (length a.col.now) (length a.col.now) (omega arith)))
+    (λ c. let a = c.args in omega (arith, row_end c.loop-i.i (length a.col.now) (length a.col.now) (omega arith)))
+    (λ c. let a = c.args in omega (arith, row_end c.loop-i.i (length a.col.now) (length a.col.now) (omega arith)))
     (λ c. omega arith)
     (λ c. omega arith)
     (λ c. omega arith)

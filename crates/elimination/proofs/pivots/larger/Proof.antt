@@ -8,14 +8,14 @@ use Rattle.elimination.proofs.pivots.larger.Statement.{statement}
 use Rattle.elimination.proofs.pivots.larger.Tie as tie
 
 returns : tie.Need-returns-then-mag-best
-returns c = let a = c.before.before.before.before.args in
-    let m = c.before.before.abs-mag.ensures ∙ c.before.before.before.positive.ensures in
+returns c = let a = c.args in
+    let m = c.abs-mag.ensures ∙ c.positive.ensures in
     let e : lt a.best.size (Ops.abs-mag a.x) ≡ true = rw m at c.if-mag-best.true in
     (rw e, rw e m)
 
 returns_2 : tie.Need-returns
-returns_2 c = let a = c.before.before.before.before.args in
-    let m = c.before.before.abs-mag.ensures ∙ c.before.before.before.positive.ensures in
+returns_2 c = let a = c.args in
+    let m = c.abs-mag.ensures ∙ c.positive.ensures in
     let e : lt a.best.size (Ops.abs-mag a.x) ≡ false = rw m at c.if-mag-best.false in
     (rw e, rw e)
 

@@ -22,8 +22,8 @@ abbrev decreases_loop : tie.decreases-loop-t
 decreases_loop col k first rest best₀ t₀ best t = rest - t
 
 loop-again : tie.Need-loop-t-preserved invariant_loop decreases_loop
-loop-again c = let a = c.before.before.before.before.before.before.before.args in
-    let l = c.before.before.before.loop-t in
+loop-again c = let a = c.args in
+    let l = c.loop-t in
     let i : ℕ = a.k + 1 + l.t in
     let f : ℕ → Float = λ p. Ops.abs (at a.col.now p) in
     let b : Bool = lt (f l.best.at) (f i) in
@@ -35,8 +35,8 @@ loop-again c = let a = c.before.before.before.before.before.before.before.args i
     (omega arith, w.1, w.0, choice b i l.best.at r.result.at f r.result.size p s, iter_next _ _ l.t l.invariant.4 p)
 
 returns : tie.Need-returns invariant_loop decreases_loop
-returns c = let l = c.before.loop-t in
-    let a = c.before.before.before.before.before.args in
+returns c = let l = c.loop-t in
+    let a = c.args in
     let e : l.t ≡ length a.col.now - (a.k + 1) = omega arith in
     pivot_of (length a.col.now) a.k a.col.now l.best.at l.best.size (omega arith) (rw e at l.invariant.4) l.invariant.3 l.invariant.1 l.invariant.2
 

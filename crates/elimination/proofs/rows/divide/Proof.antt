@@ -19,8 +19,8 @@ abbrev decreases_loop : tie.decreases-loop-j
 decreases_loop row₀ k d j₀ row j = length row₀ - j
 
 loop-again : tie.Need-loop-j-preserved invariant_loop decreases_loop
-loop-again c = let l = c.before.before.loop-j in
-    let a = c.before.before.before.before.args in (
+loop-again c = let l = c.loop-j in
+    let a = c.args in (
       omega arith,
       omega arith,
       simp length-set (omega arith),
@@ -30,8 +30,8 @@ loop-again c = let l = c.before.before.loop-j in
 
 returns : tie.Need-returns invariant_loop decreases_loop
 unfolding Elimination.divided
-returns c = let l = c.before.loop-j in
-    let a = c.before.before.before.args in
+returns c = let l = c.loop-j in
+    let a = c.args in
     let v : List Float = a.row.now in
     let e : l.j ≡ length v = omega arith in
     filled_all _ a.k v l.row l.invariant.2 (rw e at l.invariant.3) (λ x h. simp (lt-leb a.k x h))

@@ -18,12 +18,12 @@ use Rattle.elimination.proofs.rows.elim_row.Tie as tie
 returns_2 : tie.Need-returns
 unfolding Elimination.less
 returns_2 c =
-    let if1 = c.before.before.before.before.before.if-i-k in
-    let a = c.before.before.before.before.before.before.before.before.args in
+    let if1 = c.if-i-k in
+    let a = c.args in
     let n : ℕ = length a.top.now in
     let v : List Float = a.a-1.now in
     let s : ℕ = a.i * n in
-    let t = c.before.before.take_row in
+    let t = c.take_row in
     let r : List Float = row n v a.i in
     let pr : take (s + n - s) (drop s v) ≡ r = part_row n v a.i s (s + n) refl refl in
     let lr : length r ≡ n = length_row n v a.i (omega arith) in

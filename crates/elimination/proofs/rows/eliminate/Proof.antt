@@ -21,10 +21,10 @@ abbrev decreases_loop : tie.decreases-loop-i
 decreases_loop a₀ top k n i₀ a i = length top - i
 
 loop-again : tie.Need-loop-i-preserved invariant_loop decreases_loop
-loop-again c = let a = c.before.before.before.before.before.before.before.before.args in
-    let l = c.before.before.before.before.before.loop-i in
+loop-again c = let a = c.args in
+    let l = c.loop-i in
     let n : ℕ = length a.top.now in
-    let f = c.before.before.elim_row in (
+    let f = c.elim_row in (
       omega arith,
       omega (arith, f.auto.0),
       filled_more _ 0 l.i _ _ _ (omega arith) l.invariant.2
@@ -35,7 +35,7 @@ returns : tie.Need-returns invariant_loop decreases_loop
 unfolding Elimination.eliminate
 returns c =
     let entry = c.before.before.before.before in
-    let l = c.before.loop-i in
+    let l = c.loop-i in
     let a = entry.args in
     let n : ℕ = length a.top.now in
     let v : List Float = a.a-1.now in
@@ -50,7 +50,7 @@ eliminate_spec =
     invariant_loop
     decreases_loop
     (λ c. (omega arith, refl, filled_none _ _ _))
-    (λ c κs. let a = c.before.before.before.before.before.args in (omega arith, omega (arith, row_end c.before.before.loop-i.i (length a.top.now) (length a.top.now) (omega arith))))
+    (λ c κs. let a = c.args in (omega arith, omega (arith, row_end c.loop-i.i (length a.top.now) (length a.top.now) (omega arith))))
     (λ c. omega arith)
     (λ c. omega arith)
     loop-again

@@ -18,9 +18,9 @@ abbrev decreases_loop : tie.decreases-loop-i
 decreases_loop a₀ t u k n i₀ a i = length t - i
 
 loop-again : tie.Need-loop-i-preserved invariant_loop decreases_loop
-loop-again c = let a = c.before.before.before.before.before.before.before.before.before.args in
-    let l = c.before.before.before.before.before.loop-i in
-    let f = c.before.before.two_row in (
+loop-again c = let a = c.args in
+    let l = c.loop-i in
+    let f = c.two_row in (
       omega arith,
       omega (arith, f.auto.0),
       filled_more _ 0 l.i _ _ _ (omega arith) l.invariant.2
@@ -29,8 +29,8 @@ loop-again c = let a = c.before.before.before.before.before.before.before.before
 
 returns : tie.Need-returns invariant_loop decreases_loop
 unfolding Inner.eliminate_two
-returns c = let l = c.before.loop-i in
-    let a = c.before.before.before.before.before.args in
+returns c = let l = c.loop-i in
+    let a = c.args in
     tab_same (length a.t.now) _ _ (λ x h. l.invariant.2.done x (omega arith) (omega arith))
 
 pub eliminate_two_spec : {M : Type 1} → statement M
@@ -40,7 +40,7 @@ eliminate_two_spec =
     invariant_loop
     decreases_loop
     (λ c. (omega arith, refl, filled_none _ _ _))
-    (λ c κs. let a = c.before.before.before.before.before.before.args in (omega arith, omega arith, omega (arith, row_end c.before.before.loop-i.i (length a.t.now) (length a.t.now) (omega arith))))
+    (λ c κs. let a = c.args in (omega arith, omega arith, omega (arith, row_end c.loop-i.i (length a.t.now) (length a.t.now) (omega arith))))
     (λ c. omega arith)
     (λ c. omega arith)
     loop-again

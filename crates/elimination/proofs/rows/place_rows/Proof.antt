@@ -22,19 +22,19 @@ use Rattle.elimination.proofs.rows.place_rows.Tie as tie
 
 put-row-requires : tie.Need-put_row-requires
 put-row-requires c κs =
-    let copy = c.before.before.before.before.before.before.before.before.before.before.before.before.before.before.before.copy in
-    let a = c.before.before.before.before.before.before.before.before.before.before.before.before.before.before.before.before.before.before.before.before.before.before.args in
+    let copy = c.copy in
+    let a = c.args in
     let n : ℕ = length a.top-1.now in
     let ls : n ≡ length copy.new.0 = omega (arith, copy.auto.0) in
     subst (λ w. a.p * w + w ≤ length a.a-1.now) ls (omega (arith, row_end a.p n n (omega arith)))
 
 put-row-requires-2 : tie.Need-put_row-requires-2
 put-row-requires-2 c κs =
-    let copy2 = c.before.before.before.before.before.before.before.before.before.before.before.before.before.before.copy-2 in
-    let divide = c.before.before.before.before.before.before.before.before.before.divide in
-    let a = c.before.before.before.before.before.before.before.before.before.before.before.before.before.before.before.before.before.before.before.before.before.before.before.before.before.before.before.args in
+    let copy2 = c.copy-2 in
+    let divide = c.divide in
+    let a = c.args in
     let n : ℕ = length a.top-1.now in
-    let r = c.before.before.before.before.put_row_law in
+    let r = c.put_row in
     let lt : n ≡ length divide.new.0 = omega (arith, divide.auto.0, copy2.auto.0) in
     subst (λ w. a.k * w + w ≤ length r.new.0) lt (omega (arith, r.auto.0, row_end a.k n n (omega arith)))
 
@@ -44,11 +44,11 @@ returns c =
     let a = entry.args in
     let n : ℕ = length a.top-1.now in
     let v : List Float = a.a-1.now in
-    let r1 = c.before.before.before.before.before.before.before.put_row_law in
-    let r2 = c.before.before.put_row-2 in
-    let x = c.before.before.before.before.before.before.before.before.before.before.before.before.before.before.before.before.before.before.before.before.before.before.before.copy in
-    let y = c.before.before.before.before.before.before.before.before.before.before.before.before.before.before.before.before.before.copy-2 in
-    let z = c.before.before.before.before.before.before.before.before.before.before.before.before.divide in
+    let r1 = c.put_row in
+    let r2 = c.put_row-2 in
+    let x = c.copy in
+    let y = c.copy-2 in
+    let z = c.divide in
     let ex : x.new.0 ≡ row n v a.k = x.ensures ∙ part_row n v a.k _ _ refl refl in
     let ey : y.new.0 ≡ row n v a.p = y.ensures ∙ part_row n v a.p _ _ refl refl in
     let ly : length y.new.0 ≡ n = y.auto.0 in
@@ -73,19 +73,19 @@ pub place_rows_spec : {M : Type 1} → statement M
 place_rows_spec =
     tie.close
     (tie.spec
-    (λ c. let a = c.before.before.before.args in omega (arith, row_end a.k (length a.top-1.now) (length a.top-1.now) (omega arith)))
-    (λ c. let a = c.before.before.before.args in omega (arith, row_end a.k (length a.top-1.now) (length a.top-1.now) (omega arith)))
-    (λ c. let a = c.before.before.before.args in omega (arith, row_end a.p (length a.top-1.now) (length a.top-1.now) (omega arith)))
-    (λ c. let a = c.before.before.before.args in omega (arith, row_end a.p (length a.top-1.now) (length a.top-1.now) (omega arith)))
-    (λ c. let a = c.before.before.before.before.args in omega (arith, row_end a.k (length a.top-1.now) (length a.top-1.now) (omega arith)))
+    (λ c. let a = c.args in omega (arith, row_end a.k (length a.top-1.now) (length a.top-1.now) (omega arith)))
+    (λ c. let a = c.args in omega (arith, row_end a.k (length a.top-1.now) (length a.top-1.now) (omega arith)))
+    (λ c. let a = c.args in omega (arith, row_end a.p (length a.top-1.now) (length a.top-1.now) (omega arith)))
+    (λ c. let a = c.args in omega (arith, row_end a.p (length a.top-1.now) (length a.top-1.now) (omega arith)))
+    (λ c. let a = c.args in omega (arith, row_end a.k (length a.top-1.now) (length a.top-1.now) (omega arith)))
     (λ c. search rules)
     (λ c. search rules)
-    (λ c. let a = c.before.before.before.before.before.args in omega (arith, row_end a.k (length a.top-1.now) (length a.top-1.now) (omega arith)))
+    (λ c. let a = c.args in omega (arith, row_end a.k (length a.top-1.now) (length a.top-1.now) (omega arith)))
     (λ c κs. search rules)
-    (λ c. let a = c.before.before.before.before.before.before.before.before.before.before.args in omega (arith, row_end a.p (length a.top-1.now) (length a.top-1.now) (omega arith)))
+    (λ c. let a = c.args in omega (arith, row_end a.p (length a.top-1.now) (length a.top-1.now) (omega arith)))
     (λ c. search rules)
     (λ c. search rules)
-    (λ c. let a = c.before.before.before.before.before.before.before.before.before.before.before.args in omega (arith, row_end a.p (length a.top-1.now) (length a.top-1.now) (omega arith)))
+    (λ c. let a = c.args in omega (arith, row_end a.p (length a.top-1.now) (length a.top-1.now) (omega arith)))
     (λ c κs. search rules)
     (λ c. search rules)
     (λ c. search rules)

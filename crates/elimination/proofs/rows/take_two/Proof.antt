@@ -19,8 +19,8 @@ abbrev decreases_loop : tie.decreases-loop-j
 decreases_loop row₀ t u k l f g j₀ row j = length t - j
 
 loop-again : tie.Need-loop-j-preserved invariant_loop decreases_loop
-loop-again c = let l = c.before.before.before.before.loop-j in
-    let a = c.before.before.before.before.before.before.before.before.before.args in
+loop-again c = let l = c.loop-j in
+    let a = c.args in
     let r : List Float = a.row.now in
     let f : Float = at r a.k in
     let g : Float = sub binary64 (at r (a.k + 1)) (mul binary64 f (at a.t.now (a.k + 1))) in (
@@ -32,8 +32,8 @@ loop-again c = let l = c.before.before.before.before.loop-j in
     )
 
 returns : tie.Need-returns invariant_loop decreases_loop
-returns c = let l = c.before.loop-j in
-    let a = c.before.before.before.before.before.before.args in
+returns c = let l = c.loop-j in
+    let a = c.args in
     let e : l.j ≡ length a.row.now = omega arith in
     two_put a.k a.t.now a.u.now a.row.now l.row (omega arith) (omega arith) (rw e at l.invariant.3)
 

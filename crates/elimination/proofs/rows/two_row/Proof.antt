@@ -21,29 +21,29 @@ elim-row-requires c κs = let s = c.before.before.before.before.before in
 
 returns : tie.Need-returns-then-i-k
 returns c =
-    let if1 = c.before.before.before.before.if-i-k in
+    let if1 = c.if-i-k in
     let s = c.before.before.before.before.before.before.before.before in
     let a = s.args in
     let n : ℕ = length a.t.now in
     let v : List Float = a.a-1.now in
-    let f = c.before.before.elim_row in
+    let f = c.elim_row in
     one_row n (length a.u.now) _ _ v f.new.0 a.i s.requires.1
     (ap (λ w. Elimination.eliminated_row w (a.k + 1) a.u.now a.i (row w v a.i)) s.requires.1 ∙ two_first n a.k a.t.now a.u.now a.i (row n v a.i) if1.true) f.ensures
 
 returns_2 : tie.Need-returns-then-i-k-2
-returns_2 c = let a = c.before.before.before.before.before.args in
+returns_2 c = let a = c.args in
     let n : ℕ = length a.t.now in
     record { own = two_second n a.k a.t.now a.u.now a.i (row n a.a-1.now a.i) c.if-i-k-2.true; others = λ x ne. refl }
 
 returns_3 : tie.Need-returns
 returns_3 c =
-    let if1 = c.before.before.before.before.before.if-i-k in
-    let if2 = c.before.before.before.before.if-i-k-2 in
-    let a = c.before.before.before.before.before.before.before.before.before.args in
+    let if1 = c.if-i-k in
+    let if2 = c.if-i-k-2 in
+    let a = c.args in
     let n : ℕ = length a.t.now in
     let v : List Float = a.a-1.now in
     let s : ℕ = a.i * n in
-    let t = c.before.before.take_two in
+    let t = c.take_two in
     let r : List Float = row n v a.i in
     let pr : take (s + n - s) (drop s v) ≡ r = part_row n v a.i s (s + n) refl refl in
     let lr : length r ≡ n = length_row n v a.i (omega arith) in

@@ -8,14 +8,14 @@ use Rattle.export.proofs.plans.put_planned.Tie as tie
 returns : tie.Need-returns
 returns c =
     let placed = c.before.before.before in
-    let told = of_plan placed.before.before.before.before.before.args.r in
+    let told = of_plan placed.args.r in
     record {
       number_is = c.number_of_lem.ensures ∙ told.number;
       counts_are = rw (placed.place_of-place.ensures, told.place, ← told.runs);
       duration_is = search rules;
       defect_is = search rules;
       decision_is = search rules;
-      nodes_are = rw c.before.rows.ensures;
+      nodes_are = rw c.rows.ensures;
       held_are = search rules;
     }
 

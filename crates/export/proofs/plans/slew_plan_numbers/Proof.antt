@@ -6,10 +6,10 @@ use Rattle.export.proofs.plans.slew_plan_numbers.Tie as tie
 returns : tie.Need-returns
 returns c =
     let made = c.before.before.before.before.before.before.before.before.before in
-    let is = rw made.before.before.problem_of_law.ensures at made.plan-planned.ensures.0 in
+    let is = rw made.problem_of-p.ensures at made.plan-planned.ensures.0 in
     record {
       entry_told = record { plan_told = rw is at c.put_planned.ensures; left = rw (made.plan-planned.ensures.1.0, is) };
-      promised = rw (made.before.before.problem_of_law.ensures, is) at made.plan-planned.ensures.1.1;
+      promised = rw (made.problem_of-p.ensures, is) at made.plan-planned.ensures.1.1;
     }
 
 pub slew_plan_numbers_spec : {M : Type 1} → statement M

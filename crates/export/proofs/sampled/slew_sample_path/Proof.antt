@@ -7,9 +7,9 @@ use Rattle.export.proofs.sampled.slew_sample_path.Tie as tie
 returns : tie.Need-returns
 returns c =
     let made = c.before.before.before.before in
-    let is = rw made.before.tensor-inertia.ensures at made.sample-made.ensures in
-    let told = placed (of_fate_law made.sample-made.result.sample-made made.sample-made.result.fate) c.before.place_of.ensures c.number_of_lem.ensures in
-    record { placed = rw is at told; numbers_are = rw (c.before.before.numbers_of.ensures, is) }
+    let is = rw made.tensor-inertia.ensures at made.sample-made.ensures in
+    let told = placed (of_fate_law made.sample-made.result.sample-made made.sample-made.result.fate) c.place_of.ensures c.number_of_lem.ensures in
+    record { placed = rw is at told; numbers_are = rw (c.numbers_of.ensures, is) }
 
 pub slew_sample_path_spec : {M : Type 1} → statement M
 slew_sample_path_spec =

@@ -5,7 +5,7 @@ use Rattle.export.proofs.texts.slew_plan.Tie as tie
 
 returns : tie.Need-returns
 returns c =
-    let plan-text = c.before.before.before.before.plan_text-told in
+    let plan-text = c.plan_text-told in
     let told = plan-text.ensures.tells in
     record { bytes_are = rw told.is; text_is = told.bytes; left = told.left; promised = plan-text.ensures.promised }
 

@@ -5,7 +5,7 @@ use Rattle.export.proofs.texts.slew_plan_from.Tie as tie
 
 returns : tie.Need-returns
 returns c =
-    let plan-text-from = c.before.before.before.before.plan_text_from-told in
+    let plan-text-from = c.plan_text_from-told in
     let told = plan-text-from.ensures.tells in
     record { bytes_are = rw told.is; text_is = told.bytes; left = told.left; promised = plan-text-from.ensures.promised }
 

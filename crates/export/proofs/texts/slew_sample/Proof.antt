@@ -5,7 +5,7 @@ use Rattle.export.proofs.texts.slew_sample.Tie as tie
 
 returns : tie.Need-returns
 returns c =
-    let sample-text = c.before.before.before.before.sample_text in
+    let sample-text = c.sample_text in
     sample-text.ensures
 
 pub slew_sample_spec : {M : Type 1} → statement M

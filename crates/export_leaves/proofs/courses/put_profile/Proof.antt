@@ -9,7 +9,7 @@ returns : tie.Need-returns
 returns c =
     let entry = c.before.before.before.before in
     let p = entry.args.p in
-    rw (map_fate numbers p.profile p.fate) (rw c.before.before.numbers.ensures at c.put_made.ensures)
+    rw (map_fate numbers p.profile p.fate) (rw c.numbers.ensures at c.put_made.ensures)
 
 pub put_profile_spec : {M : Type 1} → statement M
 put_profile_spec = tie.close (tie.spec (λ c κs. search rules) (λ c κs. search rules) returns)

@@ -5,7 +5,7 @@ use Rattle.export_leaves.proofs.courses.put_switches.Statement.{statement}
 use Rattle.export_leaves.proofs.courses.put_switches.Tie as tie
 
 returns : tie.Need-returns-in-Are
-returns c = rw c.before.before.s-1.given.1 (record { number_is = refl; place_is = refl; value_is = c.three.ensures })
+returns c = rw c.in-Are.is (record { number_is = refl; place_is = refl; value_is = c.three.ensures })
 
 pub put_switches_spec : {M : Type 1} → statement M
 put_switches_spec =

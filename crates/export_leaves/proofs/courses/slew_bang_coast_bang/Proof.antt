@@ -10,8 +10,8 @@ returns c =
     let limit = made.before in
     let tensor = limit.before in
     let to = tensor.before.before in
-    rw (made.bang_coast_bang-p.ensures, limit.limit_of_law.ensures, tensor.tensor-inertia.ensures, to.quat-to.ensures, to.before.quat-from.ensures)
-    at (answered_at (of_profiled_law made.bang_coast_bang-p.result) c.before.before.place_of.ensures c.put_profile.ensures)
+    rw (made.bang_coast_bang-p.ensures, limit.limit_of-top.ensures, tensor.tensor-inertia.ensures, to.quat-to.ensures, to.quat-from.ensures)
+    at (answered_at (of_profiled_law made.bang_coast_bang-p.result) c.place_of.ensures c.put_profile.ensures)
 
 pub slew_bang_coast_bang_spec : {M : Type 1} → statement M
 slew_bang_coast_bang_spec =

@@ -4,7 +4,7 @@ use Rattle.export_leaves.proofs.courses.slew_profile_alpha_signed.Statement.{sta
 use Rattle.export_leaves.proofs.courses.slew_profile_alpha_signed.Tie as tie
 
 returns : tie.Need-returns
-returns c = rw (c.alpha_signed.ensures, c.before.profile_of.ensures)
+returns c = rw (c.alpha_signed.ensures, c.profile_of.ensures)
 
 pub slew_profile_alpha_signed_spec : {M : Type 1} → statement M
 slew_profile_alpha_signed_spec = tie.close (tie.spec (λ c κs. search rules) (λ c κs. search rules) returns)

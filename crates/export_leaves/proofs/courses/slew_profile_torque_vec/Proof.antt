@@ -4,7 +4,7 @@ use Rattle.export_leaves.proofs.courses.slew_profile_torque_vec.Statement.{state
 use Rattle.export_leaves.proofs.courses.slew_profile_torque_vec.Tie as tie
 
 returns : tie.Need-returns
-returns c = rw (c.torque_vec.ensures, c.before.profile_of.ensures)
+returns c = rw (c.torque_vec.ensures, c.profile_of.ensures)
 
 pub slew_profile_torque_vec_spec : {M : Type 1} → statement M
 slew_profile_torque_vec_spec = tie.close (tie.spec (λ c κs. search rules) (λ c κs. search rules) returns)

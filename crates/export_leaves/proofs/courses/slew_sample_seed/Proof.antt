@@ -5,8 +5,8 @@ use Rattle.export_leaves.proofs.courses.slew_sample_seed.Tie as tie
 
 returns : tie.Need-returns
 returns c = (
-  rw (c.before.before.sample_seed-s.ensures, c.before.before.before.profile_of.ensures),
-  rw (c.before.before.sample_seed-s.ensures, c.before.before.before.profile_of.ensures),
+  rw (c.sample_seed-s.ensures, c.profile_of.ensures),
+  rw (c.sample_seed-s.ensures, c.profile_of.ensures),
 )
 
 pub slew_sample_seed_spec : {M : Type 1} → statement M

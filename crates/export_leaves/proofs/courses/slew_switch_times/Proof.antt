@@ -4,7 +4,7 @@ use Rattle.export_leaves.proofs.courses.slew_switch_times.Statement.{statement}
 use Rattle.export_leaves.proofs.courses.slew_switch_times.Tie as tie
 
 returns : tie.Need-returns
-returns c = rw (c.before.before.before.switch_times.ensures, c.before.before.before.before.limit_of_law.ensures) at c.put_switches.ensures
+returns c = rw (c.switch_times.ensures, c.limit_of.ensures) at c.put_switches.ensures
 
 pub slew_switch_times_spec : {M : Type 1} → statement M
 slew_switch_times_spec = tie.close (tie.spec (λ c κs. search rules) (λ c κs. search rules) (λ c κs. search rules) returns)

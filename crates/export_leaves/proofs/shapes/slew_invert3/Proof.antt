@@ -4,7 +4,7 @@ use Rattle.export_leaves.proofs.shapes.slew_invert3.Statement.{statement}
 use Rattle.export_leaves.proofs.shapes.slew_invert3.Tie as tie
 
 returns : tie.Need-returns
-returns c = rw (c.before.before.invert3.ensures, c.before.before.before.tensor.ensures) at c.put_inverse.ensures
+returns c = rw (c.invert3.ensures, c.tensor.ensures) at c.put_inverse.ensures
 
 pub slew_invert3_spec : {M : Type 1} → statement M
 slew_invert3_spec = tie.close (tie.spec (λ c κs. search rules) (λ c κs. search rules) (λ c κs. search rules) returns)

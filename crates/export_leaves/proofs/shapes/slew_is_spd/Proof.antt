@@ -4,7 +4,7 @@ use Rattle.export_leaves.proofs.shapes.slew_is_spd.Statement.{statement}
 use Rattle.export_leaves.proofs.shapes.slew_is_spd.Tie as tie
 
 returns : tie.Need-returns
-returns c = rw (c.is_spd.ensures, c.before.tensor.ensures)
+returns c = rw (c.is_spd.ensures, c.tensor.ensures)
 
 pub slew_is_spd_spec : {M : Type 1} → statement M
 slew_is_spd_spec = tie.close (tie.spec (λ c κs. search rules) (λ c κs. search rules) returns)

@@ -4,7 +4,7 @@ use Rattle.export_leaves.proofs.shapes.slew_quat_dot.Statement.{statement}
 use Rattle.export_leaves.proofs.shapes.slew_quat_dot.Tie as tie
 
 returns : tie.Need-returns
-returns c = rw (c.dot.ensures, c.before.quat-2.ensures, c.before.before.quat.ensures)
+returns c = rw (c.dot.ensures, c.quat-2.ensures, c.quat.ensures)
 
 pub slew_quat_dot_spec : {M : Type 1} → statement M
 slew_quat_dot_spec = tie.close (tie.spec (λ c κs. search rules) (λ c κs. search rules) (λ c κs. search rules) returns)

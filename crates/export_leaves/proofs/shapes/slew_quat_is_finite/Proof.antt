@@ -4,7 +4,7 @@ use Rattle.export_leaves.proofs.shapes.slew_quat_is_finite.Statement.{statement}
 use Rattle.export_leaves.proofs.shapes.slew_quat_is_finite.Tie as tie
 
 returns : tie.Need-returns
-returns c = rw (c.is_finite.ensures, c.before.quat.ensures)
+returns c = rw (c.is_finite.ensures, c.quat.ensures)
 
 pub slew_quat_is_finite_spec : {M : Type 1} → statement M
 slew_quat_is_finite_spec = tie.close (tie.spec (λ c κs. search rules) (λ c κs. search rules) returns)

@@ -4,7 +4,7 @@ use Rattle.export_leaves.proofs.shapes.slew_quat_mul.Statement.{statement}
 use Rattle.export_leaves.proofs.shapes.slew_quat_mul.Tie as tie
 
 returns : tie.Need-returns
-returns c = rw (c.four.ensures, c.before.mul.ensures, c.before.before.quat-2.ensures, c.before.before.before.quat.ensures)
+returns c = rw (c.four.ensures, c.mul.ensures, c.quat-2.ensures, c.quat.ensures)
 
 pub slew_quat_mul_spec : {M : Type 1} → statement M
 slew_quat_mul_spec =

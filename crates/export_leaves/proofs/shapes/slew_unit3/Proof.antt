@@ -4,7 +4,7 @@ use Rattle.export_leaves.proofs.shapes.slew_unit3.Statement.{statement}
 use Rattle.export_leaves.proofs.shapes.slew_unit3.Tie as tie
 
 returns : tie.Need-returns
-returns c = rw c.before.before.unit3.ensures at c.put_axis.ensures
+returns c = rw c.unit3.ensures at c.put_axis.ensures
 
 pub slew_unit3_spec : {M : Type 1} → statement M
 slew_unit3_spec = tie.close (tie.spec (λ c κs. search rules) (λ c κs. search rules) returns)

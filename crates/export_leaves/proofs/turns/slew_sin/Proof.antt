@@ -4,7 +4,7 @@ use Rattle.export_leaves.proofs.turns.slew_sin.Statement.{statement}
 use Rattle.export_leaves.proofs.turns.slew_sin.Tie as tie
 
 returns : tie.Need-returns
-returns c = rw c.before.before.sin.ensures at c.put_angle.ensures
+returns c = rw c.sin.ensures at c.put_angle.ensures
 
 pub slew_sin_spec : {M : Type 1} → statement M
 slew_sin_spec = tie.close (tie.spec (λ c κs. search rules) (λ c κs. search rules) returns)

@@ -20,23 +20,23 @@ loop-holds : tie.Need-loop-k-init invariant_loop decreases_loop
 loop-holds c = (omega arith, (refl, iter_none _ _))
 
 row-of-requires : tie.Need-row_of-row-requires invariant_loop decreases_loop
-row-of-requires c κs = (c.before.before.requires.0, (omega (arith, c.before.before.requires.1.0, c.before.before.requires.1.1.0), c.before.before.requires.1.0))
+row-of-requires c κs = (c.requires.0, (omega (arith, c.requires.1.0, c.requires.1.1.0), c.requires.1.0))
 
 mul-row : tie.Need-offset_bounds-out-k invariant_loop decreases_loop
-mul-row c = omega (arith, c.before.before.before.requires.1.0, c.before.before.before.requires.1.1.0)
+mul-row c = omega (arith, c.requires.1.0, c.requires.1.1.0)
 
 slice-set-from-row : tie.Need-bounds-out-k invariant_loop decreases_loop
-slice-set-from-row c = omega (arith, c.before.before.loop-k.invariant.1.0, c.before.before.before.requires.1.1.1)
+slice-set-from-row c = omega (arith, c.loop-k.invariant.1.0, c.requires.1.1.1)
 
 loop-again : tie.Need-loop-k-preserved invariant_loop decreases_loop
-loop-again c = (omega arith, (length-set c.before.before.loop-k.out c.before.before.loop-k.k c.row_of-row.result ∙ c.before.before.loop-k.invariant.1.0, iter_next _ _ c.before.before.loop-k.k c.before.before.loop-k.invariant.1.1 (ap (set c.before.before.loop-k.out c.before.before.loop-k.k) c.row_of-row.ensures)))
+loop-again c = (omega arith, (length-set c.loop-k.out c.loop-k.k c.row_of-row.result ∙ c.loop-k.invariant.1.0, iter_next _ _ c.loop-k.k c.loop-k.invariant.1.1 (ap (set c.loop-k.out c.loop-k.k) c.row_of-row.ensures)))
 
 same_length : tie.Need-shape_of-out invariant_loop decreases_loop
-same_length c = c.before.loop-k.invariant.1.0
+same_length c = c.loop-k.invariant.1.0
 
 returns : tie.Need-returns invariant_loop decreases_loop
 unfolding Rows.written
-returns c = let e : c.before.loop-k.k ≡ c.before.before.args.n = omega arith in rw (← e) c.before.loop-k.invariant.1.1
+returns c = let e : c.loop-k.k ≡ c.args.n = omega arith in rw (← e) c.loop-k.invariant.1.1
 
 pub put_rows_spec : {M : Type 1} → statement M
 put_rows_spec =

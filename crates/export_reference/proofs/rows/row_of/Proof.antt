@@ -7,7 +7,7 @@ use Rattle.export_reference.specs.Rows as Rows
 
 returns : tie.Need-returns
 unfolding Rows.row
-returns c = rw (c.numbers.ensures, c.before.before.before.before.fraction.ensures, c.before.before.sample_of.ensures, c.before.step_controls.ensures)
+returns c = rw (c.numbers.ensures, c.fraction.ensures, c.sample_of.ensures, c.step_controls.ensures)
 
 pub row_of_spec : {M : Type 1} → statement M
 row_of_spec = tie.close (tie.spec (λ c κs. search rules) (λ c κs. search rules) (λ c κs. search rules) (λ c κs. search rules) returns)

@@ -8,7 +8,7 @@ use Rattle.export_reference.specs.RowLaws.{controls_step, controls_last}
 
 returns : tie.Need-returns-then-k-steps
 unfolding Checks.controls_of
-returns c = rw (c.controls.ensures, c.before.before.before.sample_of-next.ensures, c.before.before.before.before.sample_of-first.ensures) (controls_step _ _ c.before.before.before.before.before.if-k-steps.true)
+returns c = rw (c.controls.ensures, c.sample_of-next.ensures, c.sample_of-first.ensures) (controls_step _ _ c.if-k-steps.true)
 
 returns_2 : tie.Need-returns-else-k-steps
 returns_2 c = controls_last _ _ c.if-k-steps.false

@@ -7,8 +7,8 @@ use Rattle.export_runs.proofs.paths.slew_reconstruct.Tie as tie
 returns : tie.Need-returns
 returns c =
     let made = c.before.before.before.before.before in
-    let is = rw made.before.before.problem_of_law.ensures at made.reconstruct-made.ensures in
-    rw (← is) (run_told made.reconstruct-made.result c.before.before.place_of.ensures c.number_of_lem.ensures c.before.rows.ensures)
+    let is = rw made.problem_of-p.ensures at made.reconstruct-made.ensures in
+    rw (← is) (run_told made.reconstruct-made.result c.place_of.ensures c.number_of_lem.ensures c.rows.ensures)
 
 pub slew_reconstruct_spec : {M : Type 1} → statement M
 slew_reconstruct_spec =

@@ -6,11 +6,11 @@ use Rattle.export_runs.proofs.rigs.put_projected.Tie as tie
 
 returns : tie.Need-returns-in-Going
 returns c =
-    rw c.before.before.before.before.enum_told-1.given.1
-    (record { number_is = refl; place_is = refl; value_is = c.before.before.project_controls.ensures })
+    rw c.in-Going.is
+    (record { number_is = refl; place_is = refl; value_is = c.project_controls.ensures })
 
 returns_2 : tie.Need-returns-in-Refused
-returns_2 c = rw c.before.fate-1.given.1 (record { number_is = refl; place_is = refl; value_is = refl })
+returns_2 c = rw c.in-Refused.is (record { number_is = refl; place_is = refl; value_is = refl })
 
 pub put_projected_spec : {M : Type 1} → statement M
 put_projected_spec =

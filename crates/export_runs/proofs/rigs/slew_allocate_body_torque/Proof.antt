@@ -8,9 +8,9 @@ returns : tie.Need-returns
 returns c =
     let first = c.before.before.before in
     let made = first.before.before in
-    let prepared = made.before.before.before.prepared_of-prepared in
+    let prepared = made.prepared_of-prepared in
     let x = made.allocate_body_torque-row.result in
-    let told = rw (first.first_refusal.ensures, first_refused x.u-1 prepared.result.fate x.fate) at c.put_row_law.ensures in
+    let told = rw (first.first_refusal.ensures, first_refused x.u-1 prepared.result.fate x.fate) at c.put_row.ensures in
     rw (made.allocate_body_torque-row.ensures, prepared.ensures) at told
 
 pub slew_allocate_body_torque_spec : {M : Type 1} → statement M

@@ -8,7 +8,7 @@ returns : tie.Need-returns
 returns c =
     let first = c.before.before.before in
     let made = first.before.before in
-    let prepared = made.before.before.before.before.before.prepared_of-prepared in
+    let prepared = made.prepared_of-prepared in
     let x = made.body_torque-t.result in
     let told = rw (first.first_refusal.ensures, first_refused x.tau-1 prepared.result.fate x.fate) at c.put_three.ensures in
     rw (made.body_torque-t.ensures, prepared.ensures) at told

@@ -8,7 +8,7 @@ returns : tie.Need-returns
 returns c =
     let made = c.before.before.before.before.before in
     let is = made.prepared_of-prepared.ensures in
-    let told = placed (of_fate_law made.prepared_of-prepared.result.map-1 made.prepared_of-prepared.result.fate) c.before.place_of.ensures c.number_of_lem.ensures in
+    let told = placed (of_fate_law made.prepared_of-prepared.result.map-1 made.prepared_of-prepared.result.fate) c.place_of.ensures c.number_of_lem.ensures in
     (rw is at told, (rw is, rw is))
 
 pub slew_prepare_spec : {M : Type 1} → statement M

@@ -13,32 +13,32 @@ returns c = record { answer = rw (lt-ltb 193 _ c.if-n-gt193.true); left = rw (lt
 
 returns_2 : tie.Need-returns-then-m-gt193
 returns_2 c = record {
-  answer = rw (le-ltb 193 _ c.before.if-n-gt193.false, lt-ltb 193 _ c.if-m-gt193.true);
-  left = rw (le-ltb 193 _ c.before.if-n-gt193.false, lt-ltb 193 _ c.if-m-gt193.true) (refl, refl);
+  answer = rw (le-ltb 193 _ c.if-n-gt193.false, lt-ltb 193 _ c.if-m-gt193.true);
+  left = rw (le-ltb 193 _ c.if-n-gt193.false, lt-ltb 193 _ c.if-m-gt193.true) (refl, refl);
 }
 
 returns_3 : tie.Need-returns-then-r-m
 returns_3 c = record {
-  answer = rw (le-ltb 193 _ c.before.before.if-n-gt193.false, le-ltb 193 _ c.before.if-m-gt193.false, lt-ltb _ _ c.if-r-m.true);
-  left = rw (le-ltb 193 _ c.before.before.if-n-gt193.false, le-ltb 193 _ c.before.if-m-gt193.false, lt-ltb _ _ c.if-r-m.true) (refl, refl);
+  answer = rw (le-ltb 193 _ c.if-n-gt193.false, le-ltb 193 _ c.if-m-gt193.false, lt-ltb _ _ c.if-r-m.true);
+  left = rw (le-ltb 193 _ c.if-n-gt193.false, le-ltb 193 _ c.if-m-gt193.false, lt-ltb _ _ c.if-r-m.true) (refl, refl);
 }
 
 -- at most 193 rows of at most 193
 mul-if4 : tie.Need-overflow_mul-n
-mul-if4 c = let few = c.before in omega (arith, mul-le-mul few.before.if-n-gt193.false few.if-m-gt193.false)
+mul-if4 c = let few = c.before in omega (arith, mul-le-mul few.if-n-gt193.false few.if-m-gt193.false)
 
 mul-if4-2 : tie.Need-overflow_mul-n-2
-mul-if4-2 c = let n = c.before.before.if-n-gt193.false in omega (arith, mul-le-mul n n)
+mul-if4-2 c = let n = c.if-n-gt193.false in omega (arith, mul-le-mul n n)
 
 add-if4 : tie.Need-overflow_add-n
-add-if4 c = let few = c.before in let n = few.before.if-n-gt193.false in omega (arith, mul-le-mul n few.if-m-gt193.false, mul-le-mul n n)
+add-if4 c = let few = c.before in let n = few.if-n-gt193.false in omega (arith, mul-le-mul n few.if-m-gt193.false, mul-le-mul n n)
 
 returns-4 : tie.Need-returns-then-v-n
 returns-4 c =
     let few = c.before.before in
     record {
-      answer = rw (le-ltb 193 _ few.before.if-n-gt193.false, le-ltb 193 _ few.if-m-gt193.false, le-ltb _ _ c.before.if-r-m.false, ne_eqb _ _ c.if-v-n.true);
-      left = rw (le-ltb 193 _ few.before.if-n-gt193.false, le-ltb 193 _ few.if-m-gt193.false, le-ltb _ _ c.before.if-r-m.false, ne_eqb _ _ c.if-v-n.true) (refl, refl);
+      answer = rw (le-ltb 193 _ few.if-n-gt193.false, le-ltb 193 _ few.if-m-gt193.false, le-ltb _ _ c.if-r-m.false, ne_eqb _ _ c.if-v-n.true);
+      left = rw (le-ltb 193 _ few.if-n-gt193.false, le-ltb 193 _ few.if-m-gt193.false, le-ltb _ _ c.if-r-m.false, ne_eqb _ _ c.if-v-n.true) (refl, refl);
     }
 
 returns-5 : tie.Need-returns
@@ -49,8 +49,8 @@ returns-5 c =
     let few = enough.before in
     let done = stepped.damped_step.ensures in
     record {
-      answer = rw (le-ltb 193 _ few.before.if-n-gt193.false, le-ltb 193 _ few.if-m-gt193.false, le-ltb _ _ enough.if-r-m.false, eq-eqb _ _ fits.if-v-n.false) (told_step done);
-      left = rw (le-ltb 193 _ few.before.if-n-gt193.false, le-ltb 193 _ few.if-m-gt193.false, le-ltb _ _ enough.if-r-m.false, eq-eqb _ _ fits.if-v-n.false) done;
+      answer = rw (le-ltb 193 _ few.if-n-gt193.false, le-ltb 193 _ few.if-m-gt193.false, le-ltb _ _ enough.if-r-m.false, eq-eqb _ _ fits.if-v-n.false) (told_step done);
+      left = rw (le-ltb 193 _ few.if-n-gt193.false, le-ltb 193 _ few.if-m-gt193.false, le-ltb _ _ enough.if-r-m.false, eq-eqb _ _ fits.if-v-n.false) done;
     }
 
 pub slew_damped_step_spec : {M : Type 1} → statement M

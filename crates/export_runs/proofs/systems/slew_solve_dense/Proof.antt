@@ -19,8 +19,8 @@ mul-if2 c = omega (arith, mul-le-mul c.if-n-gt193.false c.if-n-gt193.false)
 
 returns_2 : tie.Need-returns-then-a-n
 returns_2 c = record {
-  answer = rw (le-ltb 193 _ c.before.if-n-gt193.false, ne_eqb _ _ c.if-a-n.true);
-  left = rw (le-ltb 193 _ c.before.if-n-gt193.false, ne_eqb _ _ c.if-a-n.true) (refl, refl);
+  answer = rw (le-ltb 193 _ c.if-n-gt193.false, ne_eqb _ _ c.if-a-n.true);
+  left = rw (le-ltb 193 _ c.if-n-gt193.false, ne_eqb _ _ c.if-a-n.true) (refl, refl);
 }
 
 returns_3 : tie.Need-returns
@@ -32,8 +32,8 @@ returns_3 c =
     let t = solved.solve_dense in
     let answer = solved_told n _ _ t.result (rows n n t.new.0) t.new.1.0 t.ensures in
     record {
-      answer = rw (le-ltb 193 _ fits.before.if-n-gt193.false, eq-eqb _ _ fits.if-a-n.false) answer;
-      left = rw (le-ltb 193 _ fits.before.if-n-gt193.false, eq-eqb _ _ fits.if-a-n.false) t.ensures;
+      answer = rw (le-ltb 193 _ fits.if-n-gt193.false, eq-eqb _ _ fits.if-a-n.false) answer;
+      left = rw (le-ltb 193 _ fits.if-n-gt193.false, eq-eqb _ _ fits.if-a-n.false) t.ensures;
     }
 
 pub slew_solve_dense_spec : {M : Type 1} → statement M

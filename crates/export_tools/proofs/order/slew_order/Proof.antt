@@ -16,7 +16,7 @@ returns c =
     record {
       number_is = rw (c.number_of_lem.ensures, is);
       order_is = rw is;
-      numbers_are = rw (c.before.before.flag-exhausted.ensures, is);
+      numbers_are = rw (c.flag-exhausted.ensures, is);
       promised = λ e. order_promised _ _ _ (rw (c.number_of_lem.ensures, is) at e);
     }
 

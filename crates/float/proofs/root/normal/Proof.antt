@@ -7,15 +7,15 @@ use Rattle.float.proofs.root.normal.Tie as tie
 
 returns : tie.Need-returns-then-b-lt4503599627370496
 returns c =
-    let b = c.before.before.args.b in
+    let b = c.args.b in
     let s = c.norm_shift-s.result in
     let h = c.norm_shift-s.ensures in
     subst (λ (m : ℕ). (units_of b * 2 ^ 1074 ≡ radicand ((52 - s) % 2 * 2 ^ 52 + m % 2 ^ 52) * 2 ^ 52 * (2 ^ ((52 - s) / 2 + 485) * 2 ^ ((52 - s) / 2 + 485))) × ((52 - s) % 2 * 2 ^ 52 + m % 2 ^ 52 < 2 ^ 53) × ((52 - s) / 2 + 485 < 2046)) (sym (mod-eq_of_lt (lt_of_lt_of_le h.1 (lit≤ tt))))
-    (squared b (b * 2 ^ s) (52 - s) _ _ (small_units b s c.before.if-b-lt4503599627370496.true h.2) h.0 h.1 refl refl, omega arith, omega arith)
+    (squared b (b * 2 ^ s) (52 - s) _ _ (small_units b s c.if-b-lt4503599627370496.true h.2) h.0 h.1 refl refl, omega arith, omega arith)
 
 returns_2 : tie.Need-returns-else-b-lt4503599627370496
 returns_2 c =
-    let h = large_squared c.before.args.b c.if-b-lt4503599627370496.false c.before.requires.1 in
+    let h = large_squared c.args.b c.if-b-lt4503599627370496.false c.requires.1 in
     (h.0, omega arith, h.1)
 
 pub normal_spec : {M : Type 1} → statement M

@@ -5,12 +5,12 @@ use Rattle.float.proofs.root.rest.Statement.{statement}
 use Rattle.float.proofs.root.rest.Tie as tie
 
 raised-requires-2 : tie.Need-raised-q-requires
-raised-requires-2 c κs = square_small _ _ _ c.before.before.before.requires.1 c.before.product-p.ensures
+raised-requires-2 c κs = square_small _ _ _ c.requires.1 c.product-p.ensures
 
 returns : tie.Need-returns-then-q-n
 returns c t =
     let w = c.before.before.before.before in
-    (rest_law _ _ _ _ _ _ _ _ _ _ (omega arith) w.before.before.raised-n.ensures.0 w.before.product-p.ensures w.wrapping_sub_u64-d.ensures c.before.before.before.raised-q.ensures.0 c.before.before.before.raised-q.ensures.1 c.if-q-n.true, ltb→lt _ _ (subst T (sym t) tt))
+    (rest_law _ _ _ _ _ _ _ _ _ _ (omega arith) w.raised-n.ensures.0 w.product-p.ensures w.wrapping_sub_u64-d.ensures c.raised-q.ensures.0 c.raised-q.ensures.1 c.if-q-n.true, ltb→lt _ _ (subst T (sym t) tt))
 
 returns_2 : tie.Need-returns-else-q-n
 returns_2 c t = absurd (subst T (sym t) tt)

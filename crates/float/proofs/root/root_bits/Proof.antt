@@ -7,7 +7,7 @@ use Rattle.float.proofs.root.root_bits.Tie as tie
 returns : tie.Need-returns
 returns c =
     let start = c.before.before.before in
-    let n = c.before.before.normal-n in
+    let n = c.normal-n in
     let r = c.root_digits.ensures in
     (root_bits_law start.args.b n.result.g n.result.k c.root_digits.result start.requires.0 start.requires.1 n.ensures.0 n.ensures.1 n.ensures.2 r.0 r.1 r.2, omega arith)
 

@@ -6,28 +6,28 @@ use Rattle.float.proofs.root.root_digits.Tie as tie
 
 rest-requires : tie.Need-rest-w-requires
 rest-requires c κs =
-    let w = radicand_range c.before.before.args.g c.before.before.requires in
-    (c.before.guess-s.ensures.0, c.before.guess-s.ensures.1, rw c.argument-e.ensures (omega arith))
+    let w = radicand_range c.args.g c.requires in
+    (c.guess-s.ensures.0, c.guess-s.ensures.1, rw c.argument-e.ensures (omega arith))
 
 settled-requires : tie.Need-settled-requires
 settled-requires c κs =
-    let s = c.before.before.before.guess-s.ensures in
-    (s.0, s.1, (c.before.rest-w.ensures c.if-w.true).1)
+    let s = c.guess-s.ensures in
+    (s.0, s.1, (c.rest-w.ensures c.if-w.true).1)
 
 slow-root-requires : tie.Need-slow_root-requires
 slow-root-requires c κs =
     let entry = c.before.before.before.before in
-    rw c.before.before.argument-e.ensures (radicand_range _ entry.requires)
+    rw c.argument-e.ensures (radicand_range _ entry.requires)
 
 returns : tie.Need-returns-then-w
 returns c =
     let entry = c.before.before.before.before.before in
-    digits_range _ _ entry.requires (rw c.before.before.before.argument-e.ensures at (c.settled.ensures _ (c.before.before.rest-w.ensures c.before.if-w.true).0))
+    digits_range _ _ entry.requires (rw c.argument-e.ensures at (c.settled.ensures _ (c.rest-w.ensures c.if-w.true).0))
 
 returns_2 : tie.Need-returns-else-w
 returns_2 c =
     let entry = c.before.before.before.before.before in
-    digits_range _ _ entry.requires (rw c.before.before.before.argument-e.ensures at c.slow_root.ensures)
+    digits_range _ _ entry.requires (rw c.argument-e.ensures at c.slow_root.ensures)
 
 pub root_digits_spec : {M : Type 1} → statement M
 root_digits_spec =

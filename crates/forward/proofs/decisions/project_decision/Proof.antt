@@ -8,7 +8,7 @@ use Rattle.forward.proofs.decisions.project_decision.Tie as tie
 
 returns : tie.Need-returns
 unfolding Decisions.project_decision Ieee.of_bits
-returns c = rw (c.project_rows.ensures, c.before.clamp.ensures)
+returns c = rw (c.project_rows.ensures, c.clamp.ensures)
 
 pub project_decision_spec : {M : Type 1} → statement M
 project_decision_spec =

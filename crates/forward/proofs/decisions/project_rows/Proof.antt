@@ -21,32 +21,32 @@ loop-holds : tie.Need-loop-k-init invariant_loop decreases_loop
 loop-holds c = (search rules, (omega arith, iter_none _ _))
 
 mul_at : tie.Need-overflow_mul-at invariant_loop decreases_loop
-mul_at c = omega (arith, row_end c.before.loop-k.k 16 c.before.before.args.n (search rules), c.before.before.requires.1)
+mul_at c = omega (arith, row_end c.loop-k.k 16 c.args.n (search rules), c.requires.1)
 
 add_at : tie.Need-overflow_add-at invariant_loop decreases_loop
-add_at c = omega (arith, row_end c.before.loop-k.k 16 c.before.before.args.n (search rules), c.before.before.requires.1)
+add_at c = omega (arith, row_end c.loop-k.k 16 c.args.n (search rules), c.requires.1)
 
 add-end : tie.Need-overflow_add-end invariant_loop decreases_loop
-add-end c = omega (arith, row_end c.before.loop-k.k 16 c.before.before.args.n (search rules), c.before.before.requires.1)
+add-end c = omega (arith, row_end c.loop-k.k 16 c.args.n (search rules), c.requires.1)
 
 mul-out : tie.Need-offset_bounds-out-at invariant_loop decreases_loop
-mul-out c = omega (arith, row_end c.before.loop-k.k 16 c.before.before.args.n (search rules), c.before.before.requires.1)
+mul-out c = omega (arith, row_end c.loop-k.k 16 c.args.n (search rules), c.requires.1)
 
 part-out-end : tie.Need-slice_bounds-out-end invariant_loop decreases_loop
-part-out-end c = omega (arith, row_end c.before.loop-k.k 16 c.before.before.args.n (search rules), c.before.before.requires.1)
+part-out-end c = omega (arith, row_end c.loop-k.k 16 c.args.n (search rules), c.requires.1)
 
 loop-again : tie.Need-loop-k-preserved invariant_loop decreases_loop
 loop-again c =
     let entry = c.before.before.before.before.before in
     let d = entry.args.n in
     let h = entry.requires.1 in
-    let l = c.before.before.before.before.loop-k in
-    let f = c.before.project_controls in
+    let l = c.loop-k in
+    let f = c.project_controls in
     let r = row_end l.k 16 d (omega arith) in
     (search rules, (length_pasted l.out-1 f.new.1.0 (1 + l.k * d) (1 + l.k * d + d) (omega arith) (omega arith) f.auto.1.0 ∙ l.invariant.1.0, iter_next _ _ _ l.invariant.1.1 (rw (← entry.requires.0, f.ensures))))
 
 returns : tie.Need-returns invariant_loop decreases_loop
-returns c = let e : c.before.loop-k.k ≡ 16 = omega arith in rw (← e) c.before.loop-k.invariant.1.1
+returns c = let e : c.loop-k.k ≡ 16 = omega arith in rw (← e) c.loop-k.invariant.1.1
 
 pub project_rows_spec : {M : Type 1} → statement M
 project_rows_spec =

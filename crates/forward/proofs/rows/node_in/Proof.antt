@@ -6,7 +6,7 @@ use Rattle.forward.proofs.rows.node_in.Tie as tie
 
 returns : tie.Need-returns
 unfolding Rows.node_from
-returns c = rw (c.momenta_in-hw.ensures, c.before.torque_in-tau.ensures, c.before.before.rate_in-w.ensures, c.before.before.before.attitude_in-q.ensures)
+returns c = rw (c.momenta_in-hw.ensures, c.torque_in-tau.ensures, c.rate_in-w.ensures, c.attitude_in-q.ensures)
 
 pub node_in_spec : {M : Type 1} → statement M
 node_in_spec =

@@ -24,7 +24,7 @@ loop-holds c = ((omega arith, omega arith), (search rules, λ i h. let e : i ≡
 loop-again : tie.Need-loop-k-preserved invariant_loop decreases_loop
 loop-again c =
     let entry = c.before.before.before.before.before.before in
-    let l = c.before.before.before.loop-k in
+    let l = c.loop-k in
     let rows = entry.args.rows.now in (
       (omega arith, omega arith),
       (
@@ -38,7 +38,7 @@ loop-again c =
 returns : tie.Need-returns invariant_loop decreases_loop
 returns c =
     let entry = c.before.before.before.before in
-    let l = c.before.loop-k in
+    let l = c.loop-k in
     let rows = entry.args.rows.now in
     let long : length rows ≡ 17 = entry.requires in
     ext_get_or no_node l.nodes (nodes_from rows) (l.invariant.1.0 ∙ sym (nodes_length rows ∙ long))

@@ -7,13 +7,13 @@ use Rattle.forward.proofs.runs.next_dynamics.Statement.{statement}
 use Rattle.forward.proofs.runs.next_dynamics.Tie as tie
 
 mul_at : tie.Need-overflow_mul-at
-mul_at c = omega (arith, row_end c.before.before.before.args.i 16 c.before.before.before.args.n (omega (arith, c.before.before.before.requires.1.1.0)), c.before.before.before.requires.1.0.0)
+mul_at c = omega (arith, row_end c.args.i 16 c.args.n (omega (arith, c.requires.1.1.0)), c.requires.1.0.0)
 
 add_at : tie.Need-overflow_add-at
-add_at c = omega (arith, row_end c.before.before.before.args.i 16 c.before.before.before.args.n (omega (arith, c.before.before.before.requires.1.1.0)), c.before.before.before.requires.1.0.0)
+add_at c = omega (arith, row_end c.args.i 16 c.args.n (omega (arith, c.requires.1.1.0)), c.requires.1.0.0)
 
 add-past : tie.Need-overflow_add-past
-add-past c = omega (arith, row_end c.before.before.before.args.i 16 c.before.before.before.args.n (omega (arith, c.before.before.before.requires.1.1.0)), c.before.before.before.requires.1.0.0)
+add-past c = omega (arith, row_end c.args.i 16 c.args.n (omega (arith, c.requires.1.1.0)), c.requires.1.0.0)
 
 mul-dynamics : tie.Need-offset_bounds-z-at
 mul-dynamics c =

@@ -21,29 +21,29 @@ start-requires c κs =
 run-on-requires : tie.Need-run_on-requires
 unfolding Runs.start-from Ieee.of_bits
 run-on-requires c κs =
-    let u = c.before.before.before.before in
+    let u = c.before.before.before in
     let l = u.before.before.before in
     let s = l.before in
     let start = s.before.before.before.before.before in
     let pre = start.requires in
-    let made = start_goes _ l.start_gimbals-l.ensures c.before.before.enum_told-in-Going-1.given.1 in
+    let made = start_goes _ l.start_gimbals-l.ensures c.in-Going.is in
     (record { sized = pre.0; narrow = pre.1.0; angles = (made.0, none_known start.args.p.map.cmgs); sound = rw (u.unbegun-c.ensures, s.start-from.ensures) (record { matrix = made.1; plus = tt }) }, omega arith)
 
 returns : tie.Need-returns-in-Refused
 unfolding told Runs.run_under Runs.start-from
 returns c =
-    let entry = c.before.before.before.before.before.before.before.before.before.before.before in
-    let start-gimbals = c.before.before.before.before.before.start_gimbals-l in
-    (start_refused _ _ _ _ refl start-gimbals.ensures c.enum_told-1.given.1, entry.requires.1.1)
+    let entry = c.before.before.before.before.before.before.before.before.before.before in
+    let start-gimbals = c.start_gimbals-l in
+    (start_refused _ _ _ _ refl start-gimbals.ensures c.in-Refused.is, entry.requires.1.1)
 
 returns_2 : tie.Need-returns-in-Going
 unfolding Runs.run_under Ieee.of_bits
 returns_2 c =
-    let u = c.before.before.before.before.before in
+    let u = c.before.before.before.before in
     let l = u.before.before.before in
     let s = l.before in
-    let nodes = s.before.before.before.before.before.args.nodes.now in
-    let long = s.before.before.before.before.before.requires.1.1 in
+    let nodes = s.args.nodes.now in
+    let long = s.requires.1.1 in
     let whole = c.run_on.ensures.whole s.start-from.result (rw u.unbegun-c.ensures (stands_first _ _ _ s.start-from.result l.start_gimbals-l.result.a-1 nodes long)) in
     (rw (whole, s.start-from.ensures), c.run_on.ensures.size ∙ long)
 

@@ -6,10 +6,10 @@ use Rattle.forward.proofs.runs.start_gimbals.Tie as tie
 
 returns : tie.Need-returns-in-Without
 unfolding GimbalStartInner.start_gimbals
-returns c = rw c.enum_told-1.given.1
+returns c = rw c.in-Without.is
 
 returns_2 : tie.Need-returns-in-With
-returns_2 c = rw c.before.before.c-1.given.1 c.start_pyramid.ensures
+returns_2 c = rw c.in-With.is c.start_pyramid.ensures
 
 pub start_gimbals_spec : {M : Type 1} → statement M
 start_gimbals_spec = tie.close (tie.spec (λ c. search rules) (λ c. search rules) (λ c κs. search rules) returns returns_2)

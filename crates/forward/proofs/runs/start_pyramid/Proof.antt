@@ -8,16 +8,16 @@ use Rattle.forward.proofs.runs.start_pyramid.Tie as tie
 
 returns : tie.Need-returns-in-Outside
 unfolding GimbalStartInner.start_gimbals
-returns c = rw (← c.before.before.sin_cos-pair.ensures, c.enum_told-1.given.1)
+returns c = rw (← c.sin_cos-pair.ensures, c.in-Outside.is)
 
 pyramid-known-requires : tie.Need-pyramid_known-m-requires
-pyramid-known-requires c κs = none_known (With c.before.before.before.before.before.args.p)
+pyramid-known-requires c κs = none_known (With c.args.p)
 
 returns_2 : tie.Need-returns-in-Are
 unfolding GimbalStartInner.start_gimbals
 returns_2 c =
     let pair = c.before.before.before.before in
-    rw (← pair.before.before.sin_cos-pair.ensures, pair.pair-1.given.1, c.before.pyramid_known-m.ensures)
+    rw (← pair.sin_cos-pair.ensures, pair.in-Are.is, c.pyramid_known-m.ensures)
 
 pub start_pyramid_spec : {M : Type 1} → statement M
 start_pyramid_spec =

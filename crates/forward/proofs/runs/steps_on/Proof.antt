@@ -32,7 +32,7 @@ decreases_loop r wheels powers thrusters f skew lut n z k end c nodes₀ dt s₀
 
 loop-holds : tie.Need-loop-i-init invariant_loop decreases_loop
 loop-holds c =
-    let pre = c.before.before.before.before.requires in
+    let pre = c.requires in
     let sound = pre.1.1.1.0 in (
       (omega arith, omega (arith, pre.1.1.1.1.0)),
       (
@@ -56,67 +56,67 @@ loop-holds c =
 
 next-dynamics-requires : tie.Need-next_dynamics-next-requires invariant_loop decreases_loop
 next-dynamics-requires c κs =
-    let pre = c.before.before.before.before.before.before.before.requires in
+    let pre = c.requires in
     (pre.0, ((pre.1.0, search rules), (pre.1.1.1.1.1, pre.1.1.0)))
 
 returns : tie.Need-returns-in-Refused invariant_loop decreases_loop
 returns c =
-    let j = c.before.before in
+    let j = c.before in
     let u = j.before.before.before in
     let x = u.before.before.before in
     let lp = x.before.before.before.before in
-    let inv = lp.before.loop-i.invariant in
+    let inv = lp.loop-i.invariant in
     let v = inv.1.1 in
-    let f = attitude_by_length _ _ _ j.before.attitude.ensures x.exp_at-turned.ensures (v.1.1.1 u.if-k-i.true) in
+    let f = attitude_by_length _ _ _ j.attitude.ensures x.exp_at-turned.ensures (v.1.1.1 u.if-k-i.true) in
     reached_refused _ _ _ _ _ _ _ _ _ u.if-k-i.true lp.loop-i-test.true v.0
-    (refused_turn _ _ _ _ _ _ _ (pipelined_step _ _ _ _ _ _ v.1.1.0 u.if-k-i.true lp.loop-i-test.true f j.join-g.ensures) c.enum_told-1.given.1) c.enum_told-1.given.1 inv.1.0.0 inv.1.0.1
+    (refused_turn _ _ _ _ _ _ _ (pipelined_step _ _ _ _ _ _ v.1.1.0 u.if-k-i.true lp.loop-i-test.true f j.join-g.ensures) c.in-Refused.is) c.in-Refused.is inv.1.0.0 inv.1.0.1
 
 node-row-requires : tie.Need-node_row-row-requires invariant_loop decreases_loop
 node-row-requires c κs =
-    let entry = c.before.before.before.before.before.before.before.before.before.before.before.before.before.before.before.before.before.before.before.before in
-    let loop-test = c.before.before.before.before.before.before.before.before.before.before.before.before.before.before.loop-i-test in
+    let entry = c.before.before.before.before.before.before.before.before.before.before.before.before.before.before.before.before.before.before.before in
+    let loop-test = c.loop-i-test in
     omega (arith, loop-test.true, entry.requires.1.1.1.1.1)
 
 mul-row : tie.Need-offset_bounds-nodes-j invariant_loop decreases_loop
 mul-row c =
-    let entry = c.before.before.before.before.before.before.before.before.before.before.before.before.before.before.before.before.before.before.before.before.before in
-    let loop-test = c.before.before.before.before.before.before.before.before.before.before.before.before.before.before.before.loop-i-test in
+    let entry = c.before.before.before.before.before.before.before.before.before.before.before.before.before.before.before.before.before.before.before.before in
+    let loop-test = c.loop-i-test in
     omega (arith, loop-test.true, entry.requires.1.1.1.1.1)
 
 element-set-from-row : tie.Need-bounds-nodes-j invariant_loop decreases_loop
 element-set-from-row c =
-    let entry = c.before.before.before.before.before.before.before.before.before.before.before.before.before.before.before.before.before.before.before.before.before in
-    let loop-test = c.before.before.before.before.before.before.before.before.before.before.before.before.before.before.before.loop-i-test in
+    let entry = c.before.before.before.before.before.before.before.before.before.before.before.before.before.before.before.before.before.before.before.before in
+    let loop-test = c.loop-i-test in
     omega (arith, loop-test.true, entry.requires.1.1.1.1.1)
 
 larger-square-requires : tie.Need-larger_square-square-requires invariant_loop decreases_loop
 larger-square-requires c κs =
-    let loop = c.before.before.before.before.before.before.before.before.before.before.before.before.before.before.before.before.loop-i in
+    let loop = c.loop-i in
     loop.invariant.1.1.1.0
 
 add-i : tie.Need-overflow_add-i invariant_loop decreases_loop
 add-i c =
     let entry = c.before.before.before.before.before.before.before.before.before.before.before.before.before in
-    let loop-test = c.before.before.before.before.before.before.before.loop-i-test in
+    let loop-test = c.loop-i-test in
     omega (arith, loop-test.true, entry.requires.1.1.1.1.1)
 
 loop-less : tie.Need-loop-i-smaller invariant_loop decreases_loop
 loop-less c =
-    let loop-test = c.before.before.before.before.before.before.before.loop-i-test in
+    let loop-test = c.loop-i-test in
     omega (arith, loop-test.true)
 
 loop-again : tie.Need-loop-i-preserved invariant_loop decreases_loop
 loop-again c =
-    let loop-test = c.before.before.before.before.before.before.before.loop-i-test in
-    let next-dynamics = c.before.before.before.before.before.next_dynamics-next in
-    let lp = c.before.before.before.before.before.before.before.before.loop-i in
+    let loop-test = c.loop-i-test in
+    let next-dynamics = c.next_dynamics-next in
+    let lp = c.loop-i in
     let start = c.before.before.before.before.before.before.before.before.before.before.before.before.before in
     let o = lp.invariant in
     let h = loop-test.true in
     let v = o.1.1 in
     let g = v.1.1.0 in
     let a = next-dynamics.ensures in
-    let e = c.before.before.before.exp_at-turned.ensures in
+    let e = c.exp_at-turned.ensures in
     ⊎_elim
     (λ w. rw (w.10, w.11, w.12, nodes_set) (
       (omega (arith, o.0), omega (arith, h)),
@@ -125,19 +125,19 @@ loop-again c =
         (
           rollout_next (Runs.rollout_turn _ _ _) _ _ _ w.0.taken v.0
               (one_turn _ _ _ _ _ _ _ (pipelined_step _ _ _ _ _ _ g w.0.taken h (attitude_by_length _ _ _ w.2.ensures e (v.1.1.1 w.0.taken)) w.3.ensures) w.8.ensures w.9.ensures.1 w.5.given.1),
-          (w.9.ensures.0, (pipelined_next _ _ _ _ _ _ g a w.0.taken h (attitude_by_length _ _ _ w.2.ensures e (v.1.1.1 w.0.taken)) w.3.ensures w.5.given.1, λ y. c.before.norm3-length.ensures)),
+          (w.9.ensures.0, (pipelined_next _ _ _ _ _ _ g a w.0.taken h (attitude_by_length _ _ _ w.2.ensures e (v.1.1.1 w.0.taken)) w.3.ensures w.5.given.1, λ y. c.norm3-length.ensures)),
         ),
       ),
     ))
-    (λ w. rw (w.1, w.2, w.3) ((omega (arith, o.0), omega (arith, h)), (o.1.0, (rollout_waits _ _ _ _ (omega (arith, o.0)) v.0, (v.1.0, (pipelined_first _ _ _ _ _ _ g a (omega (arith, o.0)), λ y. c.before.norm3-length.ensures))))))
+    (λ w. rw (w.1, w.2, w.3) ((omega (arith, o.0), omega (arith, h)), (o.1.0, (rollout_waits _ _ _ _ (omega (arith, o.0)) v.0, (v.1.0, (pipelined_first _ _ _ _ _ _ g a (omega (arith, o.0)), λ y. c.norm3-length.ensures))))))
     c.if-k-i.branch
 
 returns_2 : tie.Need-returns invariant_loop decreases_loop
 returns_2 c =
     let l = c.before.before in
     let v = l.loop-i.invariant in
-    let a = l.before.before.before.before.before.args in
-    let e : l.loop.i - a.k - 1 ≡ a.end - a.k = omega (arith, v.0) in
+    let a = l.args in
+    let e : l.loop-i.i - a.k - 1 ≡ a.end - a.k = omega (arith, v.0) in
     reached_going _ _ _ _ _ _ _ refl (rw e at v.1.1.0) (record { matrix = v.1.1.1.1.0.past (omega (arith, v.0)); plus = v.1.1.1.0 }) v.1.0.0 v.1.0.1
 
 pub steps_on_spec : {M : Type 1} → statement M

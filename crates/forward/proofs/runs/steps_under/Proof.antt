@@ -9,7 +9,7 @@ steps-on-requires : tie.Need-steps_on-requires
 steps-on-requires c κs =
     let g = c.before.before.before.before.before.before.before.before in
     let d = g.before in
-    let pre = d.before.before.before.requires in (
+    let pre = d.requires in (
       rw (g.rig_under-rig.ensures, d.control_dim-n.ensures) (dim_sized _ _ pre.0.sized),
       (rw d.control_dim-n.ensures pre.0.narrow, (rw g.rig_under-rig.ensures pre.0.angles, (rw g.rig_under-rig.ensures pre.0.sound, pre.1))),
     )
@@ -19,7 +19,7 @@ unfolding Ieee.of_bits
 returns c =
     let f = c.before.before.before.before in
     let g = f.before.before.before.before.before in
-    rw (← g.rig_under-rig.ensures, ← g.before.control_dim-n.ensures, ← f.frame_of-f.ensures) c.steps_on.ensures
+    rw (← g.rig_under-rig.ensures, ← g.control_dim-n.ensures, ← f.frame_of-f.ensures) c.steps_on.ensures
 
 pub steps_under_spec : {M : Type 1} → statement M
 steps_under_spec =

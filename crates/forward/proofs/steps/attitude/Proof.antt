@@ -5,18 +5,18 @@ use Rattle.forward.proofs.steps.attitude.Statement.{statement}
 use Rattle.forward.proofs.steps.attitude.Tie as tie
 
 returns : tie.Need-returns-in_default
-returns c = rw c.enum_told-1.given.1 refl
+returns c = rw c.in_default.is refl
 
 returns_2 : tie.Need-returns-in_default-normalized
 returns_2 c =
-    let turned = c.before.before.before.before.before.turned-1 in
-    rw (turned.given.1, ← c.before.before.before.mul.ensures, ← c.before.before.normalized.ensures, c.enum_told-in_default-normalized-1.given.1) refl
+    let turned = c.turned-1 in
+    rw (turned.given.1, ← c.mul.ensures, ← c.normalized.ensures, c.in_default-normalized.is) refl
 
 returns_3 : tie.Need-returns
 returns_3 c =
-    let turned = c.before.before.before.before.before.before.turned-1 in
-    let mul = c.before.before.before.before.mul in
-    rw (turned.given.1, ← mul.ensures, ← c.before.before.before.normalized.ensures, c.before.q2-1.given.1) refl
+    let turned = c.turned-1 in
+    let mul = c.mul in
+    rw (turned.given.1, ← mul.ensures, ← c.normalized.ensures, c.in-Is-normalized.is) refl
 
 pub attitude_spec : {M : Type 1} → statement M
 attitude_spec =

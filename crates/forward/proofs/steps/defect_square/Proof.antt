@@ -9,7 +9,7 @@ use Rattle.forward.proofs.steps.defect_square.Tie as tie
 
 returns : tie.Need-returns
 unfolding Steps.defect_of Quats.norm3
-returns c = rw (c.dot3.ensures, c.before.sub3-missed.ensures, c.before.before.euler_lhs.ensures, c.before.before.before.tensor.ensures)
+returns c = rw (c.dot3.ensures, c.sub3-missed.ensures, c.euler_lhs.ensures, c.tensor.ensures)
 
 pub defect_square_spec : {M : Type 1} → statement M
 defect_square_spec =

@@ -11,10 +11,10 @@ finish-dynamics-requires c κs =
 
 returns : tie.Need-returns
 returns c =
-    let row-torque = c.before.before.before.before.before.before.row_torque-tau in
-    let rate-dot = c.before.before.before.before.before.rate_dot-wd in
-    let rate-next = c.before.before.before.before.rate_next-w2 in
-    λ m. dynamics_finished _ _ _ _ _ (rw c.before.dynamics_at-l.ensures at c.finish_dynamics.ensures) m row-torque.ensures rate-dot.ensures rate-next.ensures c.before.before.before.defect_square-square.ensures c.before.before.turn_of_law.ensures
+    let row-torque = c.row_torque-tau in
+    let rate-dot = c.rate_dot-wd in
+    let rate-next = c.rate_next-w2 in
+    λ m. dynamics_finished _ _ _ _ _ (rw c.dynamics_at-l.ensures at c.finish_dynamics.ensures) m row-torque.ensures rate-dot.ensures rate-next.ensures c.defect_square-square.ensures c.turn_of-turn.ensures
 
 pub dynamics_spec : {M : Type 1} → statement M
 dynamics_spec =

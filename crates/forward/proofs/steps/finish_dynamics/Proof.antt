@@ -17,10 +17,10 @@ room : (s : tie.Start) → s.args.r.wheel_count ≤ length s.args.u.now
 room s = omega (arith, row_room _ _ s.requires.0)
 
 sub-step-gimbals : tie.Need-slice_bounds-step_gimbals-count
-sub-step-gimbals c = omega (arith, row_room _ _ c.before.before.before.before.requires.0)
+sub-step-gimbals c = omega (arith, row_room _ _ c.requires.0)
 
 part-step-gimbals-start : tie.Need-slice_bounds-step_gimbals-start
-part-step-gimbals-start c = omega (arith, row_room _ _ c.before.before.before.before.requires.0)
+part-step-gimbals-start c = omega (arith, row_room _ _ c.requires.0)
 
 step-gimbals-requires : tie.Need-step_gimbals-g-requires
 step-gimbals-requires c κs =
@@ -29,22 +29,22 @@ step-gimbals-requires c κs =
 
 returns : tie.Need-returns-in-Refused
 returns c =
-    let g = c.before.before.before.before in
-    finished_refused _ _ _ _ _ c.refuse_dynamics.ensures (λ q q2. ends_gimbals _ _ _ (with_attitude q (entry g).args.s) _ _ _ q2 g.step_gimbals-g.ensures c.before.before.fate-1.given.1)
+    let g = c.before.before in
+    finished_refused _ _ _ _ _ c.refuse_dynamics.ensures (λ q q2. ends_gimbals _ _ _ (with_attitude q (entry g).args.s) _ _ _ q2 g.step_gimbals-g.ensures c.in-Refused.is)
 
 part-power-dynamics-end : tie.Need-slice_bounds-power_dynamics-end
-part-power-dynamics-end c = room (entry c.before.before)
+part-power-dynamics-end c = room (entry c.before)
 
 power-dynamics-requires : tie.Need-power_dynamics-requires
 power-dynamics-requires c κs =
-    let s = entry c.before.before.before in
+    let s = entry c.before.before in
     wheel_room _ _ (room s) s.pre.0.wheels
 
 returns_2 : tie.Need-returns-in-Going
 returns_2 c =
     let told = c.before.before in
-    let g = told.before.before in
-    finished_powered _ _ _ _ _ g.step_gimbals-g.ensures told.enum_told-1.given.1 (wheel_row _ _ (room (entry g))) c.power_dynamics.ensures
+    let g = told.before in
+    finished_powered _ _ _ _ _ g.step_gimbals-g.ensures told.in-Going.is (wheel_row _ _ (room (entry g))) c.power_dynamics.ensures
 
 pub finish_dynamics_spec : {M : Type 1} → statement M
 finish_dynamics_spec =

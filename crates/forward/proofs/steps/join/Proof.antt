@@ -5,13 +5,13 @@ use Rattle.forward.proofs.steps.join.Statement.{statement}
 use Rattle.forward.proofs.steps.join.Tie as tie
 
 returns : tie.Need-returns-in-Outside
-returns c = rw (c.stop.ensures, c.before.enum_told-1.given.1) (rooted_stop _ _ _)
+returns c = rw (c.stop.ensures, c.in-Outside.is) (rooted_stop _ _ _)
 
 returns_2 : tie.Need-returns-in-Off
-returns_2 c = rw (c.stop-in-Off.ensures, c.before.enum_told-in-Off-1.given.1) (rooted_stop _ _ _)
+returns_2 c = rw (c.stop-in-Off.ensures, c.in-Off.is) (rooted_stop _ _ _)
 
 returns_3 : tie.Need-returns-in-Is
-returns_3 c = rw c.before.before.t-1.given.1 c.joined_at.ensures
+returns_3 c = rw c.in-Is.is c.joined_at.ensures
 
 pub join_spec : {M : Type 1} → statement M
 join_spec =

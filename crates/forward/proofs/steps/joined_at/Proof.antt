@@ -6,11 +6,11 @@ use Rattle.forward.proofs.steps.joined_at.Statement.{statement}
 use Rattle.forward.proofs.steps.joined_at.Tie as tie
 
 returns : tie.Need-returns-in-Refused
-returns c = rw (c.stop.ensures, c.before.before.fate-1.given.1) (rooted_stop _ _ _)
+returns c = rw (c.stop.ensures, c.in-Refused.is) (rooted_stop _ _ _)
 
 returns_2 : tie.Need-returns-in-Going
 returns_2 c =
-    let enum_told = c.before.before.before.before.before.before.enum_told-1 in
+    let enum_told = c.enum_told-1 in
     rw enum_told.given.1 refl
 
 pub joined_at_spec : {M : Type 1} → statement M

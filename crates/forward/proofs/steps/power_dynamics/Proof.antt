@@ -8,7 +8,7 @@ use Rattle.forward.proofs.steps.power_dynamics.Tie as tie
 
 returns : tie.Need-returns-then-over_power
 unfolding power_dynamics Ieee.of_bits
-returns c = rw (c.refuse_dynamics.ensures, sym c.before.before.over_power.ensures ∙ c.before.if-over_power.true) refl
+returns c = rw (c.refuse_dynamics.ensures, sym c.over_power.ensures ∙ c.if-over_power.true) refl
 
 returns_2 : tie.Need-returns
 unfolding power_dynamics Ieee.of_bits
@@ -16,7 +16,7 @@ returns_2 c =
     let body-momentum = c.before.before.before.before.before.before.before.before in
     let momenta_next_law = body-momentum.before.before in
     let if1 = momenta_next_law.before.before in
-    rw (c.dynamics_from.ensures, sym if1.before.over_power.ensures ∙ if1.if-over_power.false, body-momentum.body_momentum-h2.ensures, momenta_next_law.momenta_next_law.ensures) refl
+    rw (c.dynamics_from.ensures, sym if1.over_power.ensures ∙ if1.if-over_power.false, body-momentum.body_momentum-h2.ensures, momenta_next_law.momenta_next-hw2.ensures) refl
 
 pub power_dynamics_spec : {M : Type 1} → statement M
 power_dynamics_spec =

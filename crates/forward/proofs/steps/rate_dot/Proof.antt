@@ -9,8 +9,8 @@ use Rattle.forward.proofs.steps.rate_dot.Tie as tie
 returns : tie.Need-returns
 unfolding Steps.rate_dot
 returns c =
-    let tensor = c.before.before.before.before.tensor in
-    rw (c.apply_tensor.ensures, c.before.sub3.ensures, c.before.before.tensor-2.ensures, c.before.before.before.euler_lhs-gyro.ensures, tensor.ensures)
+    let tensor = c.tensor in
+    rw (c.apply_tensor.ensures, c.sub3.ensures, c.tensor-2.ensures, c.euler_lhs-gyro.ensures, tensor.ensures)
 
 pub rate_dot_spec : {M : Type 1} → statement M
 rate_dot_spec =

@@ -8,7 +8,7 @@ use Rattle.forward.proofs.steps.rate_next.Tie as tie
 
 returns : tie.Need-returns
 unfolding Steps.rate_next
-returns c = rw (c.add3.ensures, c.before.scale3.ensures)
+returns c = rw (c.add3.ensures, c.scale3.ensures)
 
 pub rate_next_spec : {M : Type 1} → statement M
 rate_next_spec = tie.close (tie.spec (λ c κs. search rules) (λ c κs. search rules) returns)

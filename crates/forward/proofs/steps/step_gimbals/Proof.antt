@@ -9,15 +9,15 @@ use Rattle.forward.proofs.steps.step_gimbals.Tie as tie
 
 step-pyramid-requires : tie.Need-step_pyramid-requires
 step-pyramid-requires c κs =
-    let entry = c.before.before.before.before.before in
-    rw c.before.c-1.given.1 at entry.requires
+    let entry = c.before.before.before in
+    rw c.in-With.is at entry.requires
 
 returns : tie.Need-returns-in-Without
 unfolding Steps.step_gimbals
-returns c = rw c.enum_told-1.given.1
+returns c = rw c.in-Without.is
 
 returns_2 : tie.Need-returns-in-With
-returns_2 c = rw c.before.before.c-1.given.1 c.step_pyramid.ensures
+returns_2 c = rw c.in-With.is c.step_pyramid.ensures
 
 pub step_gimbals_spec : {M : Type 1} → statement M
 step_gimbals_spec = tie.close (tie.spec (λ c. search rules) (λ c. search rules) step-pyramid-requires returns returns_2)

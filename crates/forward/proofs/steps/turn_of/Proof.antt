@@ -8,7 +8,7 @@ use Rattle.forward.proofs.steps.turn_of.Tie as tie
 
 returns : tie.Need-returns
 unfolding Steps.turn_of
-returns c = rw (c.scale3-2.ensures, c.before.scale3.ensures, c.before.before.add3.ensures)
+returns c = rw (c.scale3-2.ensures, c.scale3.ensures, c.add3.ensures)
 
 pub turn_of_spec : {M : Type 1} → statement M
 turn_of_spec = tie.close (tie.spec (λ c κs. search rules) (λ c κs. search rules) (λ c κs. search rules) returns)

@@ -6,11 +6,11 @@ use Rattle.geom.proofs.Quat.normalized.Tie as tie
 
 returns : tie.Need-returns-then-is_finite
 unfolding normalized
-returns c = rw (c.normal_by.ensures, c.before.norm.ensures, ← c.before.before.before.is_finite.ensures, c.before.before.if-is_finite.true)
+returns c = rw (c.normal_by.ensures, c.norm.ensures, ← c.is_finite.ensures, c.if-is_finite.true)
 
 returns_2 : tie.Need-returns-else-is_finite
 unfolding normalized
-returns_2 c = rw (← c.before.is_finite.ensures, c.if-is_finite.false)
+returns_2 c = rw (← c.is_finite.ensures, c.if-is_finite.false)
 
 pub normalized_spec : {M : Type 1} → statement M
 normalized_spec = tie.close (tie.spec (λ c κs. search rules) (λ c κs. search rules) (λ c κs. search rules) returns returns_2)

@@ -7,20 +7,20 @@ use Rattle.mosaic_text.proofs.tiles.next_line.Statement.{statement}
 use Rattle.mosaic_text.proofs.tiles.next_line.Tie as tie
 
 after-end : tie.Need-closed-requires
-after-end c = omega (arith, c.before.is_at.ensures.within c.if-is_at.true)
+after-end c = omega (arith, c.is_at.ensures.within c.if-is_at.true)
 
 returns : tie.Need-line_at-row-requires
 unfolding next_line
 returns c =
     let t = c.before in
-    simp (sym t.before.is_at.ensures.is ∙ t.if-is_at.true) c.closed.ensures
+    simp (sym t.is_at.ensures.is ∙ t.if-is_at.true) c.closed.ensures
 
 returns_2 : tie.Need-returns
 unfolding next_line
 returns_2 c =
     let r = c.before in
     let e = r.before.before.before in
-    simp (sym e.before.is_at.ensures.is ∙ e.if-is_at.false) (rw r.line_at_lem.ensures at c.with_tile.ensures)
+    simp (sym e.is_at.ensures.is ∙ e.if-is_at.false) (rw r.line_at_lem.ensures at c.with_tile.ensures)
 
 pub next_line_spec : {M : Type 1} → statement M
 next_line_spec =

@@ -23,19 +23,19 @@ loop-holds c = (omega arith, rw c.no_tile-tile.ensures (iter_none _ _), omega ar
 
 returns : tie.Need-returns-then-not-c invariant_loop decreases_loop
 returns c =
-    let l = c.before.before.before.loop-k in
+    let l = c.loop-k in
     tiles_early _ _ l.c l.k l.invariant.1 (omega arith) (not-true _ c.if-not-c.true)
 
 loop-again : tie.Need-loop-k-preserved invariant_loop decreases_loop
 loop-again c =
-    let l = c.before.before.before.before.loop-k in
-    (omega arith, iter_next _ _ l.k l.invariant.1 (turn_goes _ l.k _ _ (not-false _ c.before.if-not-c.false) c.next_line_law.ensures), rw c.next_line_law.ensures (tiles_low _ _ _ l.invariant.2))
+    let l = c.loop-k in
+    (omega arith, iter_next _ _ l.k l.invariant.1 (turn_goes _ l.k _ _ (not-false _ c.if-not-c.false) c.next_line-c.ensures), rw c.next_line-c.ensures (tiles_low _ _ _ l.invariant.2))
 
 returns_2 : tie.Need-returns invariant_loop decreases_loop
-returns_2 c = let l = c.before.loop-k in tiles_whole _ _ l.c l.k l.invariant.1 (omega arith)
+returns_2 c = let l = c.loop-k in tiles_whole _ _ l.c l.k l.invariant.1 (omega arith)
 
 pub tiles_at_spec : {M : Type 1} → statement M
 tiles_at_spec =
     tie.close
-    (tie.spec invariant_loop decreases_loop (search rules) loop-holds returns (λ c κs. let l = c.before.before.before.loop-k in omega (arith, l.invariant.2))
+    (tie.spec invariant_loop decreases_loop (search rules) loop-holds returns (λ c κs. let l = c.loop-k in omega (arith, l.invariant.2))
     (search rules) (search rules) loop-again returns_2)

@@ -14,7 +14,7 @@ use Rattle.normal_equations.proofs.matrix.matrix_rows.Tie as tie
 put-sums-requires : tie.Need-put_sums-requires
 put-sums-requires c κs = let s = c.before.before.before.before.before.before.before.before.before.before.before.before.before in
     let a = s.args in
-    let f = c.before.before.before.before.before.before.sums in
+    let f = c.sums in
     let r : List Float = f.new.1.1.1.0 in
     let e : length a.row-1.now ≡ length r = sym f.auto.1.1.1.0 in
     (omega arith, s.requires.2 ∙ ap (λ k. k * a.m + k * k) e, subst (λ w. Inner.Summed a.m (take (w * a.m) a.v-1.now) a.c a.c w r) e f.ensures.0)
@@ -23,8 +23,8 @@ put-sums-requires-2 : tie.Need-put_sums-requires-2
 put-sums-requires-2 c κs = let s = c.before.before.before.before.before.before.before.before.before.before.before.before.before.before.before.before.before.before.before.before in
     let a = s.args in
     let n : ℕ = length a.row-1.now in
-    let f = c.before.before.before.before.before.before.before.before.before.before.before.before.before.sums in
-    let g = c.before.before.before.before.before.before.put_sums in
+    let f = c.sums in
+    let g = c.put_sums in
     let r : List Float = f.new.1.1.1.1.0 in
     let u : List Float = g.new.0 in
     let e : n ≡ length r = sym (f.auto.1.1.1.1.0 ∙ s.requires.1) in
@@ -38,9 +38,9 @@ put-sums-requires-2 c κs = let s = c.before.before.before.before.before.before.
 returns : tie.Need-returns
 returns c = let s = c.before.before.before.before.before.before.before.before.before.before.before.before.before.before.before.before.before.before.before.before.before.before.before.before.before in
     let a = s.args in
-    let f = c.before.before.before.before.before.before.before.before.before.before.before.before.before.before.before.before.before.before.sums in
-    let g = c.before.before.before.before.before.before.before.before.before.before.before.put_sums in
-    let h = c.before.before.before.before.put_sums-2 in
+    let f = c.sums in
+    let g = c.put_sums in
+    let h = c.put_sums-2 in
     let u : List Float = g.new.0 in
     record {
       middle = u;

@@ -16,8 +16,8 @@ abbrev decreases_loop : tie.decreases-loop-d
 decreases_loop a c row₀ n d₀ row d = c - d
 
 loop-again : tie.Need-loop-d-preserved invariant_loop decreases_loop
-loop-again c = let l = c.before.before.loop-d in
-    let a = c.before.before.before.args in (
+loop-again c = let l = c.loop-d in
+    let a = c.args in (
       omega arith,
       simp length-set (omega arith),
       l.invariant.2,
@@ -25,8 +25,8 @@ loop-again c = let l = c.before.before.loop-d in
     )
 
 returns : tie.Need-returns invariant_loop decreases_loop
-returns c = let l = c.before.loop-d in
-    let e : l.d ≡ c.before.before.args.c = omega arith in rw e at l.invariant.3
+returns c = let l = c.loop-d in
+    let e : l.d ≡ c.args.c = omega arith in rw e at l.invariant.3
 
 pub mirror_spec : {M : Type 1} → statement M
 mirror_spec =
@@ -35,10 +35,10 @@ mirror_spec =
     invariant_loop
     decreases_loop
     (λ c. (omega arith, refl, refl, filled_none _ _ _))
-    (λ c. omega (arith, row_end c.before.loop-d.d (length c.before.before.args.row.now) (length c.before.before.args.row.now) (omega arith)))
-    (λ c. omega (arith, row_end c.before.loop-d.d (length c.before.before.args.row.now) (length c.before.before.args.row.now) (omega arith)))
-    (λ c. omega (arith, row_end c.before.loop-d.d (length c.before.before.args.row.now) (length c.before.before.args.row.now) (omega arith)))
-    (λ c. omega (arith, row_end c.before.before.loop-d.d (length c.before.before.before.args.row.now) (length c.before.before.before.args.row.now) (omega arith)))
+    (λ c. omega (arith, row_end c.loop-d.d (length c.args.row.now) (length c.args.row.now) (omega arith)))
+    (λ c. omega (arith, row_end c.loop-d.d (length c.args.row.now) (length c.args.row.now) (omega arith)))
+    (λ c. omega (arith, row_end c.loop-d.d (length c.args.row.now) (length c.args.row.now) (omega arith)))
+    (λ c. omega (arith, row_end c.loop-d.d (length c.args.row.now) (length c.args.row.now) (omega arith)))
     (λ c. omega arith)
     (λ c. omega arith)
     (λ c. omega arith)

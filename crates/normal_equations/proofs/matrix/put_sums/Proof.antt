@@ -18,18 +18,18 @@ use Rattle.normal_equations.proofs.matrix.put_sums.Statement.{statement}
 use Rattle.normal_equations.proofs.matrix.put_sums.Tie as tie
 
 mirror-requires : tie.Need-mirror-requires
-mirror-requires c κs = let a = c.before.before.before.before.before.args in
+mirror-requires c κs = let a = c.args in
     let n : ℕ = length a.row-1.now in
     let v : List Float = a.v-1.now in
     let o : ℕ = n * a.m in
     (omega arith, omega (arith, ap length (tail_part v o), length-drop o v))
 
 put-row-requires : tie.Need-put_row-requires
-put-row-requires c κs = let a = c.before.before.before.before.before.before.before.before.before.before.args in
+put-row-requires c κs = let a = c.args in
     let n : ℕ = length a.row-1.now in
     let v : List Float = a.v-1.now in
     let o : ℕ = n * a.m in
-    let t = c.before.before.before.before.mirror in
+    let t = c.mirror in
     subst (λ w. a.c * w + w ≤ length (take (length v - o) (drop o v))) (sym t.auto.1.1.0) (omega (arith, row_end a.c n n (omega arith), ap length (tail_part v o), length-drop o v))
 
 returns : tie.Need-returns
@@ -38,8 +38,8 @@ returns c = let s = c.before.before.before.before.before.before.before.before.be
     let n : ℕ = length a.row-1.now in
     let v : List Float = a.v-1.now in
     let o : ℕ = n * a.m in
-    let t = c.before.before.before.before.before.before.before.mirror in
-    let p = c.before.before.put_row_law in
+    let t = c.mirror in
+    let p = c.put_row in
     let q : List Float = t.new.1.1.0 in
     let y : List Float = p.new.0 in
     let u : List Float = pasted v o (length v) y in

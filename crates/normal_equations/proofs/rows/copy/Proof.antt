@@ -17,12 +17,12 @@ abbrev decreases_loop : tie.decreases-loop-i
 decreases_loop to₀ from i₀ to i = length to₀ - i
 
 loop-again : tie.Need-loop-i-preserved invariant_loop decreases_loop
-loop-again c = let l = c.before.before.loop-i in
-    (omega arith, simp length-set (omega arith), filled_set _ 0 l.i c.before.before.before.args.to.now l.to _ (omega arith) (omega arith) l.invariant.2 refl)
+loop-again c = let l = c.loop-i in
+    (omega arith, simp length-set (omega arith), filled_set _ 0 l.i c.args.to.now l.to _ (omega arith) (omega arith) l.invariant.2 refl)
 
 returns : tie.Need-returns invariant_loop decreases_loop
-returns c = let l = c.before.loop-i in
-    ext_get_or nan l.to c.before.before.args.from.now (omega arith) (λ x h. l.invariant.2.done x (omega arith) (omega arith))
+returns c = let l = c.loop-i in
+    ext_get_or nan l.to c.args.from.now (omega arith) (λ x h. l.invariant.2.done x (omega arith) (omega arith))
 
 pub copy_spec : {M : Type 1} → statement M
 copy_spec =

@@ -9,8 +9,8 @@ use Rattle.normal_equations.proofs.rows.put_row.Statement.{statement}
 use Rattle.normal_equations.proofs.rows.put_row.Tie as tie
 
 returns : tie.Need-returns
-returns c = let a = c.before.before.before.before.before.before.args in
-    let t = c.before.before.copy in
+returns c = let a = c.args in
+    let t = c.copy in
     let n : ℕ = length a.line.now in
     let whole : length t.new.0 ≡ n = ap length t.ensures in
     record { own = row_same n a.a-1.now t.new.0 a.c (omega arith) whole ∙ t.ensures; others = row_other n a.a-1.now t.new.0 a.c (omega arith) whole }

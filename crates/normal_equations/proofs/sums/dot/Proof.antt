@@ -15,12 +15,12 @@ abbrev decreases_loop : tie.decreases-loop-i
 decreases_loop p q s₀ i₀ s i = length p - i
 
 loop-again : tie.Need-loop-i-preserved invariant_loop decreases_loop
-loop-again c = let l = c.before.before.before.loop-i in
+loop-again c = let l = c.loop-i in
     (omega arith, iter_next _ _ l.i l.invariant.1 refl)
 
 returns : tie.Need-returns invariant_loop decreases_loop
-returns c = let l = c.before.loop-i in
-    let e : l.i ≡ length c.before.before.args.p.now = omega arith in rw e at l.invariant.1
+returns c = let l = c.loop-i in
+    let e : l.i ≡ length c.args.p.now = omega arith in rw e at l.invariant.1
 
 pub dot_spec : {M : Type 1} → statement M
 dot_spec =

@@ -15,7 +15,7 @@ abbrev decreases_loop : tie.decreases-loop-i
 decreases_loop o p q t u v a₀ b₀ c₀ d₀ e₀ f₀ g₀ h₀ i₀ a b c d e f g h i = length o - i
 
 loop-again : tie.Need-loop-i-preserved invariant_loop decreases_loop
-loop-again c = let l = c.before.before.before.before.before.before.before.loop-i in (
+loop-again c = let l = c.loop-i in (
   omega arith,
   iter_next _ _ l.i l.invariant.1 refl,
   iter_next _ _ l.i l.invariant.2 refl,
@@ -29,9 +29,9 @@ loop-again c = let l = c.before.before.before.before.before.before.before.loop-i
 
 returns : tie.Need-returns invariant_loop decreases_loop
 returns c =
-    let l = c.before.loop-i in
-    let e : l.i ≡ length c.before.before.args.o.now = omega arith in
-    let f : l.i ≡ length c.before.before.args.p.now = omega arith in (
+    let l = c.loop-i in
+    let e : l.i ≡ length c.args.o.now = omega arith in
+    let f : l.i ≡ length c.args.p.now = omega arith in (
       record { first = rw e at l.invariant.1; second = rw e at l.invariant.2; third = rw e at l.invariant.3; fourth = rw e at l.invariant.4 },
       record { first = rw f at l.invariant.5; second = rw f at l.invariant.6; third = rw f at l.invariant.7; fourth = rw f at l.invariant.8 },
     )

@@ -16,7 +16,7 @@ returns c =
     let a = s.args in
     let m : ℕ = length a.o.now in
     let r = x.dot8-s.ensures in
-    (rw b.before.before.put_four.ensures (four_cells a.o.now a.j.now a.row-1.now m a.d _ _ _ _ refl (omega arith) r.0), rw c.before.before.put_four-2.ensures (four_cells a.p.now a.j.now a.next-1.now m a.d _ _ _ _ s.requires.2 (omega arith) r.1))
+    (rw b.put_four.ensures (four_cells a.o.now a.j.now a.row-1.now m a.d _ _ _ _ refl (omega arith) r.0), rw c.put_four-2.ensures (four_cells a.p.now a.j.now a.next-1.now m a.d _ _ _ _ s.requires.2 (omega arith) r.1))
 
 pub eight_at_spec : {M : Type 1} → statement M
 eight_at_spec =

@@ -19,14 +19,14 @@ decreases_loop o p j from row₀ next₀ n d₀ row next d = length row₀ - d
 eight-at-requires : tie.Need-eight_at-requires invariant_loop decreases_loop
 eight-at-requires c κs = let s = c.before.before.before.before.before.before.before.before.before in
     let a = s.args in
-    let l = c.before.before.before.loop-d in
+    let l = c.loop-d in
     let h : l.d + 4 ≤ length a.row-1.now = omega arith in
     (omega arith, omega arith, s.requires.2, omega (arith, mul-le-mul_right (length a.o.now) h, add-mul l.d 4 (length a.o.now)))
 
 loop-again : tie.Need-loop-d-preserved invariant_loop decreases_loop
-loop-again c = let a = c.before.before.before.before.before.before.before.before.before.before.before.before.before.before.args in
-    let l = c.before.before.before.before.before.before.before.before.loop-d in
-    let f = c.before.before.before.before.eight_at in (
+loop-again c = let a = c.args in
+    let l = c.loop-d in
+    let f = c.eight_at in (
       omega arith,
       omega arith,
       omega (arith, f.auto.1.1.1.1.0),
@@ -49,4 +49,4 @@ eights_spec =
     loop-again
     (λ c. omega arith)
     (λ c. omega arith)
-    (λ c. let l = c.before.loop-d in (l.invariant.0, l.invariant.1, l.invariant.4, l.invariant.5)))
+    (λ c. let l = c.loop-d in (l.invariant.0, l.invariant.1, l.invariant.4, l.invariant.5)))

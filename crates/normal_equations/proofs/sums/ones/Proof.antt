@@ -20,11 +20,11 @@ abbrev decreases_loop : tie.decreases-loop-d
 decreases_loop p j from row₀ m d₀ row d = length row₀ - d
 
 dot-requires : tie.Need-dot-requires invariant_loop decreases_loop
-dot-requires c κs = let a = c.before.before.before.before.before.before.args in omega (arith, length_row (length a.p.now) a.j.now c.before.before.loop-d.d (omega (arith, row_end c.before.before.loop-d.d (length a.row.now) (length a.p.now) (omega arith))), ap length (part_row (length a.p.now) a.j.now c.before.before.loop-d.d _ _ refl refl))
+dot-requires c κs = let a = c.args in omega (arith, length_row (length a.p.now) a.j.now c.loop-d.d (omega (arith, row_end c.loop-d.d (length a.row.now) (length a.p.now) (omega arith))), ap length (part_row (length a.p.now) a.j.now c.loop-d.d _ _ refl refl))
 
 loop-again : tie.Need-loop-d-preserved invariant_loop decreases_loop
-loop-again c = let a = c.before.before.before.before.before.before.before.args in
-    let l = c.before.before.before.loop-d in
+loop-again c = let a = c.args in
+    let l = c.loop-d in
     let m : ℕ = length a.p.now in (
       omega arith,
       omega arith,
@@ -36,7 +36,7 @@ loop-again c = let a = c.before.before.before.before.before.before.before.args i
 returns : tie.Need-returns invariant_loop decreases_loop
 returns c =
     let entry = c.before.before.before.before.before in
-    let l = c.before.loop-d in
+    let l = c.loop-d in
     let e : l.d ≡ length entry.args.row.now = omega arith in rw e at l.invariant.3
 
 pub ones_spec : {M : Type 1} → statement M
@@ -46,12 +46,12 @@ ones_spec =
     invariant_loop
     decreases_loop
     (λ c. (omega arith, omega arith, refl, filled_none _ _ _))
-    (λ c. let a = c.before.before.before.before.before.args in omega (arith, row_end c.before.loop-d.d (length a.row.now) (length a.p.now) (omega arith)))
-    (λ c. let a = c.before.before.before.before.before.args in omega (arith, row_end c.before.loop-d.d (length a.row.now) (length a.p.now) (omega arith)))
-    (λ c. let a = c.before.before.before.before.before.args in omega (arith, row_end c.before.loop-d.d (length a.row.now) (length a.p.now) (omega arith)))
-    (λ c. let a = c.before.before.before.before.before.args in omega (arith, row_end c.before.loop-d.d (length a.row.now) (length a.p.now) (omega arith)))
-    (λ c. let a = c.before.before.before.before.before.args in omega (arith, row_end c.before.loop-d.d (length a.row.now) (length a.p.now) (omega arith)))
-    (λ c. let a = c.before.before.before.before.before.args in omega (arith, row_end c.before.loop-d.d (length a.row.now) (length a.p.now) (omega arith)))
+    (λ c. let a = c.args in omega (arith, row_end c.loop-d.d (length a.row.now) (length a.p.now) (omega arith)))
+    (λ c. let a = c.args in omega (arith, row_end c.loop-d.d (length a.row.now) (length a.p.now) (omega arith)))
+    (λ c. let a = c.args in omega (arith, row_end c.loop-d.d (length a.row.now) (length a.p.now) (omega arith)))
+    (λ c. let a = c.args in omega (arith, row_end c.loop-d.d (length a.row.now) (length a.p.now) (omega arith)))
+    (λ c. let a = c.args in omega (arith, row_end c.loop-d.d (length a.row.now) (length a.p.now) (omega arith)))
+    (λ c. let a = c.args in omega (arith, row_end c.loop-d.d (length a.row.now) (length a.p.now) (omega arith)))
     dot-requires
     (λ c. omega arith)
     (λ c. omega arith)

@@ -44,7 +44,7 @@ ones-requires : tie.Need-ones-requires
 ones-requires c κs = let s = c.before.before.before.before.before.before.before.before.before.before.before.before.before.before in
     let a = s.args in
     let n : ℕ = length a.row-1.now in
-    let f = c.before.before.before.before.before.before.eights-from in
+    let f = c.eights-from in
     let lr : n ≡ length f.new.1.1.1.1.0 = sym f.auto.1.1.1.1.0 in
     let lo = first n a.m a.c a.j.now s.requires.0 s.requires.2 in
     (omega (arith, f.ensures.1), s.requires.2 ∙ ap (λ k. n * k) (sym lo) ∙ ap (λ k. k * length (slice (a.c * a.m) (a.c * a.m + a.m) a.j.now)) lr)
@@ -53,7 +53,7 @@ ones-requires-2 : tie.Need-ones-requires-2
 ones-requires-2 c κs = let s = c.before.before.before.before.before.before.before.before.before.before.before.before.before.before.before.before.before.before.before in
     let a = s.args in
     let n : ℕ = length a.row-1.now in
-    let f = c.before.before.before.before.before.before.before.before.before.before.before.eights-from in
+    let f = c.eights-from in
     let lr : n ≡ length f.new.1.1.1.1.1.0 = sym (f.auto.1.1.1.1.1.0 ∙ s.requires.1) in
     let lo = second n a.m a.c a.j.now s.requires.0 s.requires.2 in
     (omega (arith, f.ensures.1), s.requires.2 ∙ ap (λ k. n * k) (sym lo) ∙ ap (λ k. k * length (slice (a.c * a.m + a.m) (a.c * a.m + a.m + a.m) a.j.now)) lr)
@@ -66,9 +66,9 @@ returns c = let s = c.before.before.before.before.before.before.before.before.be
     let j : List Float = a.j.now in
     let o : List Float = slice (a.c * m) (a.c * m + m) j in
     let p : List Float = slice (a.c * m + m) (a.c * m + m + m) j in
-    let f = c.before.before.before.before.before.before.before.before.before.before.before.before.before.before.eights-from in
-    let g = c.before.before.before.before.before.before.before.ones in
-    let h = c.before.before.ones-2 in
+    let f = c.eights-from in
+    let g = c.ones in
+    let h = c.ones-2 in
     let row : List Float = f.new.1.1.1.1.0 in
     let next : List Float = f.new.1.1.1.1.1.0 in
     let lr : length row ≡ n = f.auto.1.1.1.1.0 in
@@ -85,27 +85,27 @@ pub sums_spec : {M : Type 1} → statement M
 sums_spec =
     tie.close
     (tie.spec
-    (λ c. let a = c.before.before.before.args in omega (arith, row_end a.c (length a.row-1.now) a.m (omega arith), row_end (a.c + 1) (length a.row-1.now) a.m (omega arith), add-mul a.c 1 a.m))
-    (λ c. let a = c.before.before.before.args in omega (arith, row_end a.c (length a.row-1.now) a.m (omega arith), row_end (a.c + 1) (length a.row-1.now) a.m (omega arith), add-mul a.c 1 a.m))
-    (λ c. let a = c.before.before.before.args in omega (arith, row_end a.c (length a.row-1.now) a.m (omega arith), row_end (a.c + 1) (length a.row-1.now) a.m (omega arith), add-mul a.c 1 a.m))
-    (λ c. let a = c.before.before.before.args in omega (arith, row_end a.c (length a.row-1.now) a.m (omega arith), row_end (a.c + 1) (length a.row-1.now) a.m (omega arith), add-mul a.c 1 a.m))
+    (λ c. let a = c.args in omega (arith, row_end a.c (length a.row-1.now) a.m (omega arith), row_end (a.c + 1) (length a.row-1.now) a.m (omega arith), add-mul a.c 1 a.m))
+    (λ c. let a = c.args in omega (arith, row_end a.c (length a.row-1.now) a.m (omega arith), row_end (a.c + 1) (length a.row-1.now) a.m (omega arith), add-mul a.c 1 a.m))
+    (λ c. let a = c.args in omega (arith, row_end a.c (length a.row-1.now) a.m (omega arith), row_end (a.c + 1) (length a.row-1.now) a.m (omega arith), add-mul a.c 1 a.m))
+    (λ c. let a = c.args in omega (arith, row_end a.c (length a.row-1.now) a.m (omega arith), row_end (a.c + 1) (length a.row-1.now) a.m (omega arith), add-mul a.c 1 a.m))
     (λ c. search rules)
     (λ c. search rules)
-    (λ c. let a = c.before.before.before.args in omega (arith, row_end a.c (length a.row-1.now) a.m (omega arith), row_end (a.c + 1) (length a.row-1.now) a.m (omega arith), add-mul a.c 1 a.m))
-    (λ c. let a = c.before.before.before.before.args in omega (arith, row_end a.c (length a.row-1.now) a.m (omega arith), row_end (a.c + 1) (length a.row-1.now) a.m (omega arith), add-mul a.c 1 a.m))
+    (λ c. let a = c.args in omega (arith, row_end a.c (length a.row-1.now) a.m (omega arith), row_end (a.c + 1) (length a.row-1.now) a.m (omega arith), add-mul a.c 1 a.m))
+    (λ c. let a = c.args in omega (arith, row_end a.c (length a.row-1.now) a.m (omega arith), row_end (a.c + 1) (length a.row-1.now) a.m (omega arith), add-mul a.c 1 a.m))
     (λ c. search rules)
     (λ c. search rules)
-    (λ c. let a = c.before.before.before.before.args in omega (arith, row_end a.c (length a.row-1.now) a.m (omega arith), row_end (a.c + 1) (length a.row-1.now) a.m (omega arith), add-mul a.c 1 a.m))
+    (λ c. let a = c.args in omega (arith, row_end a.c (length a.row-1.now) a.m (omega arith), row_end (a.c + 1) (length a.row-1.now) a.m (omega arith), add-mul a.c 1 a.m))
     eights-requires
-    (λ c. let a = c.before.before.before.before.before.before.before.before.before.before.before.before.args in omega (arith, row_end a.c (length a.row-1.now) a.m (omega arith), row_end (a.c + 1) (length a.row-1.now) a.m (omega arith), add-mul a.c 1 a.m))
+    (λ c. let a = c.args in omega (arith, row_end a.c (length a.row-1.now) a.m (omega arith), row_end (a.c + 1) (length a.row-1.now) a.m (omega arith), add-mul a.c 1 a.m))
     (λ c. search rules)
     (λ c. search rules)
-    (λ c. let a = c.before.before.before.before.before.before.before.before.before.before.before.before.args in omega (arith, row_end a.c (length a.row-1.now) a.m (omega arith), row_end (a.c + 1) (length a.row-1.now) a.m (omega arith), add-mul a.c 1 a.m))
+    (λ c. let a = c.args in omega (arith, row_end a.c (length a.row-1.now) a.m (omega arith), row_end (a.c + 1) (length a.row-1.now) a.m (omega arith), add-mul a.c 1 a.m))
     ones-requires
-    (λ c. let a = c.before.before.before.before.before.before.before.before.before.before.before.before.before.before.before.before.before.args in omega (arith, row_end a.c (length a.row-1.now) a.m (omega arith), row_end (a.c + 1) (length a.row-1.now) a.m (omega arith), add-mul a.c 1 a.m))
+    (λ c. let a = c.args in omega (arith, row_end a.c (length a.row-1.now) a.m (omega arith), row_end (a.c + 1) (length a.row-1.now) a.m (omega arith), add-mul a.c 1 a.m))
     (λ c. search rules)
     (λ c. search rules)
-    (λ c. let a = c.before.before.before.before.before.before.before.before.before.before.before.before.before.before.before.before.before.args in omega (arith, row_end a.c (length a.row-1.now) a.m (omega arith), row_end (a.c + 1) (length a.row-1.now) a.m (omega arith), add-mul a.c 1 a.m))
+    (λ c. let a = c.args in omega (arith, row_end a.c (length a.row-1.now) a.m (omega arith), row_end (a.c + 1) (length a.row-1.now) a.m (omega arith), add-mul a.c 1 a.m))
     ones-requires-2
     (λ c. search rules)
     (λ c. search rules)

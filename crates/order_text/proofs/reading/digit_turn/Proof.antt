@@ -8,8 +8,8 @@ use Rattle.order_text.specs.TileTextLaws.{digit_shut, digit_none, digit_capped, 
 use Rattle.order_text.proofs.reading.digit_turn.Statement.{statement}
 use Rattle.order_text.proofs.reading.digit_turn.Tie as tie
 
-read : (c : tie.After-hex_digit-d) → let a = c.before.before.before.before.before.args in c.hex_digit-d.result ≡ digit (get_or a.s.now a.c.at 0)
-read c = rw c.before.byte.ensures at c.hex_digit-d.ensures
+read : (c : tie.After-hex_digit-d) → let a = c.args in c.hex_digit-d.result ≡ digit (get_or a.s.now a.c.at 0)
+read c = rw c.byte.ensures at c.hex_digit-d.ensures
 
 returns : tie.Need-returns-then-not-c
 returns c = let b = c.before.before.before in digit_shut b.args.s.now b.args.c b.requires.0 b.requires.1 (not-true _ c.if-not-c.true)

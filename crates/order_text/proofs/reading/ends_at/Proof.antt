@@ -4,10 +4,10 @@ use Rattle.order_text.proofs.reading.ends_at.Statement.{statement}
 use Rattle.order_text.proofs.reading.ends_at.Tie as tie
 
 returns : tie.Need-is_at-requires-2
-returns c = rw c.before.before.if-last.true c.is_at.ensures
+returns c = rw c.if-last.true c.is_at.ensures
 
 returns_2 : tie.Need-returns
-returns_2 c = rw c.before.before.if-last.false c.is_at-2.ensures
+returns_2 c = rw c.if-last.false c.is_at-2.ensures
 
 pub ends_at_spec : {M : Type 1} → statement M
 ends_at_spec = tie.close (tie.spec (search rules) (search rules) returns (search rules) (search rules) returns_2)

@@ -10,13 +10,13 @@ use Rattle.order_text.proofs.reading.line_at.Statement.{statement}
 use Rattle.order_text.proofs.reading.line_at.Tie as tie
 
 returns : tie.Need-overflow_add-at
-returns c = line_none _ _ _ _ _ _ (sym c.before.is_at.ensures.is ∙ not-true _ c.if-not-is_at.true)
+returns c = line_none _ _ _ _ _ _ (sym c.is_at.ensures.is ∙ not-true _ c.if-not-is_at.true)
 
 returns_2 : tie.Need-ends_at-requires
 returns_2 c =
     let r = c.before.before.before in
     let e = r.before in
-    line_wrong _ _ _ _ _ _ (sym e.before.is_at.ensures.is ∙ not-false _ e.if-not-is_at.false) r.row_at-c.ensures (not-true _ c.if-not-c.true)
+    line_wrong _ _ _ _ _ _ (sym e.is_at.ensures.is ∙ not-false _ e.if-not-is_at.false) r.row_at-c.ensures (not-true _ c.if-not-c.true)
 
 returns_3 : tie.Need-tail_length-requires
 returns_3 c =
@@ -24,13 +24,13 @@ returns_3 c =
     let o = a.before in
     let r = o.before.before.before in
     let e = r.before in
-    line_unended _ _ _ _ _ _ (sym e.before.is_at.ensures.is ∙ not-false _ e.if-not-is_at.false) r.row_at-c.ensures (not-false _ o.if-not-c.false)
+    line_unended _ _ _ _ _ _ (sym e.is_at.ensures.is ∙ not-false _ e.if-not-is_at.false) r.row_at-c.ensures (not-false _ o.if-not-c.false)
     (sym a.ends_at.ensures.is ∙ not-true _ c.if-not-ends_at.true)
 
 -- a row that is ended lies within the text
-inside : (c : tie.After-tail_length) → let r = c.before.before.before.before.before.before.row_at-c.result in let b = c.before.before.before.before.before.before.before.before.before.before.before in
+inside : (c : tie.After-tail_length) → let r = c.row_at-c.result in let b = c.before.before.before.before.before.before.before.before.before.before.before in
     r.at + c.tail_length.result ≤ length b.args.s.now
-inside c = let z = c.before.before.ends_at.ensures.within (not-false _ c.before.if-not-ends_at.false) in rw c.tail_length.ensures z
+inside c = let z = c.ends_at.ensures.within (not-false _ c.if-not-ends_at.false) in rw c.tail_length.ensures z
 
 returns-4 : tie.Need-returns
 returns-4 c =
@@ -39,12 +39,12 @@ returns-4 c =
     let o = a.before in
     let r = o.before.before.before in
     let e = r.before in
-    line_ended _ _ _ _ _ _ (sym e.before.is_at.ensures.is ∙ not-false _ e.if-not-is_at.false) r.row_at-c.ensures (not-false _ o.if-not-c.false)
+    line_ended _ _ _ _ _ _ (sym e.is_at.ensures.is ∙ not-false _ e.if-not-is_at.false) r.row_at-c.ensures (not-false _ o.if-not-c.false)
     (sym a.ends_at.ensures.is ∙ not-false _ x.if-not-ends_at.false) c.tail_length.ensures (inside c)
 
 pub line_at_spec : {M : Type 1} → statement M
 line_at_spec =
     tie.close
-    (tie.spec (search rules) (search rules) returns (λ c. omega (arith, c.before.is_at.ensures.within (not-false _ c.if-not-is_at.false)))
-    (λ c κs. let b = c.before.before.before.before in (c.before.is_at.ensures.within (not-false _ c.if-not-is_at.false), b.requires.0, b.requires.1))
+    (tie.spec (search rules) (search rules) returns (λ c. omega (arith, c.is_at.ensures.within (not-false _ c.if-not-is_at.false)))
+    (λ c κs. let b = c.before.before.before.before in (c.is_at.ensures.within (not-false _ c.if-not-is_at.false), b.requires.0, b.requires.1))
     returns_2 (search rules) returns_3 (search rules) (λ c. omega (arith, inside c)) returns-4)

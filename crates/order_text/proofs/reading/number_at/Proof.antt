@@ -18,14 +18,14 @@ decreases_loop s at c₀ k₀ c k = 20 - k
 
 loop-again : tie.Need-loop-k-preserved invariant_loop decreases_loop
 loop-again c =
-    let l = c.before.before.loop-k in
+    let l = c.loop-k in
     let e = c.digit_turn-c.ensures in
     (omega arith, iter_next _ _ l.k l.invariant.1 e.is, e.within, e.low)
 
 returns : tie.Need-returns invariant_loop decreases_loop
 unfolding number_at
 returns c =
-    let l = c.before.loop-k in
+    let l = c.loop-k in
     let e : l.k ≡ 20 = omega arith in
     record { is = rw e at l.invariant.1; within = l.invariant.2; low = l.invariant.3 }
 
@@ -33,4 +33,4 @@ pub number_at_spec : {M : Type 1} → statement M
 number_at_spec =
     tie.close
     (tie.spec invariant_loop decreases_loop (λ c. (omega arith, iter_none _ _, omega arith, omega arith))
-    (λ c κs. let l = c.before.loop-k in (l.invariant.2, l.invariant.3)) (search rules) (search rules) loop-again returns)
+    (λ c κs. let l = c.loop-k in (l.invariant.2, l.invariant.3)) (search rules) (search rules) loop-again returns)

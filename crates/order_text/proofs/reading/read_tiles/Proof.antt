@@ -8,13 +8,13 @@ use Rattle.order_text.proofs.reading.read_tiles.Statement.{statement}
 use Rattle.order_text.proofs.reading.read_tiles.Tie as tie
 
 returns : tie.Need-returns-then-s-gt4096
-returns c = c.refused.ensures ∙ text_long _ c.before.if-s-gt4096.true
+returns c = c.refused.ensures ∙ text_long _ c.if-s-gt4096.true
 
 returns_2 : tie.Need-budget_at-w-requires
 returns_2 c =
     let t = c.before in
     let i = t.before in
-    c.refused-then-not-is_at.ensures ∙ text_headless _ i.before.before.if-s-gt4096.false (sym i.is_at.ensures.is ∙ not-true _ t.if-not-is_at.true)
+    c.refused-then-not-is_at.ensures ∙ text_headless _ i.if-s-gt4096.false (sym i.is_at.ensures.is ∙ not-true _ t.if-not-is_at.true)
 
 returns_3 : tie.Need-rows_of-requires
 returns_3 c =
@@ -22,7 +22,7 @@ returns_3 c =
     let w = t.before.before in
     let e = w.before in
     let i = e.before in
-    c.refused-then-not-w.ensures ∙ text_budgetless _ i.before.before.if-s-gt4096.false (sym i.is_at.ensures.is ∙ not-false _ e.if-not-is_at.false) w.budget_at-w.ensures.0 (not-true _ t.if-not-w.true)
+    c.refused-then-not-w.ensures ∙ text_budgetless _ i.if-s-gt4096.false (sym i.is_at.ensures.is ∙ not-false _ e.if-not-is_at.false) w.budget_at-w.ensures.0 (not-true _ t.if-not-w.true)
 
 returns-4 : tie.Need-returns
 returns-4 c =
@@ -30,10 +30,10 @@ returns-4 c =
     let w = o.before.before in
     let e = w.before in
     let i = e.before in
-    c.rows_of_lem.ensures ∙ text_rows _ i.before.before.if-s-gt4096.false (sym i.is_at.ensures.is ∙ not-false _ e.if-not-is_at.false) w.budget_at-w.ensures.0 (not-false _ o.if-not-w.false)
+    c.rows_of_lem.ensures ∙ text_rows _ i.if-s-gt4096.false (sym i.is_at.ensures.is ∙ not-false _ e.if-not-is_at.false) w.budget_at-w.ensures.0 (not-false _ o.if-not-w.false)
 
 pub read_tiles_spec : {M : Type 1} → statement M
 read_tiles_spec =
     tie.close
     (tie.spec (search rules) returns (search rules) (search rules) (search rules) returns_2 (search rules) (search rules) returns_3
-    (λ c κs. let w = c.before.before in (w.budget_at-w.ensures.1, omega (arith, w.before.before.before.before.if-s-gt4096.false))) returns-4)
+    (λ c κs. let w = c.before.before in (w.budget_at-w.ensures.1, omega (arith, w.if-s-gt4096.false))) returns-4)

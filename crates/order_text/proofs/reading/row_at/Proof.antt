@@ -18,19 +18,19 @@ decreases_loop s at n base c₀ k₀ c k = n - k
 
 loop-again : tie.Need-loop-k-preserved invariant_loop decreases_loop
 loop-again c =
-    let l = c.before.before.loop-k in
+    let l = c.loop-k in
     let e = c.row_turn-c.ensures in
     (omega arith, iter_next _ _ l.k l.invariant.1 e.is, e.within)
 
 returns : tie.Need-returns invariant_loop decreases_loop
 unfolding row_at
 returns c =
-    let l = c.before.loop-k in
-    let e : l.k ≡ c.before.before.before.args.n = omega arith in
+    let l = c.loop-k in
+    let e : l.k ≡ c.args.n = omega arith in
     record { is = rw e at l.invariant.1; within = l.invariant.2 }
 
 pub row_at_spec : {M : Type 1} → statement M
 row_at_spec =
     tie.close
-    (tie.spec invariant_loop decreases_loop (λ c. (omega arith, iter_none _ _, omega arith)) (search rules) (λ c κs. c.before.loop-k.invariant.2) (search rules)
+    (tie.spec invariant_loop decreases_loop (λ c. (omega arith, iter_none _ _, omega arith)) (search rules) (λ c κs. c.loop-k.invariant.2) (search rules)
     (search rules) loop-again returns)

@@ -13,7 +13,7 @@ returns_2 c =
     let w = c.before.before.before in
     let e = w.before in
     let b = e.before.before.before in
-    row_wrong b.args.s.now b.args.place b.args.c (not-false _ e.if-not-c.false) w.word_at_law.ensures (not-true _ c.if-not-w.true)
+    row_wrong b.args.s.now b.args.place b.args.c (not-false _ e.if-not-c.false) w.word_at-w.ensures (not-true _ c.if-not-w.true)
 
 returns_3 : tie.Need-returns
 returns_3 c =
@@ -21,7 +21,7 @@ returns_3 c =
     let w = o.before.before.before in
     let e = w.before in
     let b = e.before.before.before in
-    row_more b.args.s.now b.args.place b.args.c (not-false _ e.if-not-c.false) w.word_at_law.ensures (not-false _ o.if-not-w.false) c.put_time-more.ensures
+    row_more b.args.s.now b.args.place b.args.c (not-false _ e.if-not-c.false) w.word_at-w.ensures (not-false _ o.if-not-w.false) c.put_time-more.ensures
 
 pub row_turn_spec : {M : Type 1} → statement M
 row_turn_spec = tie.close (tie.spec returns (search rules) returns_2 (search rules) returns_3)

@@ -7,14 +7,14 @@ use Rattle.order_text.proofs.reading.rows_of.Statement.{statement}
 use Rattle.order_text.proofs.reading.rows_of.Tie as tie
 
 returns : tie.Need-returns-then-n-eq0
-returns c = let t = c.before in c.refused.ensures ∙ rows_none _ _ _ t.before.width_at-n.ensures.0 t.if-n-eq0.true
+returns c = let t = c.before in c.refused.ensures ∙ rows_none _ _ _ t.width_at-n.ensures.0 t.if-n-eq0.true
 
 returns_2 : tie.Need-returns-then-t-ne0
 returns_2 c =
     let t = c.before in
     let a = t.before.before in
     let e = a.before in
-    c.refused-then-t-ne0.ensures ∙ rows_wrong _ _ _ e.before.width_at-n.ensures.0 e.if-n-eq0.false a.table_at-t.ensures t.if-t-ne0.true
+    c.refused-then-t-ne0.ensures ∙ rows_wrong _ _ _ e.width_at-n.ensures.0 e.if-n-eq0.false a.table_at-t.ensures t.if-t-ne0.true
 
 returns_3 : tie.Need-returns-then-t-s
 returns_3 c =
@@ -22,7 +22,7 @@ returns_3 c =
     let o = t.before.before in
     let a = o.before.before in
     let e = a.before in
-    c.refused-then-t-s.ensures ∙ rows_on _ _ _ e.before.width_at-n.ensures.0 e.if-n-eq0.false a.table_at-t.ensures o.if-t-ne0.false t.if-t-s.true
+    c.refused-then-t-s.ensures ∙ rows_on _ _ _ e.width_at-n.ensures.0 e.if-n-eq0.false a.table_at-t.ensures o.if-t-ne0.false t.if-t-s.true
 
 returns-4 : tie.Need-returns
 returns-4 c =
@@ -30,12 +30,12 @@ returns-4 c =
     let o = t.before.before in
     let a = o.before.before in
     let e = a.before in
-    rows_read _ _ _ e.before.width_at-n.ensures.0 e.if-n-eq0.false a.table_at-t.ensures o.if-t-ne0.false t.if-t-s.false
+    rows_read _ _ _ e.width_at-n.ensures.0 e.if-n-eq0.false a.table_at-t.ensures o.if-t-ne0.false t.if-t-s.false
 
 pub rows_of_spec : {M : Type 1} → statement M
 rows_of_spec =
     tie.close
     (tie.spec (search rules) (λ c κs. let b = c.before in (omega arith, b.requires.1)) (search rules) returns
-    (λ c κs. let b = c.before.before.before in omega (arith, c.before.width_at-n.ensures.1, b.requires.1)) (search rules) returns_2
-    (λ c. let w = c.before.before.before.before.before.before in omega (arith, w.width_at-n.ensures.1, w.before.before.requires.1))
+    (λ c κs. let b = c.before.before.before in omega (arith, c.width_at-n.ensures.1, b.requires.1)) (search rules) returns_2
+    (λ c. let w = c.before.before.before.before.before.before in omega (arith, w.width_at-n.ensures.1, w.requires.1))
     (search rules) returns_3 returns-4)

@@ -18,12 +18,12 @@ decreases_loop s at n c₀ i₀ c i = n - i
 returns : tie.Need-returns invariant_loop decreases_loop
 unfolding table_at
 returns c =
-    let l = c.before.loop-i in
-    let e : l.i ≡ c.before.before.before.args.n = omega arith in
+    let l = c.loop-i in
+    let e : l.i ≡ c.args.n = omega arith in
     rw e at l.invariant.1
 
 pub table_at_spec : {M : Type 1} → statement M
 table_at_spec =
     tie.close
-    (tie.spec invariant_loop decreases_loop (λ c. (omega arith, iter_none _ _)) (λ c κs. (c.loop-i-test.true, c.before.before.before.requires)) (search rules)
-    (search rules) (λ c. let l = c.before.before.loop-i in (omega arith, iter_next _ _ l.i l.invariant.1 c.table_turn-c.ensures)) returns)
+    (tie.spec invariant_loop decreases_loop (λ c. (omega arith, iter_none _ _)) (λ c κs. (c.loop-i-test.true, c.requires)) (search rules)
+    (search rules) (λ c. let l = c.loop-i in (omega arith, iter_next _ _ l.i l.invariant.1 c.table_turn-c.ensures)) returns)

@@ -18,19 +18,19 @@ decreases_loop s at c₀ k₀ c k = length s - k
 
 loop-again : tie.Need-loop-k-preserved invariant_loop decreases_loop
 loop-again c =
-    let l = c.before.before.loop-k in
+    let l = c.loop-k in
     let e = c.width_turn-c.ensures in
     (omega arith, iter_next _ _ l.k l.invariant.1 e.0, omega (arith, e.1, l.invariant.2))
 
 returns : tie.Need-returns invariant_loop decreases_loop
 unfolding width_at
 returns c =
-    let l = c.before.loop-k in
-    let e : l.k ≡ length c.before.before.before.args.s.now = omega arith in
+    let l = c.loop-k in
+    let e : l.k ≡ length c.args.s.now = omega arith in
     (ap (λ d. d.count) (rw e at l.invariant.1), omega (arith, l.invariant.2, e))
 
 pub width_at_spec : {M : Type 1} → statement M
 width_at_spec =
     tie.close
-    (tie.spec invariant_loop decreases_loop (λ c. (omega arith, iter_none _ _, omega arith)) (search rules) (λ c κs. omega (arith, c.before.loop-k.invariant.2))
+    (tie.spec invariant_loop decreases_loop (λ c. (omega arith, iter_none _ _, omega arith)) (search rules) (λ c κs. omega (arith, c.loop-k.invariant.2))
     (search rules) (search rules) loop-again returns)

@@ -8,11 +8,11 @@ use Rattle.order_text.specs.TileTextLaws.{blank_within, word_none, word_empty, w
 use Rattle.order_text.proofs.reading.word_at.Statement.{statement}
 use Rattle.order_text.proofs.reading.word_at.Tie as tie
 
-blank : (c : tie.Else-byte-ne32) → let a = c.before.before.before.args in get_or a.s.now a.at 0 ≡ 32
-blank c = sym c.before.byte.ensures ∙ c.if-byte-ne32.false
+blank : (c : tie.Else-byte-ne32) → let a = c.args in get_or a.s.now a.at 0 ≡ 32
+blank c = sym c.byte.ensures ∙ c.if-byte-ne32.false
 
 returns : tie.Need-returns-then-byte-ne32
-returns c = let t = c.before in word_none _ _ (λ e. t.if-byte-ne32.true (t.before.byte.ensures ∙ e)) c.wrong_word.ensures
+returns c = let t = c.before in word_none _ _ (λ e. t.if-byte-ne32.true (t.byte.ensures ∙ e)) c.wrong_word.ensures
 
 returns_2 : tie.Need-returns-then-c-at
 returns_2 c = let t = c.before in let n = t.before.before in word_empty _ _ (blank n.before) n.number_at-c.ensures t.if-c-at.true c.wrong_word-then-c-at.ensures
@@ -20,8 +20,8 @@ returns_2 c = let t = c.before in let n = t.before.before in word_empty _ _ (bla
 returns_3 : tie.Need-returns
 returns_3 c = let n = c.before.before in word_some _ _ (blank n.before) n.number_at-c.ensures c.if-c-at.false
 
-inside : (c : tie.Else-byte-ne32) → let a = c.before.before.before.args in a.at < length a.s.now
-inside c = let a = c.before.before.before.args in blank_within a.s.now a.at (blank c)
+inside : (c : tie.Else-byte-ne32) → let a = c.args in a.at < length a.s.now
+inside c = let a = c.args in blank_within a.s.now a.at (blank c)
 
 pub word_at_spec : {M : Type 1} → statement M
 word_at_spec =

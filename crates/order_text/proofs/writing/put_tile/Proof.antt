@@ -6,8 +6,8 @@ use Rattle.order_text.proofs.writing.put_tile.Tie as tie
 
 returns : tie.Need-returns
 returns c =
-    let put_byte = c.before.before.before.before.before.before.put_byte-i in
-    puts_join put_byte.ensures c.before.before.put_digits.ensures
+    let put_byte = c.put_byte-i in
+    puts_join put_byte.ensures c.put_digits.ensures
 
 pub put_tile_spec : {M : Type 1} → statement M
 put_tile_spec = tie.close (tie.spec (search rules) (search rules) (search rules) returns)

@@ -7,13 +7,13 @@ use Rattle.order_text.proofs.writing.put_used_up.Tie as tie
 
 returns : tie.Need-put_all-requires-2
 returns c =
-    let if1 = c.before.before.before.before.before.if-exhausted in
+    let if1 = c.if-exhausted in
     rw if1.true (puts_most (omega arith) c.before.before.put_all_lem.ensures)
 
 returns_2 : tie.Need-returns
 returns_2 c =
-    let if1 = c.before.before.before.before.before.if-exhausted in
-    rw if1.false (puts_most (omega arith) c.before.before.put_all-2.ensures)
+    let if1 = c.if-exhausted in
+    rw if1.false (puts_most (omega arith) c.put_all-2.ensures)
 
 pub put_used_up_spec : {M : Type 1} → statement M
 put_used_up_spec = tie.close (tie.spec (search rules) (search rules) (search rules) returns (search rules) (search rules) (search rules) returns_2)

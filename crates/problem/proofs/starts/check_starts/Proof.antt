@@ -6,11 +6,11 @@ use Rattle.problem.proofs.starts.check_starts.Tie as tie
 
 returns : tie.Need-returns-then-k-n
 unfolding check_starts
-returns c = rw (← c.before.before.leading_starts-k.ensures, c.if-k-n.true)
+returns c = rw (← c.leading_starts-k.ensures, c.if-k-n.true)
 
 returns_2 : tie.Need-returns-else-k-n
 unfolding check_starts
-returns_2 c = rw (← c.before.before.leading_starts-k.ensures, c.if-k-n.false)
+returns_2 c = rw (← c.leading_starts-k.ensures, c.if-k-n.false)
 
 pub check_starts_spec : {M : Type 1} → statement M
 check_starts_spec = tie.close (tie.spec (λ c κs. search rules) returns returns_2)

@@ -21,13 +21,13 @@ loop-holds : tie.Need-loop-k-init invariant_loop decreases_loop
 loop-holds c = (omega arith, iter_none _ _)
 
 returns : tie.Need-returns-then-not-wheel_starts invariant_loop decreases_loop
-returns c = leading_stays _ _ _ _ c.before.before.before.loop-k.invariant.1 c.before.before.before.loop-k.invariant.0 (unmet c.before.wheel_starts.ensures c.if-not-wheel_starts.true)
+returns c = leading_stays _ _ _ _ c.loop-k.invariant.1 c.loop-k.invariant.0 (unmet c.wheel_starts.ensures c.if-not-wheel_starts.true)
 
 loop-again : tie.Need-loop-k-preserved invariant_loop decreases_loop
-loop-again c = (omega arith, leading_next _ _ _ _ c.before.before.before.loop-k.invariant.1 (met c.before.wheel_starts.ensures c.if-not-wheel_starts.false))
+loop-again c = (omega arith, leading_next _ _ _ _ c.loop-k.invariant.1 (met c.wheel_starts.ensures c.if-not-wheel_starts.false))
 
 returns_2 : tie.Need-returns invariant_loop decreases_loop
-returns_2 c = leading_whole _ _ _ _ c.before.loop-k.invariant.1 (omega arith)
+returns_2 c = leading_whole _ _ _ _ c.loop-k.invariant.1 (omega arith)
 
 pub leading_starts_spec : {M : Type 1} → statement M
 leading_starts_spec =

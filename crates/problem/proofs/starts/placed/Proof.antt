@@ -14,8 +14,8 @@ returns c =
     let after-place-start = after-place-start2.before in
     rw (
       c.place_start-8.ensures,
-      c.before.place_start-7.ensures,
-      c.before.before.place_start-6.ensures,
+      c.place_start-7.ensures,
+      c.place_start-6.ensures,
       after-place-start5.place_start-5.ensures,
       after-place-start4.place_start-4.ensures,
       after-place-start3.place_start-3.ensures,

@@ -7,7 +7,7 @@ use Rattle.problem_text.proofs.listing.end_at.Tie as tie
 
 returns : tie.Need-returns-then-at-s
 unfolding end_at
-returns c = simp (lt-ltb _ _ c.before.if-at-s.true) c.wrong_line.ensures
+returns c = simp (lt-ltb _ _ c.if-at-s.true) c.wrong_line.ensures
 
 returns_2 : tie.Need-returns
 unfolding end_at

@@ -10,17 +10,17 @@ use Rattle.problem_text.proofs.listing.first_line.Tie as tie
 returns : tie.Need-overflow_add-at
 unfolding first_line
 returns c =
-    let no-actuators = c.before.before.before.before.no_actuators-none in
-    simp (unmet c.before.before.is_at.ensures.is c.before.if-not-is_at.true) (rw no-actuators.ensures at c.wrong_line.ensures)
+    let no-actuators = c.no_actuators-none in
+    simp (unmet c.is_at.ensures.is c.if-not-is_at.true) (rw no-actuators.ensures at c.wrong_line.ensures)
 
 add-close-at : tie.Need-close_at-requires
-add-close-at c = omega (arith, c.before.is_at.ensures.within (not-false _ c.if-not-is_at.false))
+add-close-at c = omega (arith, c.is_at.ensures.within (not-false _ c.if-not-is_at.false))
 
 returns_2 : tie.Need-returns
 unfolding first_line
 returns_2 c =
-    let no-actuators = c.before.before.before.before.no_actuators-none in
-    simp (met c.before.before.is_at.ensures.is c.before.if-not-is_at.false) (rw no-actuators.ensures at c.close_at.ensures)
+    let no-actuators = c.no_actuators-none in
+    simp (met c.is_at.ensures.is c.if-not-is_at.false) (rw no-actuators.ensures at c.close_at.ensures)
 
 pub first_line_spec : {M : Type 1} → statement M
 first_line_spec = tie.close (tie.spec (search rules) (search rules) (search rules) (search rules) returns add-close-at (search rules) returns_2)

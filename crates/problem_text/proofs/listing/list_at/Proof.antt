@@ -21,7 +21,7 @@ decreases_loop s at c₀ k₀ c k = length s - k
 
 returns : tie.Need-returns-then-s-gt4096 invariant_loop decreases_loop
 unfolding list_at_value
-returns c = simp (lt-ltb _ _ c.before.before.if-s-gt4096.true) (rw c.before.no_actuators.ensures at c.wrong_line.ensures)
+returns c = simp (lt-ltb _ _ c.if-s-gt4096.true) (rw c.no_actuators.ensures at c.wrong_line.ensures)
 
 loop-holds : tie.Need-loop-k-init invariant_loop decreases_loop
 loop-holds c = (omega arith, iter_none _ _, rw c.first_line-c.ensures (counts_first _ _))
@@ -29,17 +29,17 @@ loop-holds c = (omega arith, iter_none _ _, rw c.first_line-c.ensures (counts_fi
 returns_2 : tie.Need-returns-then-not-c invariant_loop decreases_loop
 returns_2 c =
     let l = c.before.before.before in
-    list_early _ _ _ l.loop.c l.loop.k l.before.first_line-c.ensures l.loop-k.invariant.1 l.before.before.if-s-gt4096.false (omega arith) (not-true _ c.if-not-c.true)
+    list_early _ _ _ l.loop-k.c l.loop-k.k l.first_line-c.ensures l.loop-k.invariant.1 l.if-s-gt4096.false (omega arith) (not-true _ c.if-not-c.true)
 
 loop-again : tie.Need-loop-k-preserved invariant_loop decreases_loop
 loop-again c =
-    let l = c.before.before.before.before.loop-k in
-    (omega arith, iter_next _ _ _ l.invariant.1 (turn_goes _ l.k _ _ (not-false _ c.before.if-not-c.false) c.next_line_law.ensures), rw c.next_line_law.ensures (counts_next _ _ _ l.invariant.2))
+    let l = c.loop-k in
+    (omega arith, iter_next _ _ _ l.invariant.1 (turn_goes _ l.k _ _ (not-false _ c.if-not-c.false) c.next_line-c.ensures), rw c.next_line-c.ensures (counts_next _ _ _ l.invariant.2))
 
 returns_3 : tie.Need-returns invariant_loop decreases_loop
 returns_3 c =
     let l = c.before in
-    list_whole _ _ _ l.loop.c l.loop.k l.before.first_line-c.ensures l.loop-k.invariant.1 l.before.before.if-s-gt4096.false (omega arith)
+    list_whole _ _ _ l.loop-k.c l.loop-k.k l.first_line-c.ensures l.loop-k.invariant.1 l.if-s-gt4096.false (omega arith)
 
 pub list_at_spec : {M : Type 1} → statement M
 list_at_spec =

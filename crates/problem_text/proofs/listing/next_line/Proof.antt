@@ -8,14 +8,14 @@ use Rattle.problem_text.proofs.listing.next_line.Tie as tie
 returns : tie.Need-returns-then-item-c
 unfolding next_line
 returns c =
-    let item-at = c.before.before.before.before.item_at-item in
-    rw (← item-at.ensures) (simp (lt-ltb _ _ c.before.if-item-c.true) c.wrong_line.ensures)
+    let item-at = c.item_at-item in
+    rw (← item-at.ensures) (simp (lt-ltb _ _ c.if-item-c.true) c.wrong_line.ensures)
 
 returns_2 : tie.Need-returns
 unfolding next_line
 returns_2 c =
-    let item-at = c.before.before.before.before.before.before.item_at-item in
-    rw (← item-at.ensures) (simp (le-ltb _ _ c.before.before.before.if-item-c.false) (rw c.before.with_item-more.ensures at c.close_at.ensures))
+    let item-at = c.item_at-item in
+    rw (← item-at.ensures) (simp (le-ltb _ _ c.if-item-c.false) (rw c.with_item-more.ensures at c.close_at.ensures))
 
 pub next_line_spec : {M : Type 1} → statement M
 next_line_spec = tie.close (tie.spec (search rules) (search rules) returns (search rules) (search rules) returns_2)

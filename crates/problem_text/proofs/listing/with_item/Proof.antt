@@ -7,15 +7,15 @@ use Rattle.problem_text.proofs.listing.with_item.Tie as tie
 
 returns : tie.Need-returns-then-item-eq1
 unfolding with_item
-returns c = simp (eq-eqb _ _ c.before.if-item-eq1.true) c.with_wheel.ensures
+returns c = simp (eq-eqb _ _ c.if-item-eq1.true) c.with_wheel.ensures
 
 returns_2 : tie.Need-returns-then-item-eq2
 unfolding with_item
-returns_2 c = simp (ne_eqb _ _ c.before.before.before.if-item-eq1.false, eq-eqb _ _ c.before.if-item-eq2.true) c.with_thruster.ensures
+returns_2 c = simp (ne_eqb _ _ c.if-item-eq1.false, eq-eqb _ _ c.if-item-eq2.true) c.with_thruster.ensures
 
 returns_3 : tie.Need-returns
 unfolding with_item
-returns_3 c = simp (ne_eqb _ _ c.before.before.before.if-item-eq1.false, ne_eqb _ _ c.before.if-item-eq2.false) c.with_pyramid.ensures
+returns_3 c = simp (ne_eqb _ _ c.if-item-eq1.false, ne_eqb _ _ c.if-item-eq2.false) c.with_pyramid.ensures
 
 pub with_item_spec : {M : Type 1} → statement M
 with_item_spec = tie.close (tie.spec (search rules) returns (search rules) returns_2 (search rules) returns_3)

@@ -6,7 +6,7 @@ use Rattle.problem_text.proofs.listing.with_thruster.Tie as tie
 
 returns : tie.Need-returns
 unfolding with_thruster
-returns c = rw c.before.put_thruster-more.ensures
+returns c = rw c.put_thruster-more.ensures
 
 pub with_thruster_spec : {M : Type 1} → statement M
 with_thruster_spec = tie.close (tie.spec (search rules) (search rules) (search rules) (search rules) (search rules) (search rules) returns)

@@ -6,7 +6,7 @@ use Rattle.problem_text.proofs.listing.with_wheel.Tie as tie
 
 returns : tie.Need-returns
 unfolding with_wheel
-returns c = rw c.before.put_wheel-more.ensures
+returns c = rw c.put_wheel-more.ensures
 
 pub with_wheel_spec : {M : Type 1} → statement M
 with_wheel_spec = tie.close (tie.spec (search rules) (search rules) (search rules) (search rules) (search rules) (search rules) (search rules) returns)

@@ -6,7 +6,7 @@ use Rattle.profile.proofs.Profile.angle.Tie as tie
 
 returns : tie.Need-returns-then-t-self
 unfolding angle of_bits
-returns c = rw c.before.if-t-self.true
+returns c = rw c.if-t-self.true
 
 returns_2 : tie.Need-returns-then-t-t_dec
 unfolding angle of_bits

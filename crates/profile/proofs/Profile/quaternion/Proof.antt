@@ -9,13 +9,13 @@ use Rattle.profile.proofs.Profile.quaternion.Tie as tie
 returns : tie.Need-returns-in-Are
 unfolding quaternion of_bits
 returns c =
-    let after-sin-cos = c.before.before.before.before in
+    let after-sin-cos = c.before.before in
     let after-angle = after-sin-cos.before in
-    rw (← at_once_law, ← after-angle.angle.ensures, ← after-sin-cos.sin_cos-half.ensures, c.before.before.half-1.given.1, c.mul.ensures)
+    rw (← at_once_law, ← after-angle.angle.ensures, ← after-sin-cos.sin_cos-half.ensures, c.in-Are.is, c.mul.ensures)
 
 returns_2 : tie.Need-returns-in-Outside
 unfolding quaternion of_bits
-returns_2 c = rw (← at_once_law, ← c.before.before.before.angle.ensures, ← c.before.before.sin_cos-half.ensures, c.enum_told-1.given.1)
+returns_2 c = rw (← at_once_law, ← c.angle.ensures, ← c.sin_cos-half.ensures, c.in-Outside.is)
 
 pub quaternion_spec : {M : Type 1} → statement M
 quaternion_spec =

@@ -5,15 +5,15 @@ use Rattle.profile.proofs.Profile.rate.Tie as tie
 
 returns : tie.Need-returns-then-t-self
 unfolding rate
-returns c = rw c.before.if-t-self.true
+returns c = rw c.if-t-self.true
 
 returns_2 : tie.Need-returns-then-t-t_dec
 unfolding rate
-returns_2 c = rw (c.before.if-t-self.false, c.if-t-t_dec.true)
+returns_2 c = rw (c.if-t-self.false, c.if-t-t_dec.true)
 
 returns_3 : tie.Need-returns-else-t-t_dec
 unfolding rate
-returns_3 c = rw (c.before.before.before.if-t-self.false, c.before.before.if-t-t_dec.false)
+returns_3 c = rw (c.if-t-self.false, c.if-t-t_dec.false)
 
 pub rate_spec : {M : Type 1} → statement M
 rate_spec = tie.close (tie.spec returns returns_2 returns_3)

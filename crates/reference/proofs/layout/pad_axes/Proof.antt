@@ -20,11 +20,11 @@ loop-holds : tie.Need-loop-i-init invariant_loop decreases_loop
 loop-holds c = (search rules, (search rules, iter_none _ _))
 
 loop-again : tie.Need-loop-i-preserved invariant_loop decreases_loop
-loop-again c = (search rules, (search rules, iter_next _ _ _ c.before.before.loop-i.invariant.1.1 refl))
+loop-again c = (search rules, (search rules, iter_next _ _ _ c.loop-i.invariant.1.1 refl))
 
 returns : tie.Need-returns invariant_loop decreases_loop
 unfolding Layouts.pad_axes Ieee.of_bits
-returns c = let e : c.before.loop-i.i ≡ 24 = omega arith in rw (← e) c.before.loop-i.invariant.1.1
+returns c = let e : c.loop-i.i ≡ 24 = omega arith in rw (← e) c.loop-i.invariant.1.1
 
 pub pad_axes_spec : {M : Type 1} → statement M
 pad_axes_spec =

@@ -5,11 +5,11 @@ use lib.Ieee as Ieee
 
 returns : tie.Need-returns-in-Nothing
 unfolding Ieee.of_bits
-returns c = rw c.enum_told-1.given.1
+returns c = rw c.in-Nothing.is
 
 returns_2 : tie.Need-returns-in-At
 unfolding Ieee.of_bits
-returns_2 c = rw c.before.limit-1.given.1
+returns_2 c = rw c.in-At.is
 
 pub power_limit_spec : {M : Type 1} → statement M
 power_limit_spec =

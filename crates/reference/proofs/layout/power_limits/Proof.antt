@@ -6,7 +6,7 @@ use Rattle.reference.specs.Layouts as Layouts
 
 returns : tie.Need-returns
 unfolding Layouts.power_limits_value Ieee.of_bits
-returns c = rw (c.power_limit-h.ensures, c.before.before.power_limit-g.ensures, c.before.before.before.before.power_limit-f.ensures, c.before.before.before.before.before.before.power_limit-e.ensures, c.before.before.before.before.before.before.before.before.power_limit-d.ensures, c.before.before.before.before.before.before.before.before.before.before.power_limit-c.ensures, c.before.before.before.before.before.before.before.before.before.before.before.before.power_limit-b.ensures, c.before.before.before.before.before.before.before.before.before.before.before.before.before.before.power_limit-a.ensures)
+returns c = rw (c.power_limit-h.ensures, c.power_limit-g.ensures, c.power_limit-f.ensures, c.power_limit-e.ensures, c.power_limit-d.ensures, c.power_limit-c.ensures, c.power_limit-b.ensures, c.power_limit-a.ensures)
 
 pub power_limits_spec : {M : Type 1} → statement M
 power_limits_spec =

@@ -5,7 +5,7 @@ use Rattle.reference.specs.Layouts as Layouts
 
 returns : tie.Need-returns
 unfolding Layouts.wheel_layout
-returns c = rw (c.power_limits-power_limits.ensures, c.before.pad_to_twelve-start.ensures, c.before.before.pad_to_twelve-momentum_limits.ensures, c.before.before.before.pad_to_twelve-limits.ensures, c.before.before.before.before.pad_axes-axes.ensures)
+returns c = rw (c.power_limits-power_limits.ensures, c.pad_to_twelve-start.ensures, c.pad_to_twelve-momentum_limits.ensures, c.pad_to_twelve-limits.ensures, c.pad_axes-axes.ensures)
 
 pub wheel_layout_spec : {M : Type 1} → statement M
 wheel_layout_spec =

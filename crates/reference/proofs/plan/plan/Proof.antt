@@ -12,18 +12,18 @@ use Rattle.reference.specs.PlanLaws.{refused_answer}
 
 returns : tie.Need-returns-then-steps-gt100000
 unfolding Plans.plan
-returns c = (rw (lt-ltb _ _ c.before.if-steps-gt100000.true, c.refuse.ensures), rw c.refuse.ensures (refused_answer _ _))
+returns c = (rw (lt-ltb _ _ c.if-steps-gt100000.true, c.refuse.ensures), rw c.refuse.ensures (refused_answer _ _))
 
 plan-checked-requires : tie.Need-plan_checked-requires
-plan-checked-requires c κs = let g : (Problems.check-checked c.before.before.before.before.before.args.p).fate-1 ≡ Going = rw c.before.before.before.check-checked.ensures at c.enum_told-1.given.1 in (rw c.before.before.before.check-checked.ensures (passed_sized _ g), omega arith)
+plan-checked-requires c κs = let g : (Problems.check-checked c.args.p).fate-1 ≡ Going = rw c.check-checked.ensures at c.in-Going.is in (rw c.check-checked.ensures (passed_sized _ g), omega arith)
 
 returns_2 : tie.Need-returns-in-Refused
 unfolding Plans.plan
-returns_2 c = (rw (le-ltb _ _ c.before.before.before.before.before.before.if-steps-gt100000.false, ← c.before.before.before.before.before.check-checked.ensures, c.before.before.fate-1.given.1, c.refuse-in-Refused.ensures), rw c.refuse-in-Refused.ensures (refused_answer _ _))
+returns_2 c = (rw (le-ltb _ _ c.if-steps-gt100000.false, ← c.check-checked.ensures, c.in-Refused.is, c.refuse-in-Refused.ensures), rw c.refuse-in-Refused.ensures (refused_answer _ _))
 
 returns_3 : tie.Need-returns-in-Going
 unfolding Plans.plan
-returns_3 c = (rw (le-ltb _ _ c.before.before.before.before.before.if-steps-gt100000.false, ← c.before.before.before.before.check-checked.ensures, c.before.enum_told-1.given.1) c.plan_checked.ensures.0, c.plan_checked.ensures.1)
+returns_3 c = (rw (le-ltb _ _ c.if-steps-gt100000.false, ← c.check-checked.ensures, c.in-Going.is) c.plan_checked.ensures.0, c.plan_checked.ensures.1)
 
 pub plan_spec : {M : Type 1} → statement M
 plan_spec =

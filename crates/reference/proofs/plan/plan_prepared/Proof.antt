@@ -11,11 +11,11 @@ verify-requires c κs = rw c.with_times-reference.ensures (search rules)
 
 returns : tie.Need-returns-in-At
 unfolding Prepare.with_times-reference
-returns c = (rw (c.before.before.before.duration-1.given.1, c.verify-verdict.ensures.is, c.before.with_times-reference.ensures), record { trials = omega arith; samples = omega (arith, c.verify-verdict.ensures.few); few = rw c.before.with_times-reference.ensures c.before.before.before.before.before.requires.0; steps = rw c.before.with_times-reference.ensures c.before.before.before.before.before.requires.1; promised = c.verify-verdict.ensures.promised })
+returns c = (rw (c.in-At.is, c.verify-verdict.ensures.is, c.with_times-reference.ensures), record { trials = omega arith; samples = omega (arith, c.verify-verdict.ensures.few); few = rw c.with_times-reference.ensures c.requires.0; steps = rw c.with_times-reference.ensures c.requires.1; promised = c.verify-verdict.ensures.promised })
 
 returns_2 : tie.Need-returns-in-Nothing
 unfolding Prepare.with_times-reference
-returns_2 c = (rw (c.before.before.enum_told-1.given.1, c.with_times-reference-in-Nothing.ensures, c.before.shortest-found.ensures.is), record { trials = c.before.shortest-found.ensures.trials; samples = omega (arith, c.before.shortest-found.ensures.samples, times_steps c.before.before.before.before.args.r _ c.before.before.before.before.args.r.steps c.with_times-reference-in-Nothing.ensures); few = rw c.with_times-reference-in-Nothing.ensures c.before.before.before.before.requires.0; steps = rw c.with_times-reference-in-Nothing.ensures c.before.before.before.before.requires.1; promised = λ g. rw c.with_times-reference-in-Nothing.ensures (c.before.shortest-found.ensures.promised g) })
+returns_2 c = (rw (c.in-Nothing.is, c.with_times-reference-in-Nothing.ensures, c.shortest-found.ensures.is), record { trials = c.shortest-found.ensures.trials; samples = omega (arith, c.shortest-found.ensures.samples, times_steps c.args.r _ c.args.r.steps c.with_times-reference-in-Nothing.ensures); few = rw c.with_times-reference-in-Nothing.ensures c.requires.0; steps = rw c.with_times-reference-in-Nothing.ensures c.requires.1; promised = λ g. rw c.with_times-reference-in-Nothing.ensures (c.shortest-found.ensures.promised g) })
 
 pub plan_prepared_spec : {M : Type 1} → statement M
 plan_prepared_spec =

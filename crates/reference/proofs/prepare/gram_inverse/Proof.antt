@@ -5,7 +5,7 @@ use Rattle.reference.specs.Prepare as Prepare
 
 returns : tie.Need-returns
 unfolding Prepare.gram_inverse
-returns c = rw (c.invert3.ensures, c.before.tensor.ensures, c.before.before.gram_matrix.ensures)
+returns c = rw (c.invert3.ensures, c.tensor.ensures, c.gram_matrix.ensures)
 
 pub gram_inverse_spec : {M : Type 1} → statement M
 gram_inverse_spec =

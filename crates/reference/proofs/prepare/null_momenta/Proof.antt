@@ -6,7 +6,7 @@ use Rattle.reference.specs.Prepare as Prepare
 
 returns : tie.Need-returns
 unfolding Prepare.null_momenta_value Ieee.of_bits
-returns c = rw (c.subtract_scaled.ensures, c.before.allocate-row_part.ensures)
+returns c = rw (c.subtract_scaled.ensures, c.allocate-row_part.ensures)
 
 pub null_momenta_spec : {M : Type 1} → statement M
 null_momenta_spec =

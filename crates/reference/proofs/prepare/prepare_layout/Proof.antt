@@ -5,7 +5,7 @@ use Rattle.reference.specs.Prepare as Prepare
 
 returns : tie.Need-returns
 unfolding Prepare.prepare_layout
-returns c = rw (c.first_refusal-fate.ensures, c.before.rotation_fate.ensures, c.before.before.null_momenta-null_part.ensures, c.before.before.before.total_momentum-total.ensures, c.before.before.before.before.before.before.before.before.before.before.gram_inverse-inverse.ensures, c.before.before.before.before.before.before.before.before.before.before.before.vector_or_zero-phi.ensures, c.before.before.before.before.before.before.before.before.before.before.before.before.rotation_vector-rotation.ensures)
+returns c = rw (c.first_refusal-fate.ensures, c.rotation_fate.ensures, c.null_momenta-null_part.ensures, c.total_momentum-total.ensures, c.gram_inverse-inverse.ensures, c.vector_or_zero-phi.ensures, c.rotation_vector-rotation.ensures)
 
 pub prepare_layout_spec : {M : Type 1} → statement M
 prepare_layout_spec =

@@ -5,11 +5,11 @@ use Rattle.reference.specs.Prepare as Prepare
 use Rattle.reference.specs.CountLaws.{table_few}
 
 prepare-layout-requires : tie.Need-prepare_layout-requires
-prepare-layout-requires c κs = rw c.layout_of-l.ensures (table_few _ _ _ c.before.before.before.before.requires)
+prepare-layout-requires c κs = rw c.layout_of-l.ensures (table_few _ _ _ c.requires)
 
 returns : tie.Need-returns
 unfolding Prepare.prepare_reference Prepare.prepare_layout
-returns c = (rw (c.prepare_layout.ensures, c.before.layout_of-l.ensures), rw (c.prepare_layout.ensures, c.before.layout_of-l.ensures) (table_few _ _ _ c.before.before.before.before.before.requires))
+returns c = (rw (c.prepare_layout.ensures, c.layout_of-l.ensures), rw (c.prepare_layout.ensures, c.layout_of-l.ensures) (table_few _ _ _ c.requires))
 
 pub prepare_reference_spec : {M : Type 1} → statement M
 prepare_reference_spec =

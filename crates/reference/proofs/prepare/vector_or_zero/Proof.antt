@@ -5,11 +5,11 @@ use lib.Ieee as Ieee
 
 returns : tie.Need-returns-in-Outside
 unfolding Ieee.of_bits
-returns c = rw c.enum_told-1.given.1
+returns c = rw c.in-Outside.is
 
 returns_2 : tie.Need-returns-in-By
 unfolding Ieee.of_bits
-returns_2 c = rw c.before.t-1.given.1
+returns_2 c = rw c.in-By.is
 
 pub vector_or_zero_spec : {M : Type 1} → statement M
 vector_or_zero_spec =

@@ -19,13 +19,13 @@ loop-holds : tie.Need-loop-k-init invariant_loop decreases_loop
 loop-holds c = (search rules, (iter_none _ _, record { trials = omega arith; samples = omega arith }))
 
 lengthen-requires : tie.Need-lengthen-s-requires invariant_loop decreases_loop
-lengthen-requires c κs = (search rules, (search rules, record { trials = omega (arith, c.before.loop-k.invariant.1.1.trials, c.before.before.requires.1.1.trials); samples = omega (arith, c.before.loop-k.invariant.1.1.samples, c.before.before.requires.1.1.samples) }))
+lengthen-requires c κs = (search rules, (search rules, record { trials = omega (arith, c.loop-k.invariant.1.1.trials, c.requires.1.1.trials); samples = omega (arith, c.loop-k.invariant.1.1.samples, c.requires.1.1.samples) }))
 
 loop-again : tie.Need-loop-k-preserved invariant_loop decreases_loop
-loop-again c = let a : c.lengthen-s.result.count ≤ c.before.before.loop-k.s.count + 1 = rw c.lengthen-s.ensures (lengthen_count _ _ _ _) in let b : c.lengthen-s.result.samples ≤ c.before.before.loop-k.s.samples + (c.before.before.before.args.steps + 2) = rw c.lengthen-s.ensures (lengthen_samples _ _ _ _) in (search rules, (iter_next _ _ _ c.before.before.loop-k.invariant.1.0 c.lengthen-s.ensures, record { trials = omega (arith, a, c.before.before.loop-k.invariant.1.1.trials); samples = omega (arith, b, c.before.before.loop-k.invariant.1.1.samples, c.before.before.before.requires.1.0) }))
+loop-again c = let a : c.lengthen-s.result.count ≤ c.loop-k.s.count + 1 = rw c.lengthen-s.ensures (lengthen_count _ _ _ _) in let b : c.lengthen-s.result.samples ≤ c.loop-k.s.samples + (c.args.steps + 2) = rw c.lengthen-s.ensures (lengthen_samples _ _ _ _) in (search rules, (iter_next _ _ _ c.loop-k.invariant.1.0 c.lengthen-s.ensures, record { trials = omega (arith, a, c.loop-k.invariant.1.1.trials); samples = omega (arith, b, c.loop-k.invariant.1.1.samples, c.requires.1.0) }))
 
 returns : tie.Need-returns invariant_loop decreases_loop
-returns c = let e : c.before.loop-k.k ≡ c.before.before.args.n = omega arith in (rw (← e) c.before.loop-k.invariant.1.0, record { trials = omega (arith, c.before.loop-k.invariant.1.1.trials); samples = omega (arith, c.before.loop-k.invariant.1.1.samples) })
+returns c = let e : c.loop-k.k ≡ c.args.n = omega arith in (rw (← e) c.loop-k.invariant.1.0, record { trials = omega (arith, c.loop-k.invariant.1.1.trials); samples = omega (arith, c.loop-k.invariant.1.1.samples) })
 
 pub lengthen_repeatedly_spec : {M : Type 1} → statement M
 lengthen_repeatedly_spec =

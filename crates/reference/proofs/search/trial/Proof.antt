@@ -11,16 +11,16 @@ unfolding Prepare.with_times
 verify-requires c κs = rw c.with_times.ensures (search rules)
 
 record-pass-requires : tie.Need-record_pass-requires
-record-pass-requires c κs = let h = times_steps _ _ _ c.before.before.before.with_times.ensures in (search rules, omega (arith, h, c.before.before.verify-verdict.ensures.few, c.before.before.before.before.requires.1.0))
+record-pass-requires c κs = let h = times_steps _ _ _ c.with_times.ensures in (search rules, omega (arith, h, c.verify-verdict.ensures.few, c.requires.1.0))
 
 record-refusal-requires : tie.Need-record_refusal-requires
-record-refusal-requires c κs = let h = times_steps _ _ _ c.before.before.before.before.with_times.ensures in (search rules, omega (arith, h, c.before.before.before.verify-verdict.ensures.few, c.before.before.before.before.before.requires.1.0))
+record-refusal-requires c κs = let h = times_steps _ _ _ c.with_times.ensures in (search rules, omega (arith, h, c.verify-verdict.ensures.few, c.requires.1.0))
 
 returns : tie.Need-returns-in-Going
-returns c = c.record_pass.ensures ∙ trial_passes _ _ _ _ _ c.before.before.before.before.with_times.ensures c.before.before.before.verify-verdict.ensures.is c.before.enum_told-1.given.1
+returns c = c.record_pass.ensures ∙ trial_passes _ _ _ _ _ c.with_times.ensures c.verify-verdict.ensures.is c.in-Going.is
 
 returns_2 : tie.Need-returns-in-Refused
-returns_2 c = c.record_refusal.ensures ∙ trial_refused _ _ _ _ _ c.before.before.before.before.before.with_times.ensures c.before.before.before.before.verify-verdict.ensures.is c.before.before.fate-1.given.1
+returns_2 c = c.record_refusal.ensures ∙ trial_refused _ _ _ _ _ c.with_times.ensures c.verify-verdict.ensures.is c.in-Refused.is
 
 pub trial_spec : {M : Type 1} → statement M
 trial_spec =

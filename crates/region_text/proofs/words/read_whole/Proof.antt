@@ -17,14 +17,14 @@ returns_2 : tie.Need-returns-then-word-eq45
 unfolding whole
 returns_2 c =
     let then = c.before.before.before in
-    let s = then.before.before.before.before.args.word.now in
-    rw (ne_eqb _ _ then.before.before.if-word-eq0.false, eq-eqb _ _ then.if-word-eq45.true, c.signed.ensures, c.before.read_requested.ensures, take_all (length s - 1) (drop 1 s) (omega (arith, length-drop 1 s)))
+    let s = then.args.word.now in
+    rw (ne_eqb _ _ then.if-word-eq0.false, eq-eqb _ _ then.if-word-eq45.true, c.signed.ensures, c.read_requested.ensures, take_all (length s - 1) (drop 1 s) (omega (arith, length-drop 1 s)))
 
 returns_3 : tie.Need-returns
 unfolding whole
 returns_3 c =
     let other = c.before.before in
-    rw (ne_eqb _ _ other.before.before.if-word-eq0.false, ne_eqb _ _ other.if-word-eq45.false, c.signed-2.ensures, c.before.read_requested-2.ensures)
+    rw (ne_eqb _ _ other.if-word-eq0.false, ne_eqb _ _ other.if-word-eq45.false, c.signed-2.ensures, c.read_requested-2.ensures)
 
 pub read_whole_spec : {M : Type 1} → statement M
 read_whole_spec =

@@ -10,11 +10,11 @@ with-sign-requires c κs = rw c.clipped.ensures (clipped_most _)
 
 returns : tie.Need-returns-in-Not
 unfolding signed
-returns c = rw c.enum_told-1.given.1
+returns c = rw c.in-Not.is
 
 returns_2 : tie.Need-returns-in-Of
 unfolding signed
-returns_2 c = rw (c.with_sign.ensures, c.before.clipped.ensures, c.before.before.before.size-1.given.1)
+returns_2 c = rw (c.with_sign.ensures, c.clipped.ensures, c.in-Of.is)
 
 pub signed_spec : {M : Type 1} → statement M
 signed_spec = tie.close (tie.spec (search rules) (search rules) (search rules) with-sign-requires returns returns_2)

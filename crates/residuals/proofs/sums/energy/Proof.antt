@@ -28,7 +28,7 @@ loop-again c =
 
 returns : tie.Need-returns invariant_loop decreases_loop
 unfolding Sums.energy
-returns c = let e : c.before.loop-i.i ≡ 16 = omega arith in rw e at c.before.loop-i.invariant.1
+returns c = let e : c.loop-i.i ≡ 16 = omega arith in rw e at c.loop-i.invariant.1
 
 pub energy_spec : {M : Type 1} → statement M
 energy_spec =

@@ -6,7 +6,7 @@ use Rattle.residuals.proofs.sums.energy_turn.Tie as tie
 
 returns : tie.Need-returns
 unfolding node_from
-returns c = rw (c.abs.ensures, c.before.dot3.ensures, c.before.before.rate_in-w.ensures, c.before.before.before.torque_in-tau.ensures)
+returns c = rw (c.abs.ensures, c.dot3.ensures, c.rate_in-w.ensures, c.torque_in-tau.ensures)
 
 pub energy_turn_spec : {M : Type 1} → statement M
 energy_turn_spec =

@@ -19,13 +19,13 @@ loop-holds : tie.Need-loop-k-init invariant_loop decreases_loop
 loop-holds c = (search rules, iter_none _ _)
 
 loop-again : tie.Need-loop-k-preserved invariant_loop decreases_loop
-loop-again c = (search rules, iter_next _ _ _ c.before.before.before.loop-k.invariant.1 refl)
+loop-again c = (search rules, iter_next _ _ _ c.loop-k.invariant.1 refl)
 
 returns : tie.Need-returns invariant_loop decreases_loop
 unfolding Sums.norm_slice
 returns c =
     let entry = c.before.before.before.before in
-    let e : c.before.before.loop-k.k ≡ entry.args.n = omega arith in rw (c.sqrt.ensures, c.before.before.loop-k.invariant.1, e)
+    let e : c.loop-k.k ≡ entry.args.n = omega arith in rw (c.sqrt.ensures, c.loop-k.invariant.1, e)
 
 pub norm_slice_spec : {M : Type 1} → statement M
 norm_slice_spec =

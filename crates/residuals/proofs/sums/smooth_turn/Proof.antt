@@ -9,8 +9,8 @@ use Rattle.residuals.proofs.sums.smooth_turn.Tie as tie
 returns : tie.Need-returns
 unfolding Sums.smooth_of Ieee.of_bits node_from
 returns c =
-    let rate-in = c.before.before.before.before.rate_in-w in
-    rw (c.norm3-x.ensures, c.before.scale3.ensures, c.before.before.sub3.ensures, c.before.before.before.rate_in-w2.ensures, rate-in.ensures)
+    let rate-in = c.rate_in-w in
+    rw (c.norm3-x.ensures, c.scale3.ensures, c.sub3.ensures, c.rate_in-w2.ensures, rate-in.ensures)
 
 pub smooth_turn_spec : {M : Type 1} → statement M
 smooth_turn_spec =

@@ -17,7 +17,7 @@ returns c =
     record {
       few = omega arith;
       long = s.long;
-      energy = iter_next _ _ a.k s.energy (c.before.energy_turn-energy.ensures ∙ energy_turns a.nodes.now a.dt a.k a.s.energy (omega (arith, s.long)));
+      energy = iter_next _ _ a.k s.energy (c.energy_turn-energy.ensures ∙ energy_turns a.nodes.now a.dt a.k a.s.energy (omega (arith, s.long)));
       smooth = rw e at s.smooth;
     }
 

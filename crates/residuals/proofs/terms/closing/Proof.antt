@@ -24,22 +24,22 @@ smooth-requires c κs =
 returns : tie.Need-returns
 unfolding Residuals.closing Ieee.of_bits node_from
 returns c =
-    let momenta-in = c.before.before.before.before.before.before.before.before.before.before.momenta_in-hw in
-    let effort = c.before.before.before.before.before.before.before.before.before.effort in
-    let weighted = c.before.before.before.before.before.before.before.before.weighted-control in
-    let energy = c.before.before.before.before.before.before.before.energy in
-    let weighted2 = c.before.before.before.before.before.before.weighted-spent in
-    let smooth = c.before.before.before.before.smooth in
+    let momenta-in = c.momenta_in-hw in
+    let effort = c.effort in
+    let weighted = c.weighted-control in
+    let energy = c.energy in
+    let weighted2 = c.weighted-spent in
+    let smooth = c.smooth in
     let start = c.before.before.before.before.before.before.before.before.before.before.before.before.before.before.before.before in
     rw (
-      c.before.before.sqrt.ensures,
+      c.sqrt.ensures,
       weighted.ensures,
       effort.ensures,
       weighted2.ensures,
       energy.ensures,
-      c.before.before.before.weighted-change.ensures,
+      c.weighted-change.ensures,
       smooth.ensures,
-      c.before.sqrt-2.ensures,
+      c.sqrt-2.ensures,
       c.stored.ensures,
       momenta-in.ensures,
       nodes_at start.args.nodes.now 16 (omega (arith, start.requires.1.1.long)),

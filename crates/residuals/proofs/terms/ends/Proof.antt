@@ -8,8 +8,8 @@ use Rattle.residuals.proofs.terms.ends.Tie as tie
 returns : tie.Need-returns
 unfolding Residuals.ends Ieee.of_bits
 returns c =
-    let scale3 = c.before.before.before.before.scale3 in
-    rw (c.put3-2.ensures, c.before.scale3-2.ensures, c.before.before.before.put3.ensures, scale3.ensures)
+    let scale3 = c.scale3 in
+    rw (c.put3-2.ensures, c.scale3-2.ensures, c.put3.ensures, scale3.ensures)
 
 pub ends_spec : {M : Type 1} → statement M
 ends_spec =

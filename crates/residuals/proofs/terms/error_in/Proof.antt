@@ -6,7 +6,7 @@ use Rattle.residuals.proofs.terms.error_in.Tie as tie
 
 returns : tie.Need-returns
 unfolding node_from
-returns c = rw (c.rotation_between.ensures, c.before.attitude_in-q.ensures)
+returns c = rw (c.rotation_between.ensures, c.attitude_in-q.ensures)
 
 pub error_in_spec : {M : Type 1} → statement M
 error_in_spec =

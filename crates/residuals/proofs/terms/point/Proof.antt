@@ -4,12 +4,12 @@ use Rattle.residuals.proofs.terms.point.Statement.{statement}
 use Rattle.residuals.proofs.terms.point.Tie as tie
 
 returns : tie.Need-returns-in-Outside
-returns c = rw c.enum_told-1.given.1
+returns c = rw c.in-Outside.is
 
 returns_2 : tie.Need-returns-in-By
 returns_2 c =
-    let error = c.before.before.before.before.error-1 in
-    rw (error.given.1, c.put3.ensures, c.before.scale3.ensures)
+    let error = c.error-1 in
+    rw (error.given.1, c.put3.ensures, c.scale3.ensures)
 
 pub point_spec : {M : Type 1} → statement M
 point_spec =

@@ -21,28 +21,28 @@ loop-holds : tie.Need-loop-j-init invariant_loop decreases_loop
 loop-holds c = (omega arith, iter_none _ _)
 
 error-at-requires : tie.Need-error_at-requires invariant_loop decreases_loop
-error-at-requires c κs = (c.loop-j-test.true, c.before.before.requires)
+error-at-requires c κs = (c.loop-j-test.true, c.requires)
 
 returns : tie.Need-returns-in-Refused invariant_loop decreases_loop
 returns c =
-    let t = c.before.before in
+    let t = c.before in
     let f = t.before.before in
-    let l = f.before.before.loop-j in
-    let a = f.before.before.before.args in
+    let l = f.loop-j in
+    let a = f.args in
     let next = rows_next a.scale (nodes_from a.nodes.now) a.qf a.r.now l.j l.r l.invariant.1 (t.point-fate.ensures ∙ ap (λ (e : Rotation). Residuals.point_by e a.scale l.j l.r) f.error_at.ensures) in
-    rw c.enum_told-1.given.1 (rows_refused a.scale (nodes_from a.nodes.now) a.qf a.r.now (l.j + 1) 16 _ _ (omega arith) (rw c.enum_told-1.given.1 at next))
+    rw c.in-Refused.is (rows_refused a.scale (nodes_from a.nodes.now) a.qf a.r.now (l.j + 1) 16 _ _ (omega arith) (rw c.in-Refused.is at next))
 
 loop-again : tie.Need-loop-j-preserved invariant_loop decreases_loop
 loop-again c =
-    let t = c.before.before in
+    let t = c.before in
     let f = t.before.before in
-    let l = f.before.before.loop-j in
-    let a = f.before.before.before.args in
+    let l = f.loop-j in
+    let a = f.args in
     let next = rows_next a.scale (nodes_from a.nodes.now) a.qf a.r.now l.j l.r l.invariant.1 (t.point-fate.ensures ∙ ap (λ (e : Rotation). Residuals.point_by e a.scale l.j l.r) f.error_at.ensures) in
-    (omega arith, rw c.enum_told-in-Going-1.given.1 at next)
+    (omega arith, rw c.in-Going.is at next)
 
 returns_2 : tie.Need-returns invariant_loop decreases_loop
-returns_2 c = let e : c.before.loop-j.j ≡ 16 = omega arith in rw e at c.before.loop-j.invariant.1
+returns_2 c = let e : c.loop-j.j ≡ 16 = omega arith in rw e at c.loop-j.invariant.1
 
 pub pointed_spec : {M : Type 1} → statement M
 pointed_spec =

@@ -8,25 +8,25 @@ use Rattle.residuals.proofs.terms.with_pointing.Statement.{statement}
 use Rattle.residuals.proofs.terms.with_pointing.Tie as tie
 
 pointed-requires : tie.Need-pointed-fate-requires
-pointed-requires c κs = let pre = c.before.before.before.before.before.before.requires in (pre.1.0.long, pre.1.1.kept)
+pointed-requires c κs = let pre = c.requires in (pre.1.0.long, pre.1.1.kept)
 
 returns : tie.Need-returns-in-Refused
 unfolding Ieee.of_bits
 returns c =
-    let t = c.before.before.before.before in
-    c.refused_residuals.ensures ∙ with_refused _ _ _ _ _ _ (rw t.before.before.sqrt-scale.ensures at (rw c.before.before.fate-1.given.1 at t.pointed-fate.ensures))
+    let t = c.before.before in
+    c.refused_residuals.ensures ∙ with_refused _ _ _ _ _ _ (rw t.sqrt-scale.ensures at (rw c.in-Refused.is at t.pointed-fate.ensures))
 
 closing-requires : tie.Need-closing-requires
-closing-requires c κs = let pre = c.before.before.before.before.before.before.before.before.before.before.before.before.before.requires in (omega arith, (pre.0, pre.1.0))
+closing-requires c κs = let pre = c.requires in (omega arith, (pre.0, pre.1.0))
 
 returns_2 : tie.Need-returns
 unfolding Ieee.of_bits
 returns_2 c =
-    let enum_told = c.before.before.before.before.before.enum_told-1 in
-    let t = c.before.before.before.before.before.before.before in
-    let root = t.before.before.sqrt-scale.ensures in
-    rw (c.closing.ensures, c.before.before.put3.ensures, c.before.before.before.scale3.ensures, root)
-    (with_going _ _ _ _ _ t.before.before.before.before.before.before.before.args.error (rw root at (rw enum_told.given.1 at t.pointed-fate.ensures)) t.before.before.before.before.before.before.before.requires.1.1.end)
+    let enum_told = c.enum_told-1 in
+    let t = c.before.before.before.before.before.before in
+    let root = t.sqrt-scale.ensures in
+    rw (c.closing.ensures, c.put3.ensures, c.scale3.ensures, root)
+    (with_going _ _ _ _ _ t.args.error (rw root at (rw enum_told.given.1 at t.pointed-fate.ensures)) t.requires.1.1.end)
 
 pub with_pointing_spec : {M : Type 1} → statement M
 with_pointing_spec =

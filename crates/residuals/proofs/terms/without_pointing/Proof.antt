@@ -13,5 +13,5 @@ pub without_pointing_spec : {M : Type 1} → statement M
 without_pointing_spec =
     tie.close
     (tie.spec
-    (λ c κs. (omega arith, c.before.before.requires))
+    (λ c κs. (omega arith, c.requires))
     returns)

@@ -20,7 +20,7 @@ returns c =
     let w1 = w.before in
     let w0 = w1.before in
     c.turned_by.ensures
-    ∙ amidst_is _ _ _ _ _ _ w0.before.before.step_time.ensures w0.rate.ensures w1.rate-2.ensures w.mean-w.ensures h0.momentum.ensures h1.momentum-2.ensures h.mean-h.ensures
+    ∙ amidst_is _ _ _ _ _ _ w0.step_time.ensures w0.rate.ensures w1.rate-2.ensures w.mean-w.ensures h0.momentum.ensures h1.momentum-2.ensures h.mean-h.ensures
     jw.apply_tensor.ensures l.add3-l.ensures torque.step_torque.ensures cross.cross.ensures tau.add3-tau.ensures q.attitude-q.ensures
 
 pub amidst_spec : {M : Type 1} → statement M

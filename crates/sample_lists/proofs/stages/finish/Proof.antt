@@ -6,19 +6,19 @@ use Rattle.sample_lists.proofs.stages.finish.Tie as tie
 
 returns : tie.Need-returns-then-t-time
 unfolding finished
-returns c = rw (c.at_node.ensures, ← c.before.before.time.ensures, c.before.if-t-time.true)
+returns c = rw (c.at_node.ensures, ← c.time.ensures, c.if-t-time.true)
 
 returns_2 : tie.Need-returns-then-t-time-2
 unfolding finished
 returns_2 c =
     let b = c.before.before in
-    rw (c.at_node-then-t-time-2.ensures, ← b.before.before.time.ensures, b.before.if-t-time.false, ← b.time-2.ensures, c.before.if-t-time-2.true)
+    rw (c.at_node-then-t-time-2.ensures, ← b.time.ensures, b.if-t-time.false, ← b.time-2.ensures, c.if-t-time-2.true)
 
 returns_3 : tie.Need-returns
 unfolding finished
 returns_3 c =
     let b = c.before.before in
-    rw (c.amidst.ensures, ← b.before.before.time.ensures, b.before.if-t-time.false, ← b.time-2.ensures, c.before.if-t-time-2.false)
+    rw (c.amidst.ensures, ← b.time.ensures, b.if-t-time.false, ← b.time-2.ensures, c.if-t-time-2.false)
 
 pub finish_spec : {M : Type 1} → statement M
 finish_spec =

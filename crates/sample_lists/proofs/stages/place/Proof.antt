@@ -13,8 +13,8 @@ walk-requires : tie.Need-walk-i-requires
 walk-requires c κs =
     let s = c.before.before in
     ⊎_elim
-    (λ w. rw w.1 (s.requires.2, passed_later s.args.nodes.now s.args.since c.before.time_of-t.result s.args.from s.well_formed.1.1.1.1.1.0.1 c.before.time-of.type_inv w.0.taken s.requires.3))
-    (λ w. rw w.1 (omega arith, passed_none s.args.nodes.now c.before.time_of-t.result))
+    (λ w. rw w.1 (s.requires.2, passed_later s.args.nodes.now s.args.since c.time_of-t.result s.args.from s.well_formed.1.1.1.1.1.0.1 c.before.time-of.type_inv w.0.taken s.requires.3))
+    (λ w. rw w.1 (omega arith, passed_none s.args.nodes.now c.time_of-t.result))
     c.if-since-t.branch
 
 returns : tie.Need-returns
@@ -25,7 +25,7 @@ returns c =
     let w = wd.before in
     let t0 = w.before in
     let i = t0.before in
-    (rw (c.norm3-n.ensures, v.rotation-v.ensures, wd.step_change.ensures, w.rate.ensures, t0.time.ensures, i.walk-i.ensures.0, i.before.before.time_of-t.ensures), i.walk-i.ensures.1, i.walk-i.ensures.2)
+    (rw (c.norm3-n.ensures, v.rotation-v.ensures, wd.step_change.ensures, w.rate.ensures, t0.time.ensures, i.walk-i.ensures.0, i.time_of-t.ensures), i.walk-i.ensures.1, i.walk-i.ensures.2)
 
 pub place_spec : {M : Type 1} → statement M
 place_spec =

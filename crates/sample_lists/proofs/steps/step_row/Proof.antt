@@ -10,7 +10,7 @@ returns c =
     let wd = c.before in
     let w1 = wd.before in
     let t1 = w1.before.before in
-    rw (c.apply_tensor-u.ensures, wd.rate_change-wd.ensures, w1.rate-2.ensures, w1.before.rate.ensures, t1.time.ensures, t1.before.time-t0.ensures)
+    rw (c.apply_tensor-u.ensures, wd.rate_change-wd.ensures, w1.rate-2.ensures, w1.rate.ensures, t1.time.ensures, t1.time-t0.ensures)
 
 pub step_row_spec : {M : Type 1} → statement M
 step_row_spec =

@@ -34,11 +34,11 @@ loop-holds c = (search rules, search rules, λ k b. absurd (omega (arith, b)))
 
 loop-again : tie.Need-loop-i-preserved invariant_loop decreases_loop
 loop-again c =
-    let l = c.before.before.loop-i in
+    let l = c.loop-i in
     (search rules, length-set l.out l.i c.step_row-row.result ∙ l.invariant.1, put _ _ l.out l.i (omega (arith, l.invariant.1)) c.step_row-row.ensures l.invariant.2)
 
 returns : tie.Need-returns invariant_loop decreases_loop
-returns c = let e : c.before.loop-i.i ≡ 16 = omega arith in rw e at c.before.loop-i.invariant.2
+returns c = let e : c.loop-i.i ≡ 16 = omega arith in rw e at c.loop-i.invariant.2
 
 pub step_rows_spec : {M : Type 1} → statement M
 step_rows_spec =

@@ -7,19 +7,19 @@ use Rattle.sample_text.proofs.lines.is_last.Tie as tie
 
 returns : tie.Need-returns-in-TooMany
 unfolding is_last
-returns c = rw (← c.before.before.sample_count-counted.ensures, c.enum_told-1.given.1)
+returns c = rw (← c.sample_count-counted.ensures, c.in-TooMany.is)
 
 returns_2 : tie.Need-returns-then-index-count
 unfolding is_last
 returns_2 c =
-    let sample-count = c.before.before.before.before.sample_count-counted in
-    rw (← sample-count.ensures, c.before.before.counted-1.given.1)
+    let sample-count = c.sample_count-counted in
+    rw (← sample-count.ensures, c.in-Of.is)
 
 returns_3 : tie.Need-returns-else-index-count
 unfolding is_last
 returns_3 c =
-    let sample-count = c.before.before.before.before.sample_count-counted in
-    rw (← sample-count.ensures, c.before.before.counted-1.given.1) (not_last c.if-index-count.false)
+    let sample-count = c.sample_count-counted in
+    rw (← sample-count.ensures, c.in-Of.is) (not_last c.if-index-count.false)
 
 pub is_last_spec : {M : Type 1} → statement M
 is_last_spec = tie.close (tie.spec (search rules) (search rules) (search rules) (search rules) returns returns_2 returns_3)

@@ -8,13 +8,13 @@ returns : tie.Need-returns-then-first
 returns c =
     let put = c.before.before in
     let start = put.before.before.before.before.before.before in
-    rw put.before.before.if-first.true (puts_most (omega (arith, start.requires)) put.put_all_lem.ensures)
+    rw put.if-first.true (puts_most (omega (arith, start.requires)) put.put_all_lem.ensures)
 
 returns_2 : tie.Need-returns
 returns_2 c =
     let put = c.before.before in
     let start = put.before.before.before.before.before.before in
-    rw put.before.before.if-first.false (puts_most (omega (arith, start.requires)) put.put_all-2.ensures)
+    rw put.if-first.false (puts_most (omega (arith, start.requires)) put.put_all-2.ensures)
 
 pub put_either_spec : {M : Type 1} → statement M
 put_either_spec = tie.close (tie.spec (search rules) (search rules) returns (search rules) (search rules) returns_2)

@@ -11,7 +11,7 @@ returns c =
     let last = c.before.before in
     let words = last.before.before.before.before.before.before in
     let numbers = words.before.before.before in
-    puts_join (puts_join numbers.before.before.before.put_either-i.ensures (rw numbers.numbers_of-v.ensures at words.put_words-j.ensures)) last.put_either.ensures
+    puts_join (puts_join numbers.put_either-i.ensures (rw numbers.numbers_of-v.ensures at words.put_words-j.ensures)) last.put_either.ensures
 
 pub put_sample_spec : {M : Type 1} → statement M
 put_sample_spec =

@@ -8,13 +8,13 @@ returns : tie.Need-returns-in-Refused
 returns c =
     let told = c.before.before.before.before in
     let fate = told.before.before.before.before in
-    steps_refused _ _ _ _ fate.before.before.before.sample_course-d.ensures fate.before.before.before.before.is_planned-sampled.ensures fate.fate-1.given.1 told.tell_refused.ensures
+    steps_refused _ _ _ _ fate.sample_course-d.ensures fate.is_planned-sampled.ensures fate.in-Refused.is told.tell_refused.ensures
 
 returns_2 : tie.Need-returns-in-Going
 returns_2 c =
     let put = c.before.before in
     let fate = put.before.before.before.before in
-    steps_given _ _ _ _ fate.before.before.before.sample_course-d.ensures fate.enum_told-1.given.1 put.before.before.is_last-last.ensures put.put_sample-bytes.ensures
+    steps_given _ _ _ _ fate.sample_course-d.ensures fate.in-Going.is put.is_last-last.ensures put.put_sample-bytes.ensures
 
 pub write_step_spec : {M : Type 1} → statement M
 write_step_spec =

@@ -6,7 +6,7 @@ use Rattle.samples.proofs.nodes.at_node.Tie as tie
 
 returns : tie.Need-returns
 unfolding at_node
-returns c = rw (c.momentum-h.ensures, c.before.torque-tau.ensures, c.before.before.rate-w.ensures, c.before.before.before.attitude-q.ensures)
+returns c = rw (c.momentum-h.ensures, c.torque-tau.ensures, c.rate-w.ensures, c.attitude-q.ensures)
 
 pub at_node_spec : {M : Type 1} → statement M
 at_node_spec =

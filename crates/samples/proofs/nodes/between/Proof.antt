@@ -6,13 +6,13 @@ use Rattle.samples.proofs.nodes.between.Tie as tie
 
 returns : tie.Need-returns
 returns c =
-    let rate-change = c.before.before.before.before.rate_change-wd in
+    let rate-change = c.rate_change-wd in
     let h = c.before.before.before.before.before in
     let w = h.before.before.before in
     c.turned.ensures
-    ∙ between_is _ _ _ _ _ _ w.before.before.before.before.time-t0.ensures w.before.before.before.time.ensures w.before.before.rate-w0.ensures w.before.rate-w1.ensures w.mean-w.ensures
-    h.before.before.momentum.ensures h.before.momentum-2.ensures h.mean-h.ensures rate-change.ensures c.before.before.before.euler_lhs-tau.ensures
-    c.before.before.attitude-q.ensures c.before.rotation.ensures
+    ∙ between_is _ _ _ _ _ _ w.time-t0.ensures w.time.ensures w.rate-w0.ensures w.rate-w1.ensures w.mean-w.ensures
+    h.momentum.ensures h.momentum-2.ensures h.mean-h.ensures rate-change.ensures c.euler_lhs-tau.ensures
+    c.attitude-q.ensures c.rotation.ensures
 
 pub between_spec : {M : Type 1} → statement M
 between_spec =

@@ -18,18 +18,18 @@ loop-holds : tie.Need-loop-i-init invariant_loop decreases_loop
 loop-holds c = (search rules, iter_none _ _)
 
 returns : tie.Need-returns-then-not-time-t invariant_loop decreases_loop
-returns c = (stops _ _ _ c.before.before.before.loop-i.invariant.1 c.before.time.ensures (not-true _ c.if-not-time-t.true) (omega arith), omega arith)
+returns c = (stops _ _ _ c.loop-i.invariant.1 c.time.ensures (not-true _ c.if-not-time-t.true) (omega arith), omega arith)
 
 loop-again : tie.Need-loop-i-preserved invariant_loop decreases_loop
 loop-again c =
     let entry = c.before.before.before.before in
-    (search rules, walks entry.args.nodes.now _ _ c.before.before.before.loop-i.invariant.1 c.before.time.ensures (not-false _ c.if-not-time-t.false))
+    (search rules, walks entry.args.nodes.now _ _ c.loop-i.invariant.1 c.time.ensures (not-false _ c.if-not-time-t.false))
 
 returns_2 : tie.Need-returns invariant_loop decreases_loop
 returns_2 c =
-    let l = c.before.loop-i in
+    let l = c.loop-i in
     let e : l.i ≡ 15 = omega arith in
-    (stops _ _ l.i l.invariant.1 (rw e refl) c.before.before.requires (omega arith), omega arith)
+    (stops _ _ l.i l.invariant.1 (rw e refl) c.requires (omega arith), omega arith)
 
 pub earlier_spec : {M : Type 1} → statement M
 earlier_spec =

@@ -7,7 +7,7 @@ use Rattle.samples.proofs.nodes.mean.Tie as tie
 
 returns : tie.Need-returns
 unfolding mean of_bits
-returns c = rw (c.add3.ensures, c.before.scale3-2.ensures, c.before.before.scale3.ensures)
+returns c = rw (c.add3.ensures, c.scale3-2.ensures, c.scale3.ensures)
 
 pub mean_spec : {M : Type 1} → statement M
 mean_spec = tie.close (tie.spec (λ c κs. search rules) (λ c κs. search rules) (λ c κs. search rules) returns)

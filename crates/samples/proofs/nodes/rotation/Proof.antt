@@ -7,7 +7,7 @@ use Rattle.samples.proofs.nodes.rotation.Tie as tie
 
 returns : tie.Need-returns
 unfolding rotation of_bits
-returns c = rw (c.add3.ensures, c.before.scale3-2.ensures, c.before.before.scale3.ensures)
+returns c = rw (c.add3.ensures, c.scale3-2.ensures, c.scale3.ensures)
 
 pub rotation_spec : {M : Type 1} → statement M
 rotation_spec = tie.close (tie.spec (λ c κs. search rules) (λ c κs. search rules) (λ c κs. search rules) returns)

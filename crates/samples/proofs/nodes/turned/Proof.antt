@@ -6,7 +6,7 @@ use Rattle.samples.proofs.nodes.turned.Tie as tie
 
 returns : tie.Need-returns
 unfolding turned
-returns c = rw (← c.before.exp_so3.ensures) c.turned_by.ensures
+returns c = rw (← c.exp_so3.ensures) c.turned_by.ensures
 
 pub turned_spec : {M : Type 1} → statement M
 turned_spec = tie.close (tie.spec (λ c κs. search rules) (λ c κs. search rules) returns)

@@ -4,19 +4,19 @@ use Rattle.samples.proofs.nodes.turned_by.Statement.{statement}
 use Rattle.samples.proofs.nodes.turned_by.Tie as tie
 
 returns : tie.Need-returns-in_default
-returns c = rw (c.refused.ensures, c.before.enum_told-1.given.1)
+returns c = rw (c.refused.ensures, c.in_default.is)
 
 returns_2 : tie.Need-returns-in_default-normalized
 returns_2 c =
-    let n = c.before.before.before in
+    let n = c.before.before in
     let m = n.before in
-    rw (c.refused-in_default-normalized.ensures, m.before.before.turn-1.given.1, ← m.mul.ensures, ← n.normalized.ensures, c.before.enum_told-in_default-normalized-1.given.1)
+    rw (c.refused-in_default-normalized.ensures, m.in-Is.is, ← m.mul.ensures, ← n.normalized.ensures, c.in_default-normalized.is)
 
 returns_3 : tie.Need-returns
 returns_3 c =
-    let n = c.before.before.before in
+    let n = c.before in
     let m = n.before in
-    rw (m.before.before.turn-1.given.1, ← m.mul.ensures, ← n.normalized.ensures, c.before.q-1.given.1)
+    rw (m.in-Is.is, ← m.mul.ensures, ← n.normalized.ensures, c.in-Is-normalized.is)
 
 pub turned_by_spec : {M : Type 1} → statement M
 turned_by_spec =

@@ -17,11 +17,11 @@ loop-holds : tie.Need-loop-k-init invariant_loop decreases_loop
 loop-holds c = (search rules, (search rules, iter_none _ _))
 
 loop-again : tie.Need-loop-k-preserved invariant_loop decreases_loop
-loop-again c = (search rules, (search rules, iter_next _ _ _ c.before.before.before.loop-k.invariant.1.1 (rw c.row-next.ensures)))
+loop-again c = (search rules, (search rules, iter_next _ _ _ c.loop-k.invariant.1.1 (rw c.row-next.ensures)))
 
 returns : tie.Need-returns invariant_loop decreases_loop
 unfolding rows of_bits
-returns c = let e : c.before.loop-k.k ≡ 17 = omega arith in rw e at c.before.loop-k.invariant.1.1
+returns c = let e : c.loop-k.k ≡ 17 = omega arith in rw e at c.loop-k.invariant.1.1
 
 pub rows_spec : {M : Type 1} → statement M
 rows_spec =

@@ -23,7 +23,7 @@ start c = first c.before.before.before.before
 
 -- the run is that of the nudged decision
 run : (c : tie.After-residuals_sharing-e) → c.residuals_sharing-e.result ≡ residuals_of (start c).args.p (perturb (start c).args.p (start c).args.z.now (start c).args.c)
-run c = c.residuals_sharing-e.ensures.0 ∙ ap (λ (z : List Float). residuals_of (start c).args.p z) c.before.before.before.before.before.before.perturb-y.ensures
+run c = c.residuals_sharing-e.ensures.0 ∙ ap (λ (z : List Float). residuals_of (start c).args.p z) c.perturb-y.ensures
 
 long : (c : tie.After-residuals_sharing-e) → length c.residuals_sharing-e.result.r ≡ 79
 long c = search rules
@@ -35,8 +35,8 @@ residuals-sharing-requires c κs =
 
 gather-requires : tie.Need-gather-requires
 gather-requires c κs =
-    let st = start c.before.before.before.before in
-    (width_laid st.args.p st.pre.1.1.1.1.0, omega (arith, width_most st.args.p, st.pre.1.1.1.1.0, long c.before.before.before.before))
+    let st = start c.before.before.before in
+    (width_laid st.args.p st.pre.1.1.1.1.0, omega (arith, width_most st.args.p, st.pre.1.1.1.1.0, long c.before.before.before))
 
 -- where the decision is z again
 abbrev again : tie.After-put_column → tie.After-same_decision
@@ -55,10 +55,10 @@ returns c =
     let a = st.args in
     let em = st.pre.1.1.1.1.0 in
     let answers = st.pre.1.1.1.1.1.1.1.0 in
-    let e : perturb a.p a.z.now a.c ≡ a.z.now = sym (again t).before.before.perturb-y.ensures ∙ (again t).same_decision.ensures t.before.before.before.if-same_decision.true in
+    let e : perturb a.p a.z.now a.c ≡ a.z.now = sym (again t).perturb-y.ensures ∙ (again t).same_decision.ensures t.if-same_decision.true in
     let gathered : Gathered a.m (residuals_of a.p (perturb a.p a.z.now a.c)).r a.r0.now =
     subst (λ y. Gathered a.m (residuals_of a.p y).r a.r0.now) (sym e) answers.rows in
-    let put = rw t.before.kept.ensures at t.put_column.ensures in (
+    let put = rw t.kept.ensures at t.put_column.ensures in (
       (
         sym (ap (λ (y : List Float). (residuals_of a.p y).fate-1) e ∙ answers.goes),
         λ r0 g z. column_stands put (slopes_kept a.m _ r0 _ _ (width_laid a.p em) gathered g (width_zeros a.p (perturb a.p a.z.now a.c) em) z),
@@ -68,24 +68,24 @@ returns c =
 
 put-column-requires-2 : tie.Need-put_column-requires-in-Going
 put-column-requires-2 c κs =
-    let st = start c.before.before.before.before.before.before.before.before.before in
+    let st = start c.before.before.before.before.before.before.before.before in
     let em = st.pre.1.1.1.1.0 in
-    rw c.before.kept-in-Going.ensures (omega (arith, kept_most st.args.m (width_laid st.args.p em), width_most st.args.p, em), st.pre.1.1.1.1.1.0)
+    rw c.kept-in-Going.ensures (omega (arith, kept_most st.args.m (width_laid st.args.p em), width_most st.args.p, em), st.pre.1.1.1.1.1.0)
 
 returns_2 : tie.Need-returns-in-Refused
 returns_2 c =
-    let s = c.before.before.before in
-    ((sym c.before.fate-1.given.1 ∙ ap (λ (x : ResidualVector). x.fate-1) (run s), λ r0 g z. refl), s.residuals_sharing-e.ensures.1)
+    let s = c.before in
+    ((sym c.in-Refused.is ∙ ap (λ (x : ResidualVector). x.fate-1) (run s), λ r0 g z. refl), s.residuals_sharing-e.ensures.1)
 
 returns_3 : tie.Need-returns-in-Going
 returns_3 c =
-    let enum_told = c.before.before.before.before.before.before.before.before.before.before.enum_told-1 in
-    let gather = c.before.before.before.before.before.before.before.gather in
-    let r = c.before.before.before.before.before.before.before.before.before.before.before.before in
+    let enum_told = c.enum_told-1 in
+    let gather = c.gather in
+    let r = c.before.before.before.before.before.before.before.before.before.before.before in
     let a = (start r).args in
     let em = (start r).requires.1.1.1.1.0 in
     let gathered = rw (run r) at gather.ensures in
-    let put = rw c.before.before.before.before.kept-in-Going.ensures at c.before.before.put_column-in-Going.ensures in (
+    let put = rw c.kept-in-Going.ensures at c.put_column-in-Going.ensures in (
       (
         sym enum_told.given.1 ∙ ap (λ (x : ResidualVector). x.fate-1) (run r),
         λ r0 g z. column_stands put (slopes_kept a.m _ r0 _ _ (width_laid a.p em) gathered g (width_zeros a.p (perturb a.p a.z.now a.c) em) z),

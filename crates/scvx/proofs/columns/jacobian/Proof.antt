@@ -36,25 +36,25 @@ gather-requires c κs =
     (width_laid st.args.p st.requires.0.m_is, omega (arith, st.requires.0.m_most))
 
 know-angles-requires : tie.Need-know_angles-requires invariant_loop decreases_loop
-know-angles-requires c κs = let s = c.before.before.before.before.before.before.before.before.requires.0 in (s.sized, (s.narrow, refl))
+know-angles-requires c κs = let s = c.requires.0 in (s.sized, (s.narrow, refl))
 
 loop-holds : tie.Need-loop-c-init invariant_loop decreases_loop
 loop-holds c = (search rules, (search rules, (λ r0 g z. front_none _ _ _ r0 _, (λ i h. refl, (record { nodes = refl; errors = refl }, c.base_start-b.ensures _ _ _ refl)))))
 
 past-row-requires : tie.Need-past_row-requires invariant_loop decreases_loop
-past-row-requires c κs = rw (gathered c.before.before).before.before.control_dim-controls.ensures (start c.before.before).pre.0.narrow
+past-row-requires c κs = rw (gathered c.before.before).control_dim-controls.ensures (start c.before.before).pre.0.narrow
 
 base-next-requires : tie.Need-base_next-b-requires invariant_loop decreases_loop
 base-next-requires c κs =
     let l = c.before.before.before.before.before.before.before in
     let s = (start l.before).pre.0 in
-    (s.sized, (s.narrow, (l.before.before.know_angles.ensures.1, l.loop-c.invariant.1.1.1.1)))
+    (s.sized, (s.narrow, (l.know_angles.ensures.1, l.loop-c.invariant.1.1.1.1)))
 
 column-requires : tie.Need-column-fate-requires invariant_loop decreases_loop
 column-requires c κs =
     let j = c.before.before.before.before.before.before in
-    let known = j.before.before.before.before.before.know_angles.ensures.1 in
-    let l = j.before.before.before.loop-c in
+    let known = j.know_angles.ensures.1 in
+    let l = j.loop-c in
     let d = (gathered j.before.before.before.before).before.before in
     let a = (start j.before.before.before.before).args in
     let s = (start j.before.before.before.before).pre.0 in
@@ -64,27 +64,27 @@ column-requires c κs =
 
 returns : tie.Need-returns-in-Refused invariant_loop decreases_loop
 returns c =
-    let loop-test = c.before.before.before.before.before.before.before.before.before.before.before.before.before.before.loop-c-test in
-    let first = c.before.before.before.before.before.before.before.before.before.before.before.before.before.before.before.before in
+    let loop-test = c.loop-c-test in
+    let first = c.before.before.before.before.before.before.before.before.before.before.before.before.before.before in
     let a = (start first).args in
     let s = (start first).requires.0 in
     let g = (gathered first).gather.ensures in
     let z = (start first).requires.1.0 in
-    let l = c.before.before.before.before.before.before.before.before.before.before.before.before.before.before.before.loop-c in
-    let t = c.before.before.before.before.before.column-fate in
+    let l = c.loop-c in
+    let t = c.column-fate in
     let below = loop-test.true in
     let past = left_past a.p a.m a.t5 a.r0 l.c l.v-1 (l.invariant.1.1.0 a.r0 g z) t.new.1.1.0 t.result (t.ensures.0.1 a.r0 g z) (a.n * kept a.m) (row_end l.c a.n (kept a.m) (below)) in
-    (front_broken a.p a.m a.t5 a.r0 l.c l.v-1 (l.invariant.1.1.0 a.r0 g z) s.m_is (omega (arith, s.n_is, below)) (sym t.ensures.0.0 ∙ c.before.fate-1.given.1), λ i h. past i h ∙ l.invariant.1.1.1.0 i h)
+    (front_broken a.p a.m a.t5 a.r0 l.c l.v-1 (l.invariant.1.1.0 a.r0 g z) s.m_is (omega (arith, s.n_is, below)) (sym t.ensures.0.0 ∙ c.in-Refused.is), λ i h. past i h ∙ l.invariant.1.1.1.0 i h)
 
 loop-again : tie.Need-loop-c-preserved invariant_loop decreases_loop
 loop-again c =
-    let loop-test = c.before.before.before.before.before.before.before.before.before.before.before.before.before.loop-c-test in
-    let first = c.before.before.before.before.before.before.before.before.before.before.before.before.before.before.before in
+    let loop-test = c.loop-c-test in
+    let first = c.before.before.before.before.before.before.before.before.before.before.before.before.before.before in
     let a = (start first).args in
     let g = (gathered first).gather.ensures in
     let z = (start first).requires.1.0 in
-    let l = c.before.before.before.before.before.before.before.before.before.before.before.before.before.before.loop-c in
-    let t = c.before.before.before.before.column-fate in
+    let l = c.loop-c in
+    let t = c.column-fate in
     let below = loop-test.true in
     let u = t.new.1.1.0 in
     let here = l.invariant.1.1.0 a.r0 g z in
@@ -94,7 +94,7 @@ loop-again c =
       (
         size ∙ l.invariant.1.0,
         (
-          λ r0 h o. front_next a.p a.m a.t5 r0 l.c l.v-1 (l.invariant.1.1.0 r0 h o) u t.ensures.0.0 c.enum_told-1.given.1 (t.ensures.0.1 r0 h o),
+          λ r0 h o. front_next a.p a.m a.t5 r0 l.c l.v-1 (l.invariant.1.1.0 r0 h o) u t.ensures.0.0 c.in-Going.is (t.ensures.0.1 r0 h o),
           (λ i h. past i h ∙ l.invariant.1.1.1.0 i h, t.ensures.1),
         ),
       ),
@@ -105,7 +105,7 @@ returns_2 c =
     let first = c.before.before in
     let a = (start first).args in
     let s = (start first).requires.0 in
-    let l = c.before.loop-c in
+    let l = c.loop-c in
     let e : l.c ≡ a.n = omega arith in
     let here = l.invariant.1.1.0 a.r0 (gathered first).gather.ensures (start first).requires.1.0 in
     (front_whole a.p a.m a.t5 a.r0 a.n l.v-1 s.n_is s.m_is (omega (arith, s.fits, l.invariant.1.0)) (rw e at here), l.invariant.1.1.1.0)
@@ -120,19 +120,19 @@ jacobian_spec =
     (λ c. search rules)
     gather-requires
     know-angles-requires
-    (λ c κs. c.before.before.before.before.before.before.before.before.before.requires.0.sized)
+    (λ c κs. c.requires.0.sized)
     loop-holds
     past-row-requires
-    (λ c. sym c.before.before.before.before.before.before.before.know_angles.ensures.0)
+    (λ c. sym c.know_angles.ensures.0)
     base-next-requires
-    (λ c. sym c.before.before.before.before.before.before.before.before.before.know_angles.ensures.0)
+    (λ c. sym c.know_angles.ensures.0)
     column-requires
     (λ c. search rules)
-    (λ c. omega (arith, c.before.before.before.before.before.before.before.before.before.before.before.before.before.before.loop-c-test.true, (start c.before.before.before.before.before.before.before.before.before.before.before.before.before.before.before.before).pre.0.n_most))
+    (λ c. omega (arith, c.loop-c-test.true, (start c.before.before.before.before.before.before.before.before.before.before.before.before.before.before.before.before).pre.0.n_most))
     (λ c. search rules)
     returns
     (λ c. search rules)
-    (λ c. omega (arith, c.before.before.before.before.before.before.before.before.before.before.before.before.before.loop-c-test.true, (start c.before.before.before.before.before.before.before.before.before.before.before.before.before.before.before).pre.0.n_most))
+    (λ c. omega (arith, c.loop-c-test.true, (start c.before.before.before.before.before.before.before.before.before.before.before.before.before.before.before).pre.0.n_most))
     (λ c. search rules)
     loop-again
     (λ c. search rules)

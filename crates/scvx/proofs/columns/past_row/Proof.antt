@@ -8,8 +8,8 @@ use Rattle.scvx.proofs.columns.past_row.Tie as tie
 
 mul-result : tie.Need-overflow_mul-result
 mul-result c =
-    let h : c.before.args.steps + 1 ≤ 16 = omega arith in
-    omega (arith, mul-le-mul {m₁ = c.before.args.controls} {m₂ = 12} h c.before.requires)
+    let h : c.args.steps + 1 ≤ 16 = omega arith in
+    omega (arith, mul-le-mul {m₁ = c.args.controls} {m₂ = 12} h c.requires)
 
 pub past_row_spec : {M : Type 1} → statement M
 past_row_spec = tie.close (tie.spec (λ c. search rules) (λ c. search rules) mul-result (λ c. search rules))

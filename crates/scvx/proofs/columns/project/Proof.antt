@@ -4,7 +4,7 @@ use Rattle.scvx.proofs.columns.project.Statement.{statement}
 use Rattle.scvx.proofs.columns.project.Tie as tie
 
 returns : tie.Need-returns
-returns c = rw (c.project_decision.ensures, c.before.unpack.ensures)
+returns c = rw (c.project_decision.ensures, c.unpack.ensures)
 
 pub project_spec : {M : Type 1} → statement M
 project_spec =

@@ -10,13 +10,13 @@ use Rattle.scvx.proofs.columns.same_decision.Tie as tie
 
 same-front-requires : tie.Need-same_front-requires
 same-front-requires c κs =
-    let y : length c.before.before.args.y.now ≡ 193 = search rules in
-    let z : length c.before.before.args.z.now ≡ 193 = search rules in
+    let y : length c.args.y.now ≡ 193 = search rules in
+    let z : length c.args.z.now ≡ 193 = search rules in
     (omega (arith, y), omega (arith, z))
 
 returns : tie.Need-returns
 returns c h =
-    let a = c.before.before.before.args in
+    let a = c.args in
     let y : length a.y.now ≡ 193 = search rules in
     let z : length a.z.now ≡ 193 = search rules in
     ext_get_or nan a.y.now a.z.now (y ∙ sym z) (λ i l. c.same_front.ensures h i (omega (arith, y)))

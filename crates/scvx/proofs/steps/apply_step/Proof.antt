@@ -20,10 +20,10 @@ loop-holds : tie.Need-loop-i-init invariant_loop decreases_loop
 loop-holds c = (search rules, (search rules, iter_none _ _))
 
 loop-again : tie.Need-loop-i-preserved invariant_loop decreases_loop
-loop-again c = (search rules, (search rules, iter_next _ _ _ c.before.before.loop-i.invariant.1.1 refl))
+loop-again c = (search rules, (search rules, iter_next _ _ _ c.loop-i.invariant.1.1 refl))
 
 returns : tie.Need-returns invariant_loop decreases_loop
-returns c = let e : c.before.loop-i.i ≡ length c.before.before.args.d.now = omega arith in rw (← e) c.before.loop-i.invariant.1.1
+returns c = let e : c.loop-i.i ≡ length c.args.d.now = omega arith in rw (← e) c.loop-i.invariant.1.1
 
 pub apply_step_spec : {M : Type 1} → statement M
 apply_step_spec =

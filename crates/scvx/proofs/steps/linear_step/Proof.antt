@@ -14,26 +14,26 @@ take-step-requires c κs =
     let entry = c.before.before.before.before.before.before.before.before in
     let z = entry.requires.0 in
     let h = entry.requires.1.1 in
-    let q = ap (λ (x : Progress). x.state.runs) c.with_state.ensures ∙ ap (λ (x : SearchState). x.runs) c.before.count_runs.ensures in (
+    let q = ap (λ (x : Progress). x.state.runs) c.with_state.ensures ∙ ap (λ (x : SearchState). x.runs) c.count_runs.ensures in (
       z,
-      (omega (arith, z.n_most, entry.requires.1.0), (rw c.with_state.ensures (known_zeros h.known z.m_is), stands_summed h z.n_is z.m_is c.before.before.before.before.before.if-g.true)),
+      (omega (arith, z.n_most, entry.requires.1.0), (rw c.with_state.ensures (known_zeros h.known z.m_is), stands_summed h z.n_is z.m_is c.if-g.true)),
     )
 
 returns : tie.Need-returns-then-g
 returns c =
     let entry = c.before.before.before.before.before.before.before.before.before.before.before in
-    let if1 = c.before.before.before.before.before.before.before.before.if-g in
-    let count_runs = c.before.before.before.before.count_runs in
-    let with-state = c.before.before.before.with_state in
+    let if1 = c.if-g in
+    let count_runs = c.count_runs in
+    let with-state = c.with_state in
     let a = entry.args in
     let h = entry.requires.1.1 in
-    let t = c.before.before.take_step.ensures in (
+    let t = c.take_step.ensures in (
       (rw (with-state.ensures, count_runs.ensures) at t.0) ∙ linear_step_formed a.p a.g.state a.g.r entry.requires.0.n_is (h.formed if1.true),
       rw t.1.1 (t.1.0 _ _ (rw (with-state.ensures, count_runs.ensures) h)),
     )
 
 returns_2 : tie.Need-returns
-returns_2 c = c.before.before.before.before.form_columns.ensures
+returns_2 c = c.form_columns.ensures
 
 pub linear_step_spec : {M : Type 1} → statement M
 linear_step_spec =

@@ -24,16 +24,16 @@ slice-aggregate-keep-gram : tie.Need-slice_bounds-keep_gram-end-2
 slice-aggregate-keep-gram c = sym (length-take-le _ _ (fits c.before))
 
 keep-gram-requires : tie.Need-keep_gram-requires
-keep-gram-requires c κs = (c.before.before.before.before.before.requires.0, length-take-le _ _ (fits c.before.before))
+keep-gram-requires c κs = (c.requires.0, length-take-le _ _ (fits c.before.before))
 
 returns : tie.Need-returns
 returns c =
     let st = c.before.before.before.before.before.before.before.before.before.before in
     let a = st.args in
-    let w = c.before.before.before.before.before.before.before.kept-w.result in
-    let known : w ≡ kept a.m = c.before.before.before.before.before.before.before.kept-w.ensures in
+    let w = c.kept-w.result in
+    let known : w ≡ kept a.m = c.kept-w.ensures in
     let room = fits c.before.before.before.before.before.before.before in
-    let t = c.before.before.before.before.keep_gram in
+    let t = c.keep_gram in
     let same = kept_front a.n a.n w a.ws-1.now refl room t.new.0 t.auto.0 t.ensures.0 in (
       ap (columns a.n a.m) (subst (λ k. take (a.n * k) (t.new.0 ++ drop (a.n * w + a.n * a.n) a.ws-1.now) ≡ take (a.n * k) a.ws-1.now) known same),
       gram_of_all a.n a.m a.ws-1.now _ st.requires.1.0

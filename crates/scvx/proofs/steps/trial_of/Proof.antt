@@ -8,9 +8,9 @@ returns : tie.Need-returns
 unfolding Search.trial_of Search.trial_held
 returns c =
     let entry = c.before.before.before.before.before.before.before in
-    let apply-step = c.before.before.before.before.before.apply_step-moved in
+    let apply-step = c.apply_step-moved in
     let n = entry.requires.1.1 in
-    (rw (c.project-projected.ensures, apply-step.ensures, n), rw (c.before.held_counts-counts.ensures, apply-step.ensures, n))
+    (rw (c.project-projected.ensures, apply-step.ensures, n), rw (c.held_counts-counts.ensures, apply-step.ensures, n))
 
 pub trial_of_spec : {M : Type 1} → statement M
 trial_of_spec =

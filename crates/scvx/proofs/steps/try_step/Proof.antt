@@ -8,32 +8,32 @@ use Rattle.scvx.proofs.steps.try_step.Tie as tie
 
 trial-candidate-requires : tie.Need-trial_candidate-requires
 trial-candidate-requires c κs =
-    let entry = c.before.before.before.before.before.before.before.before.before.before.before.before in
+    let entry = c.before.before.before.before.before.before.before.before.before.before.before in
     entry.requires.0.m_most
 
 returns : tie.Need-returns-in-Refused
 unfolding Search.try_step
 returns c =
-    let trial-of = c.before.before.before.before.before.before.before.before.trial_of-t in
-    let residuals-of = c.before.before.before.before.before.before.residuals_of-e in
-    let count_runs = c.before.before.before.before.before.count_runs-s1 in (
-      rw (← trial-of.ensures.0, ← trial-of.ensures.1, ← residuals-of.ensures, c.before.before.before.fate-1.given.1, c.with_state.ensures, c.before.with_status.ensures, count_runs.ensures),
-      λ j a h. rw (c.with_state.ensures, c.before.with_status.ensures, count_runs.ensures) h,
+    let trial-of = c.trial_of-t in
+    let residuals-of = c.residuals_of-e in
+    let count_runs = c.count_runs-s1 in (
+      rw (← trial-of.ensures.0, ← trial-of.ensures.1, ← residuals-of.ensures, c.in-Refused.is, c.with_state.ensures, c.with_status.ensures, count_runs.ensures),
+      λ j a h. rw (c.with_state.ensures, c.with_status.ensures, count_runs.ensures) h,
     )
 
 returns_2 : tie.Need-returns-in-Going
 unfolding Search.try_step
 returns_2 c =
-    let entry = c.before.before.before.before.before.before.before.before.before.before.before.before.before.before in
-    let trial-of = c.before.before.before.before.before.before.before.before.before.trial_of-t in
-    let residuals-of = c.before.before.before.before.before.before.before.residuals_of-e in
-    let count_runs = c.before.before.before.before.before.before.count_runs-s1 in
-    let enum_told = c.before.before.before.before.enum_told-1 in
+    let entry = c.before.before.before.before.before.before.before.before.before.before.before.before.before in
+    let trial-of = c.trial_of-t in
+    let residuals-of = c.residuals_of-e in
+    let count_runs = c.count_runs-s1 in
+    let enum_told = c.enum_told-1 in
     let sizes = entry.requires.0 in
     let goes = enum_told.given.1 in
     let t = c.judge.ensures in (
-      rw (← trial-of.ensures.0, ← trial-of.ensures.1, ← residuals-of.ensures, goes) (rw (c.before.before.with_state-in-Going.ensures, count_runs.ensures, c.before.trial_candidate.ensures, sizes.m_is) at t.0),
-      λ j a h. t.1 entry.args.p (rw c.before.trial_candidate.ensures (known_of _ residuals-of.ensures goes sizes.m_is refl)) j a (rw (c.before.before.with_state-in-Going.ensures, count_runs.ensures) h),
+      rw (← trial-of.ensures.0, ← trial-of.ensures.1, ← residuals-of.ensures, goes) (rw (c.with_state-in-Going.ensures, count_runs.ensures, c.trial_candidate.ensures, sizes.m_is) at t.0),
+      λ j a h. t.1 entry.args.p (rw c.trial_candidate.ensures (known_of _ residuals-of.ensures goes sizes.m_is refl)) j a (rw (c.with_state-in-Going.ensures, count_runs.ensures) h),
     )
 
 pub try_step_spec : {M : Type 1} → statement M

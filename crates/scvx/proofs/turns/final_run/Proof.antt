@@ -7,14 +7,14 @@ use Rattle.scvx.proofs.turns.final_run.Tie as tie
 
 returns : tie.Need-returns-in-Refused
 returns c =
-    let entry = c.before.before.before.before.before.before.before.before.before in
-    let run_of = c.before.before.before.before.before.run_of-run in
-    c.not_found.ensures ∙ final_run_by_law entry.args.p entry.args.s run_of.ensures c.before.before.before.fate-1.given.1
+    let entry = c.before.before.before.before.before.before.before in
+    let run_of = c.run_of-run in
+    c.not_found.ensures ∙ final_run_by_law entry.args.p entry.args.s run_of.ensures c.in-Refused.is
 
 returns_2 : tie.Need-returns-in-Going
 returns_2 c =
-    let entry = c.before.before.before.before.before.before.before in
-    final_run_by_law entry.args.p entry.args.s c.before.before.before.run_of-run.ensures c.before.enum_told-1.given.1
+    let entry = c.before.before.before.before.before.before in
+    final_run_by_law entry.args.p entry.args.s c.run_of-run.ensures c.in-Going.is
 
 pub final_run_spec : {M : Type 1} → statement M
 final_run_spec =

@@ -9,8 +9,8 @@ use Rattle.scvx.proofs.turns.is_settled.Tie as tie
 returns : tie.Need-returns
 unfolding Ieee.of_bits
 returns c e =
-    let h = both c.before.same_bits.result c.same_bits-2.result e in
-    (same_is _ _ (sym c.before.same_bits.ensures ∙ h.0), same_is _ _ (sym c.same_bits-2.ensures ∙ h.1))
+    let h = both c.same_bits.result c.same_bits-2.result e in
+    (same_is _ _ (sym c.same_bits.ensures ∙ h.0), same_is _ _ (sym c.same_bits-2.ensures ∙ h.1))
 
 pub is_settled_spec : {M : Type 1} → statement M
 is_settled_spec = tie.close (tie.spec (λ c κs. search rules) (λ c κs. search rules) returns)

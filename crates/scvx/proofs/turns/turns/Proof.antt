@@ -40,14 +40,14 @@ start c = (at-loop c).before.before
 
 loop-holds : tie.Need-loop-k-init invariant_loop decreases_loop
 loop-holds c =
-    let h = c.before.requires in
+    let h = c.requires in
     (search rules, (omega (arith, h.1.0), (search rules, (h.1.1.0, (iter_none _ _, (refl, rw h.1.1.1.0 (stands_new h.1.1.1.1)))))))
 
 iterate-requires : tie.Need-iterate-g-requires invariant_loop decreases_loop
 iterate-requires c κs =
     let a = c.before.before.before.before in
     let l = a.loop-k.invariant in
-    (sizes_kept a.before.before.requires.0 l.1.1.0, (omega arith, (omega (arith, l.1.0), l.1.1.1.1.1.1)))
+    (sizes_kept a.requires.0 l.1.1.0, (omega arith, (omega (arith, l.1.0), l.1.1.1.1.1.1)))
 
 -- an iteration is the definition's turn
 next : (c : tie.After-s-1 invariant_loop decreases_loop) → (done c).iterate-g.result.state ≡ Search.turn (start c).args.p (at-loop c).loop-k.k (at-loop c).loop-k.g.state
@@ -55,13 +55,13 @@ next c = (done c).iterate-g.ensures.0 ∙ sym (turn_going (start c).args.p (at-l
 
 returns : tie.Need-returns-in-Ended invariant_loop decreases_loop
 returns c =
-    let l = (at-loop c.before.before).loop-k in
-    iter_stays _ _ (l.k + 1) 40 (omega arith) (iter_next _ _ l.k l.inv.1.1.1.1.0 (next c.before.before)) (λ j. turn_ended _ j _ c.enum_told-1.given.1)
+    let l = (at-loop c.before).loop-k in
+    iter_stays _ _ (l.k + 1) 40 (omega arith) (iter_next _ _ l.k l.inv.1.1.1.1.0 (next c.before.before)) (λ j. turn_ended _ j _ c.in-Ended.is)
 
 returns_2 : tie.Need-returns-in-Refused invariant_loop decreases_loop
 returns_2 c =
-    let l = (at-loop c.before.before).loop-k in
-    iter_stays _ _ (l.k + 1) 40 (omega arith) (iter_next _ _ l.k l.inv.1.1.1.1.0 (next c.before.before)) (λ j. turn_refused _ j _ c.enum_told-in-Refused-1.given.1)
+    let l = (at-loop c.before).loop-k in
+    iter_stays _ _ (l.k + 1) 40 (omega arith) (iter_next _ _ l.k l.inv.1.1.1.1.0 (next c.before.before)) (λ j. turn_refused _ j _ c.in-Refused.is)
 
 -- the runs of an iteration are those of its definition
 runs_same : (c : tie.After-s-1 invariant_loop decreases_loop) → (done c).iterate-g.result.state.runs ≡ (Search.iterate-g (start c).args.p (at-loop c).loop-k.k (at-loop c).loop-k.g.state).runs
@@ -69,7 +69,7 @@ runs_same c = ap (λ (x : SearchState). x.runs) (done c).iterate-g.ensures.0
 
 sub-repeat-last : tie.Need-overflow_sub-s invariant_loop decreases_loop
 sub-repeat-last c =
-    let s = c.before.before.before.before.before.before in
+    let s = c.before.before.before.before.before in
     omega (arith, runs_same s, iterate_grows (start s).args.p (at-loop s).loop-k.k (at-loop s).loop-k.g.state)
 
 repeats_most : (k r x n : ℕ) → k + 1 ≤ 40 → r ≤ 1 + k * 195 → x ≤ r + (n + 2) → n ≤ 193 → x + (40 - (k + 1)) * (x - r) ≤ 9000
@@ -79,7 +79,7 @@ repeats_most k r x n h a b c =
 
 repeat-last-requires : tie.Need-repeat_last-requires invariant_loop decreases_loop
 repeat-last-requires c κs =
-    let s = c.before.before.before.before.before.before in
+    let s = c.before.before.before.before.before in
     let l = (at-loop s).loop-k in
     let p = (start s).args.p in
     let pre = (start s).requires.0 in
@@ -88,20 +88,20 @@ repeat-last-requires c κs =
 -- the workspace is as long as it was
 same-length-3 : tie.Need-shape_of-ws-then-is_settled invariant_loop decreases_loop
 same-length-3 c =
-    let s = c.before.before.before.before.before.before.before in
-    (done s).iterate.auto.1.0 ∙ (at-loop s).loop-k.invariant.1.1.0
+    let s = c.before.before.before.before.before.before in
+    (done s).iterate-g.auto.1.0 ∙ (at-loop s).loop-k.invariant.1.1.0
 
 returns_3 : tie.Need-returns-then-is_settled invariant_loop decreases_loop
 returns_3 c =
     let settled = c.before.before.before.before in
-    let s = settled.before.before.before in
+    let s = settled.before.before in
     let p = (start s).args.p in
     let k : ℕ = (at-loop s).loop-k.k in
     let g : SearchState = (at-loop s).loop-k.g.state in
     let l = (at-loop s).loop-k.invariant in
     let is = (done s).iterate-g.ensures.0 in
-    let top = settled.is_settled.ensures c.before.before.before.if-is_settled.true in
-    let on : (Search.iterate-g p k g).status ≡ Going = sym (ap (λ (x : SearchState). x.status) is) ∙ settled.before.enum_told-in-Going-1.given.1 in
+    let top = settled.is_settled.ensures c.if-is_settled.true in
+    let on : (Search.iterate-g p k g).status ≡ Going = sym (ap (λ (x : SearchState). x.status) is) ∙ settled.in-Going.is in
     let still : (Search.iterate-g p k g).lambda ≡ Search.strongest = sym (ap (λ (x : SearchState). x.lambda) is) ∙ top.1 in
     c.repeat_last.ensures
     ∙ ap (λ (x : SearchState). counted x ((40 - (k + 1)) * (x.runs - g.runs)) 40) is
@@ -110,19 +110,19 @@ returns_3 c =
 loop-again : tie.Need-loop-k-preserved invariant_loop decreases_loop
 loop-again c =
     let told = c.before.before in
-    let s = told.before.before in
+    let s = told.before in
     let pre = (start s).requires.0 in
     let l = (at-loop s).loop-k in
     let t = (done s).iterate-g in (
       omega (arith, (in-loop s).loop-k-test.true),
       (
         omega (arith, pre.n_is, pre.n_most, l.inv.1.0, runs_same s, iterate_le (start s).args.p l.k l.g.state),
-        (t.kept.1.0 ∙ l.inv.1.1.0, (told.enum_told-in-Going-1.given.1, (iter_next _ _ l.k l.inv.1.1.1.1.0 (next s), (t.kept.1.1.0 ∙ l.inv.1.1.1.1.1.0, t.ensures.1)))),
+        (t.kept.1.0 ∙ l.inv.1.1.0, (told.in-Going.is, (iter_next _ _ l.k l.inv.1.1.1.1.0 (next s), (t.kept.1.1.0 ∙ l.inv.1.1.1.1.1.0, t.ensures.1)))),
       ),
     )
 
 returns-4 : tie.Need-returns invariant_loop decreases_loop
-returns-4 c = let e : c.before.before.loop-k.k ≡ 40 = omega arith in rw (← e) c.before.before.loop-k.invariant.1.1.1.1.0
+returns-4 c = let e : c.loop-k.k ≡ 40 = omega arith in rw (← e) c.loop-k.invariant.1.1.1.1.0
 
 pub turns_spec : {M : Type 1} → statement M
 turns_spec =
@@ -131,7 +131,7 @@ turns_spec =
     invariant_loop
     decreases_loop
     loop-holds
-    (λ c. sym c.before.before.before.before.loop-k.invariant.1.1.1.1.1.0)
+    (λ c. sym c.loop-k.invariant.1.1.1.1.1.0)
     iterate-requires
     (λ c. search rules)
     (λ c. search rules)

@@ -18,14 +18,14 @@ abbrev start : tie.In-loop-k invariant_loop decreases_loop → tie.Start invaria
 start c = c.before.before.before.before
 
 -- the four rates of a step stand in the decision
-room : (c : tie.In-loop-k invariant_loop decreases_loop) → (start c).args.first + c.before.loop-k.k * (start c).args.n + 4 ≤ 193
+room : (c : tie.In-loop-k invariant_loop decreases_loop) → (start c).args.first + c.loop-k.k * (start c).args.n + 4 ≤ 193
 room c =
     let pre = (start c).requires in
-    omega (arith, row_end c.before.loop-k.k 16 (start c).args.n c.loop-k-test.true, pre.0, pre.1.0)
+    omega (arith, row_end c.loop-k.k 16 (start c).args.n c.loop-k-test.true, pre.0, pre.1.0)
 
 loop-holds : tie.Need-loop-k-init invariant_loop decreases_loop
 loop-holds c =
-    let pre = c.before.before.requires in
+    let pre = c.requires in
     (omega arith, record { long = pre.1.1.1; right = λ i h. absurd (omega (arith, h)) })
 
 mul_at : tie.Need-overflow_mul-at invariant_loop decreases_loop
@@ -49,7 +49,7 @@ gimbals-next-requires c κs = search rules
 put-angles-requires : tie.Need-put_angles-requires invariant_loop decreases_loop
 put-angles-requires c κs =
     let turn = c.before.before.before in
-    (omega (arith, turn.loop-k-test.true), turn.before.loop-k.invariant.1)
+    (omega (arith, turn.loop-k-test.true), turn.loop-k.invariant.1)
 
 loop-again : tie.Need-loop-k-preserved invariant_loop decreases_loop
 loop-again c =
@@ -57,7 +57,7 @@ loop-again c =
     (omega (arith, turn.loop-k-test.true), filled_fewer c.put_angles.ensures (omega arith))
 
 returns : tie.Need-returns invariant_loop decreases_loop
-returns c = let inv = c.before.loop-k.invariant in filled_fewer inv.1 (omega (arith, inv.0))
+returns c = let inv = c.loop-k.invariant in filled_fewer inv.1 (omega (arith, inv.0))
 
 pub fill_angles_spec : {M : Type 1} → statement M
 fill_angles_spec =

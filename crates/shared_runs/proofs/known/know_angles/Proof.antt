@@ -14,13 +14,13 @@ use Rattle.shared_runs.proofs.known.know_angles.Statement.{statement}
 use Rattle.shared_runs.proofs.known.know_angles.Tie as tie
 
 abbrev start : tie.After-control_dim-n → tie.Start
-start c = c.before.before.before
+start c = c.before.before
 
 -- the four rates end a row
 room : (c : tie.After-control_dim-n) → (start c).args.map.wheel_count + (start c).args.map.thruster_count + 4 ≤ control_dim (start c).args.map
 room c =
     let m = (start c).args.map in
-    let four : gimbals m.cmgs ≡ 4 = ap gimbals c.before.enum_told-in-With-1.given.1 in
+    let four : gimbals m.cmgs ≡ 4 = ap gimbals c.in-With.is in
     omega (arith, row_room (rig_under Once m) (control_dim m) (dim_sized Once m (start c).requires.0), four)
 
 add-fill-angles : tie.Need-overflow_add-map
@@ -36,12 +36,12 @@ fill-angles-requires c κs =
     rw d.control_dim-n.ensures (omega (arith, room d), (pre.1.0, (search rules, pre.1.1)))
 
 returns : tie.Need-returns-in-Without
-returns c = (c.before.before.requires.1.1, rw c.enum_told-1.given.1 tt)
+returns c = (c.requires.1.1, rw c.in-Without.is tt)
 
 returns_2 : tie.Need-returns-in-With
 returns_2 c =
     let told = c.before.before.before.before.before.before in
-    (c.fill_angles.ensures.long, rw told.enum_told-in-With-1.given.1 (filled_whole _ c.fill_angles.ensures))
+    (c.fill_angles.ensures.long, rw told.in-With.is (filled_whole _ c.fill_angles.ensures))
 
 pub know_angles_spec : {M : Type 1} → statement M
 know_angles_spec =

@@ -6,7 +6,7 @@ use Rattle.text.proofs.hex.byte.Statement.{statement}
 use Rattle.text.proofs.hex.byte.Tie as tie
 
 returns_2 : tie.Need-returns-else-at-s
-returns_2 c = sym (get_or-eq_default c.before.args.s.now 0 c.if-at-s.false)
+returns_2 c = sym (get_or-eq_default c.args.s.now 0 c.if-at-s.false)
 
 pub byte_spec : {M : Type 1} → statement M
 byte_spec =

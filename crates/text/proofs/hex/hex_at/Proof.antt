@@ -18,14 +18,14 @@ decreases_loop s at first weight₀ m₀ i₀ k₀ weight m i k = k
 
 returns : tie.Need-returns-then-first-ge16 invariant_loop decreases_loop
 returns c =
-    let args = c.before.before.before.before.args in
-    let v : c.before.hex_digit-first.result ≡ digit (get_or args.s.now args.at 0) = cc in
+    let args = c.args in
+    let v : c.hex_digit-first.result ≡ digit (get_or args.s.now args.at 0) = cc in
     record { is = sym (hex_at_none args.s.now args.at _ v c.if-first-ge16.true); within = omega arith }
 
 loop-holds : tie.Need-loop-k-init invariant_loop decreases_loop
 loop-holds c =
-    let args = c.before.before.before.before.before.args in
-    let v : c.before.before.hex_digit-first.result ≡ digit (get_or args.s.now args.at 0) = cc in
+    let args = c.args in
+    let v : c.hex_digit-first.result ≡ digit (get_or args.s.now args.at 0) = cc in
     let v' : c.wide.result ≡ digit (get_or args.s.now args.at 0) = cc in
     let l : digit (get_or args.s.now args.at 0) < 16 = omega arith in
     let b : c.wide.result < 16 = omega arith in
@@ -38,20 +38,20 @@ returns_2 c =
     let start = at-loop.before.before.before.before.before.before in
     let a = start.args in
     let l = at-loop.loop-k in
-    let v : c.before.hex_digit-d.result ≡ digit (get_or a.s.now l.i 0) = cc in
+    let v : c.hex_digit-d.result ≡ digit (get_or a.s.now l.i 0) = cc in
     let e = l.invariant.4 ∙ more_stop a.s.now l.i l.m _ v l.k (omega arith) c.if-d-ge16.true in
     record { is = sym e; within = omega arith }
 
 mul-m-2 : tie.Need-overflow_mul-m-in-loop-k invariant_loop decreases_loop
 mul-m-2 c =
-    let loop = c.before.before.before.before.before.loop-k in
+    let loop = c.loop-k in
     let u = loop.weight / 16 in
     let h : c.wide-in-loop-k.result * u ≤ 15 * u = weighed _ u (omega arith) in
     omega (arith, h)
 
 add-m : tie.Need-overflow_add-m invariant_loop decreases_loop
 add-m c =
-    let loop = c.before.before.before.before.before.loop-k in
+    let loop = c.loop-k in
     let u = loop.weight / 16 in
     let h : c.wide-in-loop-k.result * u ≤ 15 * u = weighed _ u (omega arith) in
     omega (arith, h)
@@ -75,8 +75,8 @@ loop-again c =
 
 returns_3 : tie.Need-returns invariant_loop decreases_loop
 returns_3 c =
-    let a = c.before.before.before.before.before.before.before.args in
-    let l = c.before.loop-k in
+    let a = c.args in
+    let l = c.loop-k in
     let e = l.invariant.4 ∙ more_end a.s.now l.i l.m l.k (omega arith) in
     record { is = sym e; within = omega arith }
 

@@ -18,10 +18,10 @@ decreases_loop s at i₀ i = length s - i
 loop-holds : tie.Need-loop-i-init invariant_loop decreases_loop
 loop-holds c = (omega arith, omega arith, past_start _ _)
 
-blank : (c : tie.In-loop-i invariant_loop decreases_loop) → c.before.before.loop-i.i < length c.before.before.before.before.args.s.now
+blank : (c : tie.In-loop-i invariant_loop decreases_loop) → c.loop-i.i < length c.args.s.now
 blank c =
     let entry = c.before.before.before.before in
-    blank_within entry.args.s.now c.before.before.loop-i.i (sym c.before.byte.ensures ∙ c.loop-i-test.true)
+    blank_within entry.args.s.now c.loop-i.i (sym c.byte.ensures ∙ c.loop-i-test.true)
 
 add-i : tie.Need-overflow_add-i invariant_loop decreases_loop
 add-i c = omega (arith, blank c)
@@ -38,12 +38,12 @@ loop-again c =
     let l = at-loop.loop-i in
     let h : l.i < length s = blank c in
     let n : length s - (l.i + 1 - at) ≡ length s - (l.i - at) - 1 = omega arith in
-    (omega arith, omega arith, rw n (l.invariant.2 ∙ past_next s _ l.i (sym c.before.byte.ensures ∙ c.loop-i-test.true) (omega arith)))
+    (omega arith, omega arith, rw n (l.invariant.2 ∙ past_next s _ l.i (sym c.byte.ensures ∙ c.loop-i-test.true) (omega arith)))
 
 returns : tie.Need-returns invariant_loop decreases_loop
 returns c =
-    let l = c.before.before.loop-i in
-    record { is = sym (l.invariant.2 ∙ past_none _ _ l.i (λ e. c.loop-i-test.false (c.before.byte.ensures ∙ e))); within = omega arith }
+    let l = c.loop-i in
+    record { is = sym (l.invariant.2 ∙ past_none _ _ l.i (λ e. c.loop-i-test.false (c.byte.ensures ∙ e))); within = omega arith }
 
 pub past_blanks_spec : {M : Type 1} → statement M
 past_blanks_spec = tie.close (tie.spec invariant_loop decreases_loop loop-holds (search rules) add-i loop-less loop-again returns)

@@ -11,7 +11,7 @@ returns c =
     real_is _ _ at-m.m-1.given.0.0 _ _ at-hex-at.hex_at.result at-hex-at.hex_at.ensures at-m.m-1.given.1 c.real_of.ensures
 
 returns_2 : tie.Need-returns-in-Wrong
-returns_2 c = real_wrong _ _ c.before.before.hex_at.result c.before.before.hex_at.ensures c.enum_told-1.given.1
+returns_2 c = real_wrong _ _ c.hex_at.result c.hex_at.ensures c.in-Wrong.is
 
 pub real_at_spec : {M : Type 1} → statement M
 real_at_spec = tie.close (tie.spec (search rules) (search rules) (search rules) (search rules) returns returns_2)

@@ -11,7 +11,7 @@ returns c = simp (eq-eqb _ _ c.if-r-n.true)
 
 returns_2 : tie.Need-returns-else-r-n
 unfolding floats
-returns_2 c = simp (ne_eqb _ _ c.before.if-r-n.false) c.wrong_row.ensures
+returns_2 c = simp (ne_eqb _ _ c.if-r-n.false) c.wrong_row.ensures
 
 pub floats_spec : {M : Type 1} → statement M
 floats_spec = tie.close (tie.spec (search rules) returns returns_2)

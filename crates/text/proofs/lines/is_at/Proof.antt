@@ -24,22 +24,22 @@ loop-holds c = (omega arith, rw add-zero, omega arith)
 
 returns_2 : tie.Need-returns-then-at-k invariant_loop decreases_loop
 returns_2 c =
-    let l = c.before.before.loop-k in
+    let l = c.loop-k in
     is_not _ _ _ (l.invariant.1 ∙ is_at_out _ _ _ _ (omega arith) c.if-at-k.true)
 
 returns_3 : tie.Need-returns-then-s-at invariant_loop decreases_loop
 returns_3 c =
-    let l = c.before.before.before.before.before.loop-k in
+    let l = c.loop-k in
     is_not _ _ _ (l.invariant.1 ∙ is_at_not _ _ _ _ (omega arith) c.if-s-at.true)
 
 loop-again : tie.Need-loop-k-preserved invariant_loop decreases_loop
 loop-again c =
-    let l = c.before.before.before.before.before.loop-k in
+    let l = c.loop-k in
     (omega arith, l.invariant.1 ∙ is_at_here _ _ _ _ (omega arith) (omega arith) c.if-s-at.false, omega arith)
 
 returns-4 : tie.Need-returns invariant_loop decreases_loop
 returns-4 c =
-    let l = c.before.loop-k in
+    let l = c.loop-k in
     record { is = sym (l.invariant.1 ∙ is_at_end _ _ _ _ (omega arith) l.invariant.2); within = λ _. omega arith }
 
 pub is_at_spec : {M : Type 1} → statement M

@@ -9,17 +9,17 @@ use Rattle.text.proofs.lines.line_at.Tie as tie
 
 returns : tie.Need-returns-then-not-is_at
 unfolding line_at
-returns c = simp (unmet c.before.before.is_at.ensures.is c.before.if-not-is_at.true) c.wrong_row.ensures
+returns c = simp (unmet c.is_at.ensures.is c.if-not-is_at.true) c.wrong_row.ensures
 
 after-head : tie.Need-overflow_add-at
-after-head c = omega (arith, c.before.is_at.ensures.within (not-false _ c.if-not-is_at.false))
+after-head c = omega (arith, c.is_at.ensures.within (not-false _ c.if-not-is_at.false))
 
 words-at-requires : tie.Need-words_at-r-requires
-words-at-requires c κs = c.before.is_at.ensures.within (not-false _ c.if-not-is_at.false)
+words-at-requires c κs = c.is_at.ensures.within (not-false _ c.if-not-is_at.false)
 
 returns_2 : tie.Need-returns
 unfolding line_at
-returns_2 c = simp (met c.before.before.before.is_at.ensures.is c.before.before.if-not-is_at.false) (rw c.before.words_at_law.ensures at c.with_tail.ensures)
+returns_2 c = simp (met c.is_at.ensures.is c.if-not-is_at.false) (rw c.words_at-r.ensures at c.with_tail.ensures)
 
 pub line_at_spec : {M : Type 1} → statement M
 line_at_spec = tie.close (tie.spec (search rules) (search rules) returns after-head words-at-requires (search rules) returns_2)

@@ -22,23 +22,23 @@ loop-holds c = (omega arith, refl, omega arith, row_start _ _)
 
 returns : tie.Need-returns-in_default invariant_loop decreases_loop
 returns c =
-    let loop = c.before.before.before.before.loop-k in
-    sym (loop.invariant.3 ∙ row_stop _ _ _ (sym c.before.before.word_at_law.ensures.is ∙ c.enum_told-1.given.1))
+    let loop = c.loop-k in
+    sym (loop.invariant.3 ∙ row_stop _ _ _ (sym c.word_at.ensures.is ∙ c.in_default.is))
 
 loop-again : tie.Need-loop-k-preserved invariant_loop decreases_loop
 loop-again c =
     let found = c.before.before.before in
-    let word = found.before.before in
-    let start = word.before.before.before.before.args in
-    let l = word.before.before.loop-k in
-    let x = found.x-1.given.0.0 in
-    let j = found.x-1.given.0.1.0 in
-    let e : word_at loose start.s.now l.r.at ≡ Is x j = sym word.word_at_law.ensures.is ∙ found.x-1.given.1 in
+    let word = found.before in
+    let start = word.args in
+    let l = word.loop-k in
+    let x = found.in-Is.x-1 in
+    let j = found.in-Is.next in
+    let e : word_at loose start.s.now l.r.at ≡ Is x j = sym word.word_at.ensures.is ∙ found.in-Is.is in
     let n : length start.s.now - (l.k + 1) ≡ length start.s.now - l.k - 1 = omega arith in
-    (omega arith, refl, word_within _ _ x j _ word.word_at_law.ensures found.x-1.given.1, rw (n, with_float_law l.r l.k _ x j l.invariant.1 c.put_float-more.ensures) (l.invariant.3 ∙ row_step start.s.now l.r _ (omega arith) x j e))
+    (omega arith, refl, word_within _ _ x j _ word.word_at.ensures found.in-Is.is, rw (n, with_float_law l.r l.k _ x j l.invariant.1 c.put_float-more.ensures) (l.invariant.3 ∙ row_step start.s.now l.r _ (omega arith) x j e))
 
 returns_2 : tie.Need-returns invariant_loop decreases_loop
-returns_2 c = sym (c.before.loop-k.invariant.3 ∙ row_end _ _ _ (omega arith))
+returns_2 c = sym (c.loop-k.invariant.3 ∙ row_end _ _ _ (omega arith))
 
 pub row_at_spec : {M : Type 1} → statement M
 row_at_spec =

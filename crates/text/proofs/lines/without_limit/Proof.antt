@@ -11,10 +11,10 @@ use Rattle.text.proofs.lines.without_limit.Statement.{statement}
 use Rattle.text.proofs.lines.without_limit.Tie as tie
 
 returns : tie.Need-returns-then-byte-ne32
-returns c = c.wrong_row.ensures ∙ sym (none_blank _ _ (λ h. c.before.if-byte-ne32.true (c.before.before.byte.ensures ∙ h)))
+returns c = c.wrong_row.ensures ∙ sym (none_blank _ _ (λ h. c.if-byte-ne32.true (c.byte.ensures ∙ h)))
 
-blank : (c : tie.Else-byte-ne32) → let start = c.before.before.before.args in start.r.at < length start.s.now
-blank c = let start = c.before.before.before.args in blank_within start.s.now start.r.at (sym c.before.byte.ensures ∙ c.if-byte-ne32.false)
+blank : (c : tie.Else-byte-ne32) → let start = c.args in start.r.at < length start.s.now
+blank c = let start = c.args in blank_within start.s.now start.r.at (sym c.byte.ensures ∙ c.if-byte-ne32.false)
 
 after-blank : tie.Need-overflow_add-i
 after-blank c = omega (arith, blank c)
@@ -26,16 +26,16 @@ returns_2 : tie.Need-overflow_add-result
 returns_2 c =
     let word = c.before.before.before.before in
     let blank = word.before in
-    c.wrong_row-then-not-is_at.ensures ∙ sym (none_word _ _ _ (sym blank.before.byte.ensures ∙ blank.if-byte-ne32.false) word.past_blanks-word.ensures.is (unmet c.before.before.is_at.ensures.is c.before.if-not-is_at.true))
+    c.wrong_row-then-not-is_at.ensures ∙ sym (none_word _ _ _ (sym blank.byte.ensures ∙ blank.if-byte-ne32.false) word.past_blanks-word.ensures.is (unmet c.is_at.ensures.is c.if-not-is_at.true))
 
 after_none : tie.Need-returns
-after_none c = omega (arith, c.before.before.is_at.ensures.within (not-false _ c.before.if-not-is_at.false))
+after_none c = omega (arith, c.is_at.ensures.within (not-false _ c.if-not-is_at.false))
 
 returns_3 : tie.Need-returns
 returns_3 c =
     let word = c.before.before.before.before in
     let blank = word.before in
-    sym (none_right _ _ _ (sym blank.before.byte.ensures ∙ blank.if-byte-ne32.false) word.past_blanks-word.ensures.is (met c.before.before.is_at.ensures.is c.before.if-not-is_at.false))
+    sym (none_right _ _ _ (sym blank.byte.ensures ∙ blank.if-byte-ne32.false) word.past_blanks-word.ensures.is (met c.is_at.ensures.is c.if-not-is_at.false))
 
 pub without_limit_spec : {M : Type 1} → statement M
 without_limit_spec =

@@ -5,8 +5,8 @@ use Rattle.text_writer.proofs.forms.put_node.Tie as tie
 
 returns : tie.Need-returns
 returns c =
-    let state-of = c.before.before.before.before.before.before.state_of-state in
-    rw state-of.ensures at c.before.before.put_node_line.ensures
+    let state-of = c.state_of-state in
+    rw state-of.ensures at c.put_node_line.ensures
 
 pub put_node_spec : {M : Type 1} → statement M
 put_node_spec = tie.close (tie.spec (search rules) (search rules) (λ c. search rules) (λ c κs. search rules) (λ c. search rules) returns)

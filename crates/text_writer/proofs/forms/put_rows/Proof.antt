@@ -17,17 +17,17 @@ decreases_loop b₀ at z c i₀ k₀ b i k = 16 - k
 put-row-requires : tie.Need-put_row-i-requires invariant_loop decreases_loop
 put-row-requires c κs =
     let entry = c.before.before.before.before.before in
-    let h = row_end c.before.before.loop-k.k 16 entry.args.c (omega arith) in omega arith
+    let h = row_end c.loop-k.k 16 entry.args.c (omega arith) in omega arith
 
 loop-again : tie.Need-loop-k-preserved invariant_loop decreases_loop
 loop-again c =
     let put = c.before.before in
-    let l = put.before.before.before.loop-k in
-    first_next l.invariant (omega arith) put.put_row_law.ensures put.put_row_law.auto.0
+    let l = put.loop-k in
+    first_next l.invariant (omega arith) put.put_row-i.ensures put.put_row_law.auto.0
 
 returns : tie.Need-returns invariant_loop decreases_loop
 unfolding rows
-returns c = first_all c.before.loop-k.invariant (omega arith)
+returns c = first_all c.loop-k.invariant (omega arith)
 
 pub put_rows_spec : {M : Type 1} → statement M
-put_rows_spec = tie.close (tie.spec invariant_loop decreases_loop (λ c. first_none) put-row-requires (search rules) (search rules) loop-again (λ c. c.before.loop-k.invariant.same) returns)
+put_rows_spec = tie.close (tie.spec invariant_loop decreases_loop (λ c. first_none) put-row-requires (search rules) (search rules) loop-again (λ c. c.loop-k.invariant.same) returns)

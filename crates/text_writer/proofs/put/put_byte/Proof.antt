@@ -6,7 +6,7 @@ use Rattle.text_writer.proofs.put.put_byte.Statement.{statement}
 use Rattle.text_writer.proofs.put.put_byte.Tie as tie
 
 returns : tie.Need-returns
-returns c = record { is = c.before.before.put.ensures; ends = refl; short = omega arith }
+returns c = record { is = c.put.ensures; ends = refl; short = omega arith }
 
 pub put_byte_spec : {M : Type 1} → statement M
 put_byte_spec = tie.close (tie.spec (search rules) (search rules) (search rules) returns)

@@ -24,30 +24,30 @@ loop-holds c = (omega arith, refl, omega arith, omega arith, refl, refl, refl, o
 div-hex-byte-2 : tie.Need-nonzero_div-rest invariant_loop decreases_loop
 div-hex-byte-2 c =
     let at-loop = c.before.before in
-    (turn at-loop.loop.k at-loop.loop.weight at-loop.loop.rest at-loop.loop-rest.invariant.1 at-loop.loop-rest.invariant.7 at-loop.loop-rest.invariant.2 c.before.loop-rest-test.true).pos
+    (turn at-loop.loop-rest.k at-loop.loop-rest.weight at-loop.loop-rest.rest at-loop.loop-rest.invariant.1 at-loop.loop-rest.invariant.7 at-loop.loop-rest.invariant.2 c.loop-rest-test.true).pos
 
 hex-byte-requires-2 : tie.Need-hex_byte-requires-in-loop-rest invariant_loop decreases_loop
 hex-byte-requires-2 c κs =
     let at-loop = c.before.before in
-    (turn at-loop.loop.k at-loop.loop.weight at-loop.loop.rest at-loop.loop-rest.invariant.1 at-loop.loop-rest.invariant.7 at-loop.loop-rest.invariant.2 c.before.loop-rest-test.true).digit
+    (turn at-loop.loop-rest.k at-loop.loop-rest.weight at-loop.loop-rest.rest at-loop.loop-rest.invariant.1 at-loop.loop-rest.invariant.7 at-loop.loop-rest.invariant.2 c.loop-rest-test.true).digit
 
 rem-rest-2 : tie.Need-nonzero_rem-rest-in-loop-rest invariant_loop decreases_loop
 rem-rest-2 c =
     let at-loop-test = c.before.before.before.before.before in
     let at-loop = at-loop-test.before in
-    (turn at-loop.loop.k at-loop.loop.weight at-loop.loop.rest at-loop.loop-rest.invariant.1 at-loop.loop-rest.invariant.7 at-loop.loop-rest.invariant.2 at-loop-test.loop-rest-test.true).pos
+    (turn at-loop.loop-rest.k at-loop.loop-rest.weight at-loop.loop-rest.rest at-loop.loop-rest.invariant.1 at-loop.loop-rest.invariant.7 at-loop.loop-rest.invariant.2 at-loop-test.loop-rest-test.true).pos
 
 sub-k : tie.Need-overflow_sub-k invariant_loop decreases_loop
 sub-k c =
     let at-loop-test = c.before.before.before.before.before in
     let at-loop = at-loop-test.before in
-    (turn at-loop.loop.k at-loop.loop.weight at-loop.loop.rest at-loop.loop-rest.invariant.1 at-loop.loop-rest.invariant.7 at-loop.loop-rest.invariant.2 at-loop-test.loop-rest-test.true).more
+    (turn at-loop.loop-rest.k at-loop.loop-rest.weight at-loop.loop-rest.rest at-loop.loop-rest.invariant.1 at-loop.loop-rest.invariant.7 at-loop.loop-rest.invariant.2 at-loop-test.loop-rest-test.true).more
 
 loop-less : tie.Need-loop-rest-smaller invariant_loop decreases_loop
 loop-less c =
     let at-loop-test = c.before.before.before.before.before in
     let at-loop = at-loop-test.before in
-    let t = turn at-loop.loop.k at-loop.loop.weight at-loop.loop.rest at-loop.loop-rest.invariant.1 at-loop.loop-rest.invariant.7 at-loop.loop-rest.invariant.2 at-loop-test.loop-rest-test.true in omega arith
+    let t = turn at-loop.loop-rest.k at-loop.loop-rest.weight at-loop.loop-rest.rest at-loop.loop-rest.invariant.1 at-loop.loop-rest.invariant.7 at-loop.loop-rest.invariant.2 at-loop-test.loop-rest-test.true in omega arith
 
 loop-again : tie.Need-loop-rest-preserved invariant_loop decreases_loop
 loop-again c =
@@ -56,7 +56,7 @@ loop-again c =
     let at-loop-test = at-hex-byte2.before.before in
     let at-loop = at-loop-test.before in
     let l = at-loop.loop-rest in
-    let t = turn at-loop.loop.k at-loop.loop.weight at-loop.loop.rest at-loop.loop-rest.invariant.1 at-loop.loop-rest.invariant.7 at-loop.loop-rest.invariant.2 at-loop-test.loop-rest-test.true in
+    let t = turn at-loop.loop-rest.k at-loop.loop-rest.weight at-loop.loop-rest.rest at-loop.loop-rest.invariant.1 at-loop.loop-rest.invariant.7 at-loop.loop-rest.invariant.2 at-loop-test.loop-rest-test.true in
     let d = rest_some l.k l.rest (l.weight / 16) at-loop-test.loop-rest-test.true t.more t.weight in
     let p : at-put2.put-in-loop-rest.new.0 ≡ set l.b-1 l.i (digit_byte (l.rest / (l.weight / 16))) = at-put2.put-in-loop-rest.ensures ∙ rw at-hex-byte2.hex_byte-in-loop-rest.ensures in (
       omega arith,
@@ -70,7 +70,7 @@ loop-again c =
     )
 
 same_length : tie.Need-shape_of-b invariant_loop decreases_loop
-same_length c = c.before.loop-rest.invariant.6 ∙ c.before.before.before.before.put.auto.0
+same_length c = c.loop-rest.invariant.6 ∙ c.put.auto.0
 
 returns : tie.Need-returns invariant_loop decreases_loop
 returns c =
@@ -78,7 +78,7 @@ returns c =
     let at-hex-byte = at-put.before in
     let start = at-hex-byte.before.before.before in
     let a = start.args in
-    let l = c.before.loop-rest in
+    let l = c.loop-rest in
     let p : at-put.put.new.0 ≡ set a.b-1.now a.at (digit_byte (a.x / 1152921504606846976)) = at-put.put.ensures ∙ rw at-hex-byte.hex_byte.ensures in
     let z = rest_none l.k l.rest c.loop-rest-test.false in
     let e = puts_turn a.b-1.now _ _ a.at _ (text_is a.x) in

@@ -11,14 +11,14 @@ returns c =
     let digits = c.before.before in
     let byte = digits.before.before.before.before in
     let then = byte.before.before in
-    let a = then.before.before.args in
+    let a = then.args in
     rw (whole_less a.x a.m, lt-ltb _ _ then.if-x-m.true) (puts_join byte.put_byte-i.ensures digits.put_digits.ensures)
 
 returns_2 : tie.Need-returns
 returns_2 c =
     let digits = c.before.before in
     let other = digits.before.before in
-    let a = other.before.before.args in
+    let a = other.args in
     rw (whole_less a.x a.m, le-ltb _ _ other.if-x-m.false) (puts_most (omega arith) digits.put_digits-2.ensures)
 
 pub put_less_spec : {M : Type 1} → statement M

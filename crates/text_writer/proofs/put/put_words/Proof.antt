@@ -17,15 +17,15 @@ decreases_loop b₀ at v from n i₀ k₀ b i k = n - k
 loop-again : tie.Need-loop-k-preserved invariant_loop decreases_loop
 loop-again c =
     let put = c.before.before in
-    let l = put.before.before.before.before.loop-k in
+    let l = put.loop-k in
     first_next l.invariant (omega arith) put.put_word-i.ensures put.put_word.auto.0
 
 returns : tie.Need-returns invariant_loop decreases_loop
 unfolding words
-returns c = first_all c.before.loop-k.invariant (omega arith)
+returns c = first_all c.loop-k.invariant (omega arith)
 
 pub put_words_spec : {M : Type 1} → statement M
 put_words_spec =
     tie.close
     (tie.spec invariant_loop decreases_loop (λ c. first_none) (search rules) (search rules) (search rules) (search rules) (search rules) (search rules) loop-again
-    (λ c. c.before.loop-k.invariant.same) returns)
+    (λ c. c.loop-k.invariant.same) returns)

@@ -17,8 +17,8 @@ decreases_loop n times i₀ i = n - i
 
 returns_2 : tie.Need-returns invariant_loop decreases_loop
 returns_2 c =
-    let l = c.before.loop-i in
-    let e : l.i ≡ c.before.before.before.args.n = omega arith in
+    let l = c.loop-i in
+    let e : l.i ≡ c.args.n = omega arith in
     rw e at l.invariant.1
 
 pub any_outside_spec : {M : Type 1} → statement M
@@ -28,9 +28,9 @@ any_outside_spec =
     invariant_loop
     decreases_loop
     (λ c. (omega arith, any_none _))
-    (λ c κs. (c.loop-i-test.true, c.before.before.before.requires))
-    (λ c. let l = c.before.before.before in sym (any_hit _ l.loop.i _ c.before.before.loop-i-test.true (sym c.before.row_outside.ensures ∙ c.if-row_outside.true)))
+    (λ c κs. (c.loop-i-test.true, c.requires))
+    (λ c. let l = c.before.before.before in sym (any_hit _ l.loop-i.i _ c.loop-i-test.true (sym c.row_outside.ensures ∙ c.if-row_outside.true)))
     (λ c. omega arith)
     (λ c. omega arith)
-    (λ c. let l = c.before.before.before in (omega arith, any_more _ l.loop.i l.loop-i.invariant.1 (sym c.before.row_outside.ensures ∙ c.if-row_outside.false)))
+    (λ c. let l = c.before.before.before in (omega arith, any_more _ l.loop-i.i l.loop-i.invariant.1 (sym c.row_outside.ensures ∙ c.if-row_outside.false)))
     returns_2)

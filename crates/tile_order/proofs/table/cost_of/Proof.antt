@@ -15,13 +15,13 @@ decreases_loop n times order sum₀ i₀ sum i = n - i
 
 loop-again : tie.Need-loop-i-preserved invariant_loop decreases_loop
 loop-again c =
-    let l = c.before.before.before.before.loop-i in
+    let l = c.loop-i in
     (omega arith, omega arith, sum_more _ l.i l.invariant.2 c.leg-sum.ensures.0)
 
 returns : tie.Need-returns invariant_loop decreases_loop
 returns c =
-    let l = c.before.loop-i in
-    let e : l.i ≡ c.before.before.before.args.n - 1 = omega arith in
+    let l = c.loop-i in
+    let e : l.i ≡ c.args.n - 1 = omega arith in
     rw e at l.invariant.2
 
 pub cost_of_spec : {M : Type 1} → statement M
@@ -37,7 +37,7 @@ cost_of_spec =
     (λ c. omega arith)
     (λ c. omega arith)
     (λ c. omega arith)
-    (λ c κs. let l = c.before.before.before.loop-i in
+    (λ c κs. let l = c.loop-i in
     let a = c.before.before.before.before.before in
     (a.requires.3 l.i (omega arith), a.requires.3 (l.i + 1) (omega arith), a.requires.2))
     (λ c. omega arith)

@@ -16,13 +16,13 @@ decreases_loop n times sum₀ i₀ sum i = n - i
 
 loop-again : tie.Need-loop-i-preserved invariant_loop decreases_loop
 loop-again c =
-    let l = c.before.before.loop-i in
+    let l = c.loop-i in
     (omega arith, omega arith, sum_more _ l.i l.invariant.2 c.least-sum.ensures.0)
 
 returns : tie.Need-returns invariant_loop decreases_loop
 returns c =
-    let l = c.before.loop-i in
-    let e : l.i ≡ c.before.before.before.args.n - 1 = omega arith in
+    let l = c.loop-i in
+    let e : l.i ≡ c.args.n - 1 = omega arith in
     rw e at l.invariant.2
 
 pub floor_spec : {M : Type 1} → statement M
@@ -34,7 +34,7 @@ floor_spec =
     (λ c. (omega arith, omega arith, sum_none _))
     (λ c. omega arith)
     (λ c. omega arith)
-    (λ c κs. (omega arith, c.before.before.before.requires.2))
+    (λ c κs. (omega arith, c.requires.2))
     (λ c. omega arith)
     (λ c. omega arith)
     (λ c. omega arith)

@@ -18,13 +18,13 @@ decreases_loop n times i m₀ j₀ m j = n - j
 
 loop-again : tie.Need-loop-j-preserved invariant_loop decreases_loop
 loop-again c =
-    let l = c.before.before.loop-j in
+    let l = c.loop-j in
     (omega arith, omega arith, iter_next _ _ l.j l.invariant.2 c.lesser-m.ensures.0)
 
 returns : tie.Need-returns invariant_loop decreases_loop
 returns c =
-    let l = c.before.loop-j in
-    let e : l.j ≡ c.before.before.before.args.n = omega arith in
+    let l = c.loop-j in
+    let e : l.j ≡ c.args.n = omega arith in
     (rw e at l.invariant.2, l.invariant.1)
 
 pub least_spec : {M : Type 1} → statement M

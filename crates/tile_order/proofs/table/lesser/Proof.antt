@@ -11,5 +11,5 @@ lesser_spec =
     (tie.spec
     (λ c. (rw (eq-eqb _ _ c.if-j-i.true), omega arith))
     (λ c κs. search rules)
-    (λ c. (rw (ne_eqb _ _ c.before.before.if-j-i.false) (omega arith), omega arith))
-    (λ c. (rw (ne_eqb _ _ c.before.before.if-j-i.false) (omega arith), omega arith)))
+    (λ c. (rw (ne_eqb _ _ c.if-j-i.false) (omega arith), omega arith))
+    (λ c. (rw (ne_eqb _ _ c.if-j-i.false) (omega arith), omega arith)))

@@ -13,6 +13,6 @@ outside_spec =
     (tie.spec
     (λ c. rw (eq-eqb _ _ c.if-i-j.true))
     (λ c κs. search rules)
-    (λ c. let l = c.before in rw (ne_eqb _ _ l.before.if-i-j.false, eq-eqb _ _ (sym l.leg-t.ensures.0 ∙ c.if-t-eq0.true)))
+    (λ c. let l = c.before in rw (ne_eqb _ _ l.if-i-j.false, eq-eqb _ _ (sym l.leg-t.ensures.0 ∙ c.if-t-eq0.true)))
     (λ c. let l = c.before in
-    rw (ne_eqb _ _ l.before.if-i-j.false, ne_eqb _ _ (λ e. c.if-t-eq0.false (l.leg-t.ensures.0 ∙ e))) (ap (ltb longest) l.leg-t.ensures.0)))
+    rw (ne_eqb _ _ l.if-i-j.false, ne_eqb _ _ (λ e. c.if-t-eq0.false (l.leg-t.ensures.0 ∙ e))) (ap (ltb longest) l.leg-t.ensures.0)))

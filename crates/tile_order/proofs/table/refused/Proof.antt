@@ -11,9 +11,9 @@ refused_spec =
     tie.close
     (tie.spec
     (λ c. rw (eq-eqb _ _ c.if-n-eq0.true))
-    (λ c. rw (ne_eqb _ _ c.before.if-n-eq0.false, lt-ltb _ _ c.if-n-gt10.true))
-    (λ c. let h : c.before.before.before.args.n ≤ 10 = c.if-n-gt10.false in omega (arith, mul-le-mul h h))
+    (λ c. rw (ne_eqb _ _ c.if-n-eq0.false, lt-ltb _ _ c.if-n-gt10.true))
+    (λ c. let h : c.args.n ≤ 10 = c.if-n-gt10.false in omega (arith, mul-le-mul h h))
     (λ c κs. c.if-times-n.true)
     (λ c. let d = c.before in
-    rw (ne_eqb _ _ d.before.before.if-n-eq0.false, le-ltb _ _ d.before.if-n-gt10.false, eq-eqb _ _ d.if-times-n.true) c.any_outside.ensures)
-    (λ c. rw (ne_eqb _ _ c.before.before.if-n-eq0.false, le-ltb _ _ c.before.if-n-gt10.false, ne_eqb _ _ c.if-times-n.false)))
+    rw (ne_eqb _ _ d.if-n-eq0.false, le-ltb _ _ d.if-n-gt10.false, eq-eqb _ _ d.if-times-n.true) c.any_outside.ensures)
+    (λ c. rw (ne_eqb _ _ c.if-n-eq0.false, le-ltb _ _ c.if-n-gt10.false, ne_eqb _ _ c.if-times-n.false)))

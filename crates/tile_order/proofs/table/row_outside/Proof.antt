@@ -17,8 +17,8 @@ decreases_loop n times i j₀ j = n - j
 
 returns_2 : tie.Need-returns invariant_loop decreases_loop
 returns_2 c =
-    let l = c.before.loop-j in
-    let e : l.j ≡ c.before.before.before.args.n = omega arith in
+    let l = c.loop-j in
+    let e : l.j ≡ c.args.n = omega arith in
     rw e at l.invariant.1
 
 pub row_outside_spec : {M : Type 1} → statement M
@@ -29,8 +29,8 @@ row_outside_spec =
     decreases_loop
     (λ c. (omega arith, any_none _))
     (λ c κs. let a = c.before.before.before in (a.requires.0, c.loop-j-test.true, a.requires.1))
-    (λ c. let l = c.before.before.before in sym (any_hit _ l.loop.j _ c.before.before.loop-j-test.true (sym c.before.outside.ensures ∙ c.if-outside.true)))
+    (λ c. let l = c.before.before.before in sym (any_hit _ l.loop-j.j _ c.loop-j-test.true (sym c.outside.ensures ∙ c.if-outside.true)))
     (λ c. omega arith)
     (λ c. omega arith)
-    (λ c. let l = c.before.before.before in (omega arith, any_more _ l.loop.j l.loop-j.invariant.1 (sym c.before.outside.ensures ∙ c.if-outside.false)))
+    (λ c. let l = c.before.before.before in (omega arith, any_more _ l.loop-j.j l.loop-j.invariant.1 (sym c.outside.ensures ∙ c.if-outside.false)))
     returns_2)

@@ -15,22 +15,22 @@ loop-holds c = (omega arith, all_open c.args.hi c.args.lo c.ranges.hi.fits c.ran
 
 digit-requires : tie.Need-digit-s-requires invariant_loop decreases_loop
 digit-requires c κs =
-    let k = c.before.loop-k.k in
+    let k = c.loop-k.k in
     let e : k - 1 + 1 ≡ k = omega arith in
     let l : k - 1 < 64 = omega arith in
-    rw (shifted (k - 1) l) (digit_fits _ _ (k - 1) (rw (← e) at c.before.loop-k.invariant.1))
+    rw (shifted (k - 1) l) (digit_fits _ _ (k - 1) (rw (← e) at c.loop-k.invariant.1))
 
 loop-again : tie.Need-loop-k-preserved invariant_loop decreases_loop
 loop-again c =
-    let k = c.before.before.loop-k.k in
+    let k = c.loop-k.k in
     let e : k - 1 + 1 ≡ k = omega arith in
     let l : k - 1 < 64 = omega arith in
-    (omega arith, next_open _ _ (k - 1) (subst (Open _ _) (sym e) c.before.before.loop-k.invariant.1) _ (rw (shifted (k - 1) l) at c.digit-s.ensures))
+    (omega arith, next_open _ _ (k - 1) (subst (Open _ _) (sym e) c.loop-k.invariant.1) _ (rw (shifted (k - 1) l) at c.digit-s.ensures))
 
 returns : tie.Need-returns invariant_loop decreases_loop
 returns c =
-    let z : c.before.loop-k.k ≡ 0 = omega arith in
-    closed _ _ (rw z at c.before.loop-k.invariant.1)
+    let z : c.loop-k.k ≡ 0 = omega arith in
+    closed _ _ (rw z at c.loop-k.invariant.1)
 
 pub by_digits_spec : {M : Type 1} → statement M
 by_digits_spec =

@@ -4,10 +4,10 @@ use Rattle.wide.proofs.isqrt.digit.Statement.{statement}
 use Rattle.wide.proofs.isqrt.digit.Tie as tie
 
 returns : tie.Need-returns-then-above
-returns c = rw (← c.before.above.ensures, c.if-above.true)
+returns c = rw (← c.above.ensures, c.if-above.true)
 
 returns_2 : tie.Need-returns-else-above
-returns_2 c = rw (← c.before.above.ensures, c.if-above.false)
+returns_2 c = rw (← c.above.ensures, c.if-above.false)
 
 pub digit_spec : {M : Type 1} → statement M
 digit_spec = tie.close (tie.spec (λ c. search rules) (λ c κs. search rules) (λ c. search rules) returns returns_2)

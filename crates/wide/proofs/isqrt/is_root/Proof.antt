@@ -11,10 +11,10 @@ returns c t = absurd (subst T (sym t) tt)
 returns_2 : tie.Need-returns-then-s-eq18446744073709551615
 returns_2 c t =
     let start = c.before.before.before in
-    top_root start.args.hi start.args.lo _ start.ranges.hi.fits start.ranges.lo.fits c.if-s-eq18446744073709551615.true (not_above _ _ _ c.before.before.above.ensures c.before.if-above.false)
+    top_root start.args.hi start.args.lo _ start.ranges.hi.fits start.ranges.lo.fits c.if-s-eq18446744073709551615.true (not_above _ _ _ c.above.ensures c.if-above.false)
 
 returns_3 : tie.Need-returns-else-s-eq18446744073709551615
-returns_3 c t = between _ _ (not_above _ _ _ c.before.before.before.above.ensures c.before.before.if-above.false) (is_above _ _ _ c.above-else-s-eq18446744073709551615.ensures t)
+returns_3 c t = between _ _ (not_above _ _ _ c.above.ensures c.if-above.false) (is_above _ _ _ c.above-else-s-eq18446744073709551615.ensures t)
 
 pub is_root_spec : {M : Type 1} → statement M
 is_root_spec =

@@ -4,13 +4,13 @@ use Rattle.wide.proofs.isqrt.isqrt.Statement.{statement}
 use Rattle.wide.proofs.isqrt.isqrt.Tie as tie
 
 returns : tie.Need-returns-then-is_root
-returns c = c.before.is_root.ensures c.if-is_root.true
+returns c = c.is_root.ensures c.if-is_root.true
 
 returns_2 : tie.Need-returns-then-is_root-2
-returns_2 c = c.before.is_root-2.ensures c.if-is_root-2.true
+returns_2 c = c.is_root-2.ensures c.if-is_root-2.true
 
 returns_3 : tie.Need-returns-then-is_root-3
-returns_3 c = c.before.is_root-3.ensures c.if-is_root-3.true
+returns_3 c = c.is_root-3.ensures c.if-is_root-3.true
 
 pub isqrt_spec : {M : Type 1} → statement M
 isqrt_spec =

@@ -11,10 +11,10 @@ mul-wrapping-add-u64-2 : tie.Need-overflow_mul-u
 mul-wrapping-add-u64-2 c = let h = halves c.args.u c.args.v c.ranges.u.fits c.ranges.v.fits in omega arith
 
 mul-wrapping-add-u64-3 : tie.Need-overflow_mul-u0-2
-mul-wrapping-add-u64-3 c = let h = halves c.before.args.u c.before.args.v c.before.ranges.u.fits c.before.ranges.v.fits in omega arith
+mul-wrapping-add-u64-3 c = let h = halves c.args.u c.args.v c.ranges.u.fits c.ranges.v.fits in omega arith
 
 returns : tie.Need-returns
-returns c = omega (arith, word_mul c.before.before.args.u c.before.before.args.v, c.before.wrapping_add_u64-c.ensures, c.wrapping_add_u64.ensures)
+returns c = omega (arith, word_mul c.args.u c.args.v, c.wrapping_add_u64-c.ensures, c.wrapping_add_u64.ensures)
 
 pub low_product_spec : {M : Type 1} → statement M
 low_product_spec =

@@ -4,7 +4,7 @@ use Rattle.wide.proofs.product.product.Statement.{statement}
 use Rattle.wide.proofs.product.product.Tie as tie
 
 returns : tie.Need-returns
-returns c = omega (arith, c.before.high_product.ensures, c.low_product.ensures)
+returns c = omega (arith, c.high_product.ensures, c.low_product.ensures)
 
 pub product_spec : {M : Type 1} → statement M
 product_spec = tie.close (tie.spec (λ c κs. search rules) (λ c κs. search rules) returns)
