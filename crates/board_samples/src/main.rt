@@ -1,4 +1,4 @@
 // Tests slew_samples where it is asked for the drive board's whole numbers: the same problem as that program's own test.
 fn main() {
-    sample_program::run();
+    programs::samples::run();
 }

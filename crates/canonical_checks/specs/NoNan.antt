@@ -87,7 +87,7 @@ unit_finite place v f h = go (lt (norm3 v) least || not (finite (norm3 v))) refl
     go true e = never (rw e at h)
     go false e = denied (finite (norm3 v)) (neither (lt (norm3 v) least) (not (finite (norm3 v))) e).1
 
-pub axis_finite : (v : List Float) → T (finite (norm3 v)) → T (finite (at v 0)) × T (finite (at v 1)) × T (finite (at v 2))
+axis_finite : (v : List Float) → T (finite (norm3 v)) → T (finite (at v 0)) × T (finite (at v 1)) × T (finite (at v 2))
 unfolding norm3
 axis_finite v t = (search finites depth 8, search finites depth 8, search finites depth 8)
 
@@ -183,10 +183,10 @@ prepared_sane a h = go (ltb 8 a.wheel_count) (ltb 12 a.thruster_count) refl refl
 
 -- ---- fields
 
-pub det_finite : (v : List Float) → T (finite (det3 (tensor v))) → T (finite (at v 0)) × T (finite (at v 1)) × T (finite (at v 2)) × T (finite (at v 3)) × T (finite (at v 4)) × T (finite (at v 5)) × T (finite (at v 6)) × T (finite (at v 7)) × T (finite (at v 8))
+det_finite : (v : List Float) → T (finite (det3 (tensor v))) → T (finite (at v 0)) × T (finite (at v 1)) × T (finite (at v 2)) × T (finite (at v 3)) × T (finite (at v 4)) × T (finite (at v 5)) × T (finite (at v 6)) × T (finite (at v 7)) × T (finite (at v 8))
 det_finite v t = (search finites depth 8, search finites depth 8, search finites depth 8, search finites depth 8, search finites depth 8, search finites depth 8, search finites depth 8, search finites depth 8, search finites depth 8)
 
-pub inertia_finite : (j : List (List Float)) → (invert_spd j).fate ≡ Going → T (finite (det3 j))
+inertia_finite : (j : List (List Float)) → (invert_spd j).fate ≡ Going → T (finite (det3 j))
 unfolding invert_spd is_spd
 inertia_finite j h = go (symmetric j && definite j) refl
   where
@@ -220,7 +220,7 @@ slew_sane Nothing rest h k = k
 slew_sane (At x) rest h k = (positive_finite x h, k)
 
 -- between 0 and 1 is finite
-pub tolerance_finite : (x : Float) → Problems.tolerance_fits x ≡ true → T (finite x)
+tolerance_finite : (x : Float) → Problems.tolerance_fits x ≡ true → T (finite x)
 unfolding lt of_bits of_fields
 tolerance_finite x h = by x (both (lt plus_zero x) (lt x one) h).0 (both (lt plus_zero x) (lt x one) h).1
   where

@@ -4,7 +4,6 @@ ghost use Rattle.std.specs.Prelude.{◌≡◌, ◌+◌, ◌*◌, ◌≤◌, leng
 ghost use Rattle.normal_equations.specs.Rows.{rows};
 ghost use Rattle.elimination.specs.Elimination as Elimination;
 ghost use Rattle.damped_steps.specs.Gram.{GramKept};
-ghost use Rattle.damped_steps.specs.Steps.{Stepped};
 
 use elimination::solve_dense;
 use normal_equations::rows::copy;
@@ -26,11 +25,14 @@ pub fn keep_gram(v: &mut [f64], n: usize, m: usize, gram: &mut [f64])
     copy(&mut gram[..size], &v[o..]);
 }
 
-// The step: v holds g.len() columns of m numbers, which stay, and after them room for the matrix; g becomes the step. False where the equations are singular.
-// The matrix and, where they are singular, g are left as the elimination leaves them.
+// The step: v holds g.len() columns of m numbers, which stay, and after them room for the matrix, which is free afterwards; g becomes the step. False where the
+// equations are singular: what g holds then is free.
 pub fn damped_step(v: &mut [f64], m: usize, r: &[f64], lambda: f64, g: &mut [f64]) -> bool
     requires { (length g.old ≤ 193) × (m ≤ length r.now) × (length v.old ≡ length g.old * m + length g.old * length g.old) }
-    ensures { Stepped (length g.old) m v.old r.now lambda result v.new g.new }
+    ensures { (take (length g.old * m) v.new ≡ take (length g.old * m) v.old)
+        × (Elimination.told result g.new
+        ≡ Elimination.damped_step (length g.old) m (rows (length g.old) m (take (length g.old * m) v.old))
+        r.now lambda) }
 {
     let n = g.len();
     let o = n * m;

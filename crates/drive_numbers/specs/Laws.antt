@@ -10,7 +10,7 @@ use Rattle.std.proofs.Math.Dec.{T}
 use Rattle.std.specs.Float.Ieee.Bits.{is_true}
 use Rattle.std.specs.Float.Ieee.Nearest.{closest}
 use Rattle.std.specs.Float.Ieee.Scale.{finite}
-use Rattle.float.specs.Exact.{exact}
+use Rattle.float_laws.specs.Exact.{exact}
 use Rattle.drive_numbers.specs.declared.Unit.{Unit}
 use Rattle.drive_numbers.specs.declared.Whole.{Whole}
 use Rattle.drive_numbers.specs.declared.Whole.TheVariants as Whole

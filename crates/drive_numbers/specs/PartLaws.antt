@@ -13,9 +13,8 @@ use Rattle.std.proofs.Math.Arith.{lt→nleb}
 use Rattle.std.specs.Float.Ieee.Fits.{down_pos}
 use Rattle.std.specs.Float.Ieee.Nearest.{closest}
 use Rattle.float.specs.Ops.{abs}
-use Rattle.float.specs.Exact.{mag}
-use Rattle.float_laws.specs.Place.{mag_exact}
-use Rattle.float.specs.Exact.{exact, signed}
+use Rattle.float_laws.specs.Place.{mag, mag_exact}
+use Rattle.float_laws.specs.Exact.{exact, signed}
 use Rattle.drive_numbers.specs.declared.Unit.{Unit}
 use Rattle.drive_numbers.specs.declared.Unit.TheVariants as Unit
 use Rattle.drive_numbers.specs.declared.Whole.{Whole}

@@ -11,8 +11,7 @@ use Rattle.std.specs.Float.Ieee.Exact.{HasValue, units_val}
 use Rattle.std.specs.Float.Ieee.Fits.{down_pos, round_is}
 use Rattle.std.specs.Float.Ieee.Nearest.{closest, closest_same}
 use Rattle.std.specs.Float.Ieee.Scale.{round_same}
-use Rattle.float.specs.Exact.{mag}
-use Rattle.float_laws.specs.Place.{mag_exact}
+use Rattle.float_laws.specs.Place.{mag, mag_exact}
 use Rattle.drive_numbers.specs.NearestLaws.{closest_more, closest_le}
 
 -- ---- digits

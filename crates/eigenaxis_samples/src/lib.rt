@@ -1,6 +1,6 @@
 // Dense samples of a text's eigenaxis plan: what they are taken of, and the acceleration that they are asked for with. `sample_text` prints them.
-ghost use Rattle.std.specs.Prelude.{◌≡◌};
-ghost use Rattle.sample_text.specs.SampleTexts.{Makes};
+ghost use Rattle.std.specs.Prelude.{◌≡◌, length};
+ghost use Rattle.planner.specs.Plans as Plans;
 ghost use Rattle.eigenaxis_samples.specs.Courses as Courses;
 
 use common::SOLVER_NODES;
@@ -46,7 +46,8 @@ fn alpha_of(a: Planned) -> f64
 
 // The eigenaxis plan of a text, to take samples of.
 pub fn plan_eigenaxis_course(text: &[u8], shape: Shape, ws: &mut [f64]) -> Course
-    ensures { Makes (Courses.eigenaxis_course text.now shape) ws.old result ws.new }
+    ensures value { result ≡ Courses.eigenaxis_course text.now shape (length ws.old) }
+    ensures ws_after { ws.new ≡ Plans.leaves result.runs ws.old }
 {
     let read = text_reader::read(text);
     let p = read.problem;

@@ -11,7 +11,7 @@ use common::{Limit, STEPS};
 use geom::Rotation;
 use problem::CheckedProblem;
 
-// How the rate goes about the axis: up, level and down, in the shortest duration that the search over durations finds; or in one smooth wave, for sensors that shake.
+// How the rate goes about the axis: up, level and down, as short as the limits allow; or in one smooth wave, for sensors that shake.
 #[derive(Clone, Copy)]
 pub enum Shape {
     Fastest,

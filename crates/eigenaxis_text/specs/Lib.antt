@@ -1,5 +1,3 @@
 -- The eigenaxis plan of a problem's text.
 -- ---- meaning
-pub mod EigenaxisTexts  -- the plan of what the reader answers, and its promises
--- ---- laws
-pub mod EigenaxisTextLaws  -- the promises, in the code's steps
+pub mod EigenaxisTexts  -- the plan of what the reader answers

@@ -3,9 +3,7 @@ ghost use Rattle.std.specs.Prelude.{◌≡◌, length};
 ghost use Rattle.planner.specs.Plans as Plans;
 ghost use Rattle.eigenaxis.specs.Ladders as Ladders;
 ghost use Rattle.plan_text.specs.PlanTexts as PlanTexts;
-ghost use Rattle.plan_text.specs.PlanTexts.{Promises};
-ghost use Rattle.plan_method.specs.Methods.{AnswersBy};
-ghost use Rattle.plan_method.specs.declared.PlanMethod.TheVariants as PlanMethod;
+ghost use Rattle.plan_text.specs.PlanTexts.{Tells};
 ghost use Rattle.eigenaxis_text.specs.EigenaxisTexts as EigenaxisTexts;
 
 use common::Fate;
@@ -17,9 +15,8 @@ use problem_text::Read;
 
 // The plan of what was read about one axis. A text that is refused is refused before any run.
 pub fn plan_eigenaxis_read(read: Read, shape: Shape, ws: &mut [f64]) -> Planned
-    ensures { (result ≡ PlanTexts.of_read read (λ p. Ladders.counted (Ladders.plan_eigenaxis p shape (length ws.old))))
-        × (ws.new ≡ Plans.leaves result.runs ws.old)
-        × AnswersBy (PlanMethod.Eigenaxis shape) (length ws.old) read.problem result }
+    ensures value { result ≡ PlanTexts.of_read read (λ p. Ladders.counted (Ladders.plan_eigenaxis p shape (length ws.old))) }
+    ensures ws_after { ws.new ≡ Plans.leaves result.runs ws.old }
 {
     let fate = read.fate;
     match fate {
@@ -33,8 +30,7 @@ pub fn plan_eigenaxis_read(read: Read, shape: Shape, ws: &mut [f64]) -> Planned
 
 // The plan of a text about one axis: what `slew_eigenaxis` prints.
 pub fn plan_eigenaxis_text(text: &[u8], shape: Shape, ws: &mut [f64], out: &mut [u8]) -> Told
-    ensures { Promises (EigenaxisTexts.TextAnswers text.now shape (length ws.old)) (EigenaxisTexts.planned text.now shape)
-        ws.old out.old result ws.new out.new }
+    ensures { Tells (EigenaxisTexts.planned text.now shape) ws.old out.old result ws.new out.new }
 {
     if out.len() < 16384 {
         return no_room();

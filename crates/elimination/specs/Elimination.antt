@@ -57,10 +57,10 @@ eliminate n k a = tab n (λ i. eliminated_row n k (line a k) i (line a i))
 unfoldable pub eliminate_right : ℕ → ℕ → List (List Float) → List Float → List Float
 eliminate_right n k a b = tab n (λ i. cond (eqb i k) (at b i) (sub binary64 (at b i) (mul binary64 (cell a i k) (at b k))))
 
--- a matrix and a right side under way, or as they stood where a pivot was too small
+-- a matrix and a right side under way, or the stop at a pivot that is too small
 pub data Stage : Type 0 where
   going : List (List Float) → List Float → Stage
-  stopped : List (List Float) → List Float → Stage
+  stopped : Stage
 
 -- column k of a matrix whose row k is divided: eliminated
 abbrev pub cleared_by : ℕ → ℕ → List (List Float) → List Float → Stage
@@ -80,20 +80,16 @@ too_small k p a = lt (abs (cell a p k)) (of_bits binary64 0x3C32_725D_D1D2_43AC)
 
 -- column k
 abbrev pub column_by : ℕ → ℕ → ℕ → List (List Float) → List Float → Stage
-column_by n k p a b = cond (too_small k p a) (stopped a b) (reduce n k p a b)
+column_by n k p a b = cond (too_small k p a) stopped (reduce n k p a b)
 
 abbrev pub column : ℕ → ℕ → Stage → Stage
 column n k (going a b) = column_by n k (pivot n k a) a b
-column n k (stopped a b) = stopped a b
+column n k stopped = stopped
 
 -- what a function that answers whether it went on has left
 abbrev pub after : Bool → List (List Float) → List Float → Stage
 after true a b = going a b
-after false a b = stopped a b
-
--- all n columns
-abbrev pub eliminated : ℕ → List (List Float) → List Float → Stage
-eliminated n a b = iter (column n) (going a b) n
+after false a b = stopped
 
 -- what is found: the right side after all n columns is the answer. Of a singular matrix nothing is said.
 pub data Solution : Type 0 where
@@ -102,12 +98,12 @@ pub data Solution : Type 0 where
 
 abbrev pub solution_of : Stage → Solution
 solution_of (going a b) = Solved b
-solution_of (stopped a b) = Singular
+solution_of stopped = Singular
 
 unfoldable pub solve_dense : ℕ → List (List Float) → List Float → Solution
-solve_dense n a b = solution_of (eliminated n a b)
+solve_dense n a b = solution_of (iter (column n) (going a b) n)
 
--- what a function says that answers true or false and leaves a right side
+-- what a function says that answers true or false and leaves a right side: after false the numbers that it leaves, of the right side and of the matrix, are free
 abbrev pub told : Bool → List Float → Solution
 told true b = Solved b
 told false b = Singular

@@ -10,7 +10,7 @@ use Rattle.normal_equations.specs.Rows.{row, rows}
 use Rattle.normal_equations.specs.RowsLaws.{line_rows}
 use Rattle.normal_equations.specs.FilledInner.{OneRow, one_set}
 use Rattle.normal_equations.specs.Normal.{line, cell}
-use Rattle.elimination.specs.Elimination.{exchanged, swap_rows, swap_right, divided_at, divided, divide_row, divide_right, less_at, less, eliminated_row, eliminate, going, stopped, column, column_by, reduce, after, told, solution_of}
+use Rattle.elimination.specs.Elimination.{exchanged, swap_rows, swap_right, divided_at, divided, divide_row, divide_right, less_at, less, eliminated_row, eliminate, going, stopped, column, column_by, reduce}
 use Rattle.elimination.specs.Inner.{Pivot}
 
 -- what a swap does to each cell
@@ -97,15 +97,10 @@ going_both e f = rw (e, f)
 
 -- a column by what the test of its pivot says
 pub pivot_small : (n k : ℕ) (a : List (List Float)) (b : List Float) (p : ℕ) (size : Float) → Pivot n k a p size → (t : Bool)
-    → lt size (of_bits binary64 0x3C32_725D_D1D2_43AC) ≡ t → column n k (going a b) ≡ cond t (stopped a b) (reduce n k p a b)
+    → lt size (of_bits binary64 0x3C32_725D_D1D2_43AC) ≡ t → column n k (going a b) ≡ cond t stopped (reduce n k p a b)
 pivot_small n k a b p size v t e =
-    ap (λ q. column_by n k q a b) (sym v.chosen) ∙ ap (λ s. cond (lt s (of_bits binary64 0x3C32_725D_D1D2_43AC)) (stopped a b) (reduce n k p a b)) (sym v.sized)
-    ∙ ap (λ s. cond s (stopped a b) (reduce n k p a b)) e
-
--- the answer is the right side that is left
-pub told_after : (r : Bool) (a : List (List Float)) (b : List Float) → told r b ≡ solution_of (after r a b)
-told_after true a b = refl
-told_after false a b = refl
+    ap (λ q. column_by n k q a b) (sym v.chosen) ∙ ap (λ s. cond (lt s (of_bits binary64 0x3C32_725D_D1D2_43AC)) stopped (reduce n k p a b)) (sym v.sized)
+    ∙ ap (λ s. cond s stopped (reduce n k p a b)) e
 
 -- a choice between two rows, and what goes with it
 pub choice : (t : Bool) (i p r : ℕ) (f : ℕ → Float) (s : Float) → r ≡ cond t i p → s ≡ cond t (f i) (f p) → s ≡ f r

@@ -51,9 +51,9 @@ pub record PlacedBoth (n k p : ℕ) (v u top col b c : List Float) : Type 0 wher
   pub matrix : Placed n k p v u top (cell (swap_rows n k p (rows n n v)) k k)
   pub right : c ≡ right_less n k (set col p (at col k)) (divide_right n k (cell (swap_rows n k p (rows n n v)) k k) (swap_right n k p b))
 
--- column k but for the elimination in u, which is still to be done by its row k, top; v and b before. Where the pivot is too small nothing is to be done
+-- column k but for the elimination in u, which is still to be done by its row k, top; v and b before
 pub record Begun (n k : ℕ) (v b : List Float) (r : Bool) (u top c : List Float) : Type 0 where
-  pub stage : column n k (going (rows n n v) b) ≡ after r (cond r (eliminate n k (rows n n u)) (rows n n u)) c
+  pub stage : column n k (going (rows n n v) b) ≡ after r (eliminate n k (rows n n u)) c
   pub first : r ≡ true → top ≡ row n u k
 
 -- the lengths of a matrix of n rows and of two rows of scratch

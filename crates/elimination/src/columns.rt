@@ -122,7 +122,6 @@ fn finish(
     column_after(col, a, top, k);
     let next_best = pivot(col, l);
     if next_best.size < 1.0e-18 {
-        eliminate(a, top, k);
         return false;
     }
     let p = next_best.at;

@@ -11,12 +11,12 @@ pub mod columns;
 pub mod pivots;
 pub mod rows;
 
-// Gauss-Jordan elimination with partial pivoting of n rows of n numbers; b becomes the answer. False where a pivot is too small: a and b then hold what the
-// columns before it left.
+// Gauss-Jordan elimination with partial pivoting of n rows of n numbers; b becomes the answer. False where a pivot is too small: what b holds then is free.
+// What is left in a is free either way.
 pub fn solve_dense(a: &mut [f64], b: &mut [f64]) -> bool
     requires { (length b.old ≤ 193) × (length a.old ≡ length b.old * length b.old) }
-    ensures { Elimination.after result (rows (length b.old) (length b.old) a.new) b.new
-        ≡ Elimination.eliminated (length b.old) (rows (length b.old) (length b.old) a.old)
+    ensures { Elimination.told result b.new
+        ≡ Elimination.solve_dense (length b.old) (rows (length b.old) (length b.old) a.old)
         b.old }
 {
     let n = b.len();

@@ -1,11 +1,10 @@
 -- The planner's entries on a problem as declared, and what a call tells of their answers. Definitions only.
-use Rattle.std.specs.Prelude.{ℕ, ◌≤◌, ◌≡◌, Bool, List, [], ◌∷◌, length, Float}
+use Rattle.std.specs.Prelude.{ℕ, ◌≡◌, Bool, List, [], ◌∷◌, Float}
 use Rattle.common.specs.Answer.{Answer, Given, Refused}
 use Rattle.problem.specs.Answers as Checks
 use Rattle.problem.specs.Problems.{check}
 use Rattle.problem.specs.declared.CheckedProblem.{CheckedProblem}
-use Rattle.planner.specs.Plans.{plan, plan_from, seed_of, profiled, answer, leaves}
-use Rattle.planner.specs.Promises.{Answers, own_seed}
+use Rattle.planner.specs.Plans.{plan, plan_from, profiled, answer, leaves}
 use Rattle.planner.specs.declared.Planned.{Planned}
 use Rattle.samples.specs.Answers.{of_sampled}
 use Rattle.samples.specs.Rows.{rows}
@@ -22,13 +21,6 @@ own c v b limited size = plan (problem c v b limited) size
 -- with a caller's seed
 abbrev pub seeded : List ℕ → List Float → List Float → Bool → Float → List Float → List Float → ℕ → Planned
 seeded c v b limited duration rates torques size = plan_from (problem c v b limited) duration rates torques size
-
--- demand 3 of either's answer r
-abbrev pub OwnAnswers : List ℕ → List Float → List Float → Bool → Planned → Type 0
-OwnAnswers c v b limited r = Answers (problem c v b limited) (own_seed (check (problem c v b limited)).problem) r
-
-abbrev pub SeededAnswers : List ℕ → List Float → List Float → Bool → Float → List Float → Planned → Type 0
-SeededAnswers c v b limited duration torques r = Answers (problem c v b limited) (seed_of (check (problem c v b limited)).problem duration torques) r
 
 -- a refusal's place, the forward runs begun; of a path the controls in a row, the wheels, the iterations
 abbrev pub counts : Planned → List ℕ
@@ -61,18 +53,11 @@ pub record EntryTold (r : Planned) (ws ws' : List Float)
   pub plan_told : PlanTold r n told duration defect z nodes held
   pub left : ws' ≡ leaves r.runs ws
 
--- and with what is promised of its answer
-pub record EntryPromised (Promise : Planned → Type 0) (r : Planned) (ws ws' : List Float)
-    (n : ℕ) (told : List ℕ) (duration defect : Float) (z : List Float) (nodes : List (List Float)) (held : List ℕ) : Type 0 where
-  pub entry_told : EntryTold r ws ws' n told duration defect z nodes held
-  pub promised : Promise r
-
--- of a text's plan r: how many bytes are written, the bytes, the workspace, and where the buffer is long enough what is promised of its answer
-pub record TextTold (Promise : Planned → Type 0) (r : Planned) (n : ℕ) (out out' : List ℕ) (ws ws' : List Float) : Type 0 where
+-- of a text's plan r: how many bytes are written, the bytes, the workspace
+pub record TextTold (r : Planned) (n : ℕ) (out out' : List ℕ) (ws ws' : List Float) : Type 0 where
   pub bytes_are : n ≡ (PlanTexts.told r out).bytes
   pub text_is : out' ≡ PlanTexts.written r out
   pub left : ws' ≡ PlanTexts.leaves r out ws
-  pub promised : 16384 ≤ length out → Promise r
 
 -- of a sample s: a refusal's number and place, or 0, and its 14 numbers, zeros beside a refusal
 pub record SampleTold (s : Sampled) (n k : ℕ) (out : List Float) : Type 0 where

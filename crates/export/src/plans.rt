@@ -5,7 +5,7 @@
 // the path is zeros. The workspace is untouched where no forward run began, and all +0 otherwise.
 ghost use Rattle.std.specs.Prelude.{length};
 ghost use Rattle.export.specs.Entries as Entries;
-ghost use Rattle.export.specs.Entries.{PlanTold, EntryPromised};
+ghost use Rattle.export.specs.Entries.{PlanTold, EntryTold};
 
 use export_leaves::pack::{number_of, place_of};
 use planner::Planned;
@@ -55,8 +55,7 @@ pub extern "C" fn slew_plan_numbers(
     nodes: &mut [[f64; 22]; 17],
     held: &mut [usize; 12],
 ) -> usize
-    ensures { EntryPromised (Entries.OwnAnswers c.now v.now b.now limited)
-        (Entries.own c.now v.now b.now limited (length ws.old))
+    ensures { EntryTold (Entries.own c.now v.now b.now limited (length ws.old))
         ws.old ws.new result
         counts.new duration.new max_defect.new z.new nodes.new held.new }
 {
@@ -83,7 +82,7 @@ pub extern "C" fn slew_plan_from_numbers(
     nodes: &mut [[f64; 22]; 17],
     held: &mut [usize; 12],
 ) -> usize
-    ensures { EntryPromised (Entries.SeededAnswers c.now v.now b.now limited seed_duration torques.now)
+    ensures { EntryTold
         (Entries.seeded c.now v.now b.now limited seed_duration rates.now torques.now
         (length ws.old))
         ws.old ws.new result

@@ -13,7 +13,7 @@ use sample_text::sample_text;
 // With our own seed. Answers how many bytes of `out` were written.
 #[unsafe(no_mangle)]
 pub extern "C" fn slew_plan(text: &[u8], workspace: &mut [f64], out: &mut [u8]) -> usize
-    ensures { TextTold (PlanTexts.TextAnswers text.now PlanTexts.seed_own) (PlanTexts.planned text.now (length workspace.old)) result
+    ensures { TextTold (PlanTexts.planned text.now (length workspace.old)) result
         out.old out.new workspace.old workspace.new }
 {
     let told = plan_text(text, workspace, out);
@@ -28,7 +28,7 @@ pub extern "C" fn slew_plan_from(
     workspace: &mut [f64],
     out: &mut [u8],
 ) -> usize
-    ensures { TextTold (PlanTexts.TextAnswers text.now (PlanTexts.seed_from seed.now)) (PlanTexts.planned_from text.now seed.now (length workspace.old)) result
+    ensures { TextTold (PlanTexts.planned_from text.now seed.now (length workspace.old)) result
         out.old out.new workspace.old workspace.new }
 {
     let told = plan_text_from(text, seed, workspace, out);

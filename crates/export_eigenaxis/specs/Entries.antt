@@ -4,8 +4,6 @@ use Rattle.planner.specs.declared.Planned.{Planned}
 use Rattle.eigenaxis_seed.specs.declared.Shape.{Shape}
 use Rattle.eigenaxis_seed.specs.declared.Shape.TheVariants.{Fastest, Gentle}
 use Rattle.eigenaxis.specs.Ladders.{plan_eigenaxis, counted}
-use Rattle.plan_method.specs.Methods.{AnswersBy}
-use Rattle.plan_method.specs.declared.PlanMethod.TheVariants.{Eigenaxis}
 use Rattle.problem_numbers.specs.Declared.{problem}
 
 abbrev pub shape_of : Bool → Shape
@@ -14,7 +12,3 @@ shape_of gentle = cond gentle Gentle Fastest
 -- on a workspace of `size` numbers
 abbrev pub about : List ℕ → List Float → List Float → Bool → Bool → ℕ → Planned
 about c v b limited gentle size = counted (plan_eigenaxis (problem c v b limited) (shape_of gentle) size)
-
--- DEMAND 3 of its answer r: for the problem with its weights at 0 and the seed of the duration at which the ladder ends
-abbrev pub AboutAnswers : List ℕ → List Float → List Float → Bool → Bool → ℕ → Planned → Type 0
-AboutAnswers c v b limited gentle size r = AnswersBy (Eigenaxis (shape_of gentle)) size (problem c v b limited) r

@@ -1,7 +1,7 @@
 // The C interface of eigenaxis plans, thin over the proved library. `rt staticlib export_eigenaxis` makes the archive. What is lent and told is as in
 // `export::plans`; the runs are those of every try.
 ghost use Rattle.std.specs.Prelude.{◌≡◌, length};
-ghost use Rattle.export.specs.Entries.{EntryPromised};
+ghost use Rattle.export.specs.Entries.{EntryTold};
 ghost use Rattle.export_eigenaxis.specs.Entries as Entries;
 
 use eigenaxis::plan_counted;
@@ -35,8 +35,7 @@ pub extern "C" fn slew_plan_eigenaxis_numbers(
     nodes: &mut [[f64; 22]; 17],
     held: &mut [usize; 12],
 ) -> usize
-    ensures { EntryPromised (Entries.AboutAnswers c.now v.now b.now limited gentle (length ws.old))
-        (Entries.about c.now v.now b.now limited gentle (length ws.old))
+    ensures { EntryTold (Entries.about c.now v.now b.now limited gentle (length ws.old))
         ws.old ws.new result
         counts.new duration.new max_defect.new z.new nodes.new held.new }
 {

@@ -1,5 +1,5 @@
 -- What a call of the C interface answers and leaves in what is lent to it, of what the operation behind it answers. Definitions only.
-use Rattle.std.specs.Prelude.{◌≡◌, List, ℕ, Float}
+use Rattle.std.specs.Prelude.{◌≡◌, Bool, List, ℕ, eqb, Float}
 use Rattle.common.specs.Answer.{Answer, Given, Refused}
 use Rattle.common.specs.declared.Fate.{Fate}
 use Rattle.common.specs.declared.Fate.TheVariants as Fate
@@ -12,6 +12,10 @@ use Rattle.export_leaves.specs.Packed.{four, two, numbers}
 abbrev pub number : {A : Type 0} → Answer A → ℕ
 number (Given a) = 0
 number (Refused n k runs) = n
+
+-- there is none
+abbrev pub is_given : {A : Type 0} → Answer A → Bool
+is_given a = eqb (number a) 0
 
 -- the place of a refusal, 0 where there is none
 abbrev pub place : {A : Type 0} → Answer A → ℕ

@@ -16,36 +16,28 @@ use common::Fate;
 use profile::{Acceleration, Profiled, Switches};
 
 // A refusal's number, or 0, and then the three switching numbers are put into `out`.
-fn put_switches(s: Switches, out: &mut [f64; 3], place: &mut usize) -> usize
-    ensures { AnsweredAt (Answers.of_switches s) result place.new out.old out.new }
+fn put_switches(s: Switches, out: &mut [f64; 3]) -> usize
+    ensures { Answered (Answers.of_switches s) result out.old out.new }
 {
     match s {
         Switches::Are(acc, coast, peak) => {
             *out = three(acc, coast, peak);
-            *place = 0;
             0
         }
-        Switches::Refused(number, at) => {
-            *place = at;
-            number
-        }
+        Switches::Refused(number, _) => number,
     }
 }
 
 // A refusal's number, or 0, and then the acceleration is put into `out`.
-fn put_acceleration(a: Acceleration, out: &mut f64, place: &mut usize) -> usize
-    ensures { AnsweredAt (Answers.of_acceleration a) result place.new out.old out.new }
+fn put_acceleration(a: Acceleration, out: &mut f64) -> usize
+    ensures { Answered (Answers.of_acceleration a) result out.old out.new }
 {
     match a {
         Acceleration::Is(x) => {
             *out = x;
-            *place = 0;
             0
         }
-        Acceleration::Not => {
-            *place = 2;
-            7
-        }
+        Acceleration::Not => 7,
     }
 }
 
@@ -78,15 +70,12 @@ pub extern "C" fn slew_switch_times(
     limited: bool,
     slew: f64,
     out: &mut [f64; 3],
-    place: &mut usize,
 ) -> usize
-    ensures { AnsweredAt (Answers.of_switches (Profiles.switch_times theta alpha (Packed.limit limited slew))) result place.new out.old
-        out.new }
+    ensures { Answered (Answers.of_switches (Profiles.switch_times theta alpha (Packed.limit limited slew))) result out.old out.new }
 {
     put_switches(
         profile::switch_times(theta, alpha, limit_of(limited, slew)),
         out,
-        place,
     )
 }
 
@@ -96,15 +85,12 @@ pub extern "C" fn slew_alpha_from_box(
     axis: &[f64; 3],
     limit: &[f64; 3],
     out: &mut f64,
-    place: &mut usize,
 ) -> usize
-    ensures { AnsweredAt (Courses.alpha_from_box j.now axis.now limit.now) result place.new out.old
-        out.new }
+    ensures { Answered (Courses.alpha_from_box j.now axis.now limit.now) result out.old out.new }
 {
     let about = *axis;
     let most = *limit;
-    let inertia = geom::tensor(*j);
-    put_acceleration(profile::alpha_from_box(inertia, about, most), out, place)
+    put_acceleration(profile::alpha_from_box(geom::tensor(*j), about, most), out)
 }
 
 #[unsafe(no_mangle)]

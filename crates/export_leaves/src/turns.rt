@@ -1,4 +1,5 @@
-// angles: sine, cosine, arc cosine. An argument outside the range is refusal 11.
+// angles: sine, cosine, arc cosine. Where the argument is outside the range (refusal 11) the answer is false and what was lent is untouched.
+ghost use Rattle.std.specs.Prelude.{◌≡◌};
 ghost use Rattle.angles.specs.Angles.{sin_of, cos_of};
 ghost use Rattle.angles.specs.Arcs.{acos_of};
 ghost use Rattle.angles.specs.Both.{both_of};
@@ -23,24 +24,27 @@ fn put_angle(a: Angle, answer: &mut f64) -> usize
 }
 
 #[unsafe(no_mangle)]
-pub extern "C" fn slew_sin(x: f64, answer: &mut f64) -> usize
-    ensures { Answered (angle_answer (sin_of x)) result answer.old answer.new }
+pub extern "C" fn slew_sin(x: f64, answer: &mut f64) -> bool
+    ensures value { result ≡ Outcomes.is_given (angle_answer (sin_of x)) }
+    ensures answer_after { answer.new ≡ Outcomes.value_or (angle_answer (sin_of x)) answer.old }
 {
-    put_angle(angles::sin(x), answer)
+    put_angle(angles::sin(x), answer) == 0
 }
 
 #[unsafe(no_mangle)]
-pub extern "C" fn slew_cos(x: f64, answer: &mut f64) -> usize
-    ensures { Answered (angle_answer (cos_of x)) result answer.old answer.new }
+pub extern "C" fn slew_cos(x: f64, answer: &mut f64) -> bool
+    ensures value { result ≡ Outcomes.is_given (angle_answer (cos_of x)) }
+    ensures answer_after { answer.new ≡ Outcomes.value_or (angle_answer (cos_of x)) answer.old }
 {
-    put_angle(angles::cos(x), answer)
+    put_angle(angles::cos(x), answer) == 0
 }
 
 #[unsafe(no_mangle)]
-pub extern "C" fn slew_acos(x: f64, answer: &mut f64) -> usize
-    ensures { Answered (angle_answer (acos_of x)) result answer.old answer.new }
+pub extern "C" fn slew_acos(x: f64, answer: &mut f64) -> bool
+    ensures value { result ≡ Outcomes.is_given (angle_answer (acos_of x)) }
+    ensures answer_after { answer.new ≡ Outcomes.value_or (angle_answer (acos_of x)) answer.old }
 {
-    put_angle(angles::acos(x), answer)
+    put_angle(angles::acos(x), answer) == 0
 }
 
 // A refusal's number, or 0, and then the sine and the cosine are put into `answer`.
@@ -57,8 +61,9 @@ fn put_both(b: Both, answer: &mut [f64; 2]) -> usize
 }
 
 #[unsafe(no_mangle)]
-pub extern "C" fn slew_sin_cos(x: f64, answer: &mut [f64; 2]) -> usize
-    ensures { Answered (Outcomes.of_pair (both_answer (both_of x))) result answer.old answer.new }
+pub extern "C" fn slew_sin_cos(x: f64, answer: &mut [f64; 2]) -> bool
+    ensures value { result ≡ Outcomes.is_given (Outcomes.of_pair (both_answer (both_of x))) }
+    ensures answer_after { answer.new ≡ Outcomes.value_or (Outcomes.of_pair (both_answer (both_of x))) answer.old }
 {
-    put_both(angles::sin_cos(x), answer)
+    put_both(angles::sin_cos(x), answer) == 0
 }

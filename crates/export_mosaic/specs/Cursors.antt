@@ -1,26 +1,22 @@
 -- A mosaic's cursor as the counts and numbers that a caller holds, its way as a number, and the mosaics of a problem as declared. Definitions only.
 use Rattle.std.specs.Prelude.{ℕ, ◌+◌, ◌≡◌, Bool, cond, List, [], ◌∷◌, eqb, get_or, length, Float}
-use Rattle.std.proofs.Math.Option.{some}
-use Rattle.std.proofs.Math.ListN.{get_elem?}
 use Rattle.common.specs.Lists.{at}
 use Rattle.common.specs.declared.Fate.{Fate}
 use Rattle.common.specs.declared.Fate.TheVariants.{Going, Refused}
 use Rattle.geom.specs.declared.Quat.{Quat}
 use Rattle.problem.specs.declared.Problem.{Problem}
 use Rattle.planner.specs.Plans as Plans
-use Rattle.planner.specs.declared.Planned.{Planned}
 use Rattle.eigenaxis_seed.specs.declared.Shape.TheVariants.{Fastest, Gentle}
-use Rattle.mosaic.specs.Mosaics.{Flight, count_fate, quat_of, tile_of, momenta_at}
+use Rattle.mosaic.specs.Mosaics.{Flight, quat_of}
 use Rattle.mosaic.specs.Mosaics as Mosaics
-use Rattle.mosaic.specs.Turns.{LegAnswers, LegPromised}
-use Rattle.plan_method.specs.Methods.{planner_by}
+use Rattle.mosaic.specs.Ways.{planner_by}
 use Rattle.mosaic.specs.declared.Advanced.{Advanced}
 use Rattle.mosaic.specs.declared.Cursor.{Cursor}
-use Rattle.plan_method.specs.declared.PlanMethod.TheVariants.{Search, Eigenaxis}
+use Rattle.mosaic.specs.declared.ways.Way.TheVariants.{Search, Eigenaxis}
 use Rattle.whole_mosaic.specs.Layout as Layout
 use Rattle.problem_numbers.specs.Declared as Declared
 use Rattle.export_leaves.specs.Outcomes.{fate_number, fate_place}
-use Rattle.export.specs.Entries.{EntryPromised}
+use Rattle.export.specs.Entries.{EntryTold}
 use Rattle.export_mosaic.specs.declared.Asked.{Asked}
 use Rattle.export_mosaic.specs.declared.Asked.TheVariants.{By, Unknown}
 
@@ -60,7 +56,7 @@ pub record CursorTold (c : Cursor) (n : ℕ) (told : List ℕ) (summed : List Fl
   pub counts_are : told ≡ counts c
   pub sums_are : summed ≡ sums c
 
--- ---- the way that a caller's number asks for: 0 the search; 1 about one axis, by the fastest shape; 2 by the gentle one; another number none
+-- ---- the way that a caller's number asks for: 0 the search; 1 about one axis, as short as the limits allow; 2 about one axis, gently; another number none
 abbrev pub asked : ℕ → Asked
 asked way =
     cond (eqb way 0) (By Search)
@@ -75,49 +71,22 @@ turn_by_value (By way) p c from to size = record {
 }
 turn_by_value Unknown p c from to size = record { cursor = c; planned = Plans.refused 99 0 0 }
 
--- DEMAND 3 of its answer r, by the way that is asked for; where none is, there is no path
-abbrev pub TurnAnswers : Asked → Problem → Cursor → Quat → Quat → ℕ → Planned → Type 0
-TurnAnswers (By way) p c from to size r = LegAnswers way size p from to c.momenta r
-TurnAnswers Unknown p c from to size r = r ≡ Plans.refused 99 0 0
-
--- where no way is asked for: 23 for the count of tiles, before 99
-abbrev pub unasked : Fate → ℕ
-unasked (Refused number place) = number
-unasked Going = 99
-
--- the whole mosaic of rows of tiles, from the problem's momenta, into lent lists of a, b, c and d rows; or no legs
+-- the whole mosaic of rows of tiles, from the problem's momenta, into lent lists of a, b, c and d rows; or 99 and no legs
 abbrev pub whole_by_value : Asked → Problem → List (List Float) → ℕ → ℕ → ℕ → ℕ → ℕ → Flight
 whole_by_value (By way) p tiles a b c d size = Layout.lent (planner_by way size) p tiles p.momenta a b c d
-whole_by_value Unknown p tiles a b c d size = Mosaics.nothing p.momenta (unasked (count_fate (length tiles))) 0
-
--- DEMAND 3 of every leg of the whole mosaic f, by the way that is asked for; where none is, there are no legs
-abbrev pub LegsPromised : Asked → Problem → List (List Float) → ℕ → Flight → Type 0
-LegsPromised (By way) p tiles size f =
-    (i : ℕ) (leg : Planned) → get_elem? f.legs i ≡ some leg → LegPromised way size p (tile_of tiles i) (tile_of tiles (i + 1)) (momenta_at p.momenta f.legs i) leg
-LegsPromised Unknown p tiles size f = f.legs ≡ []
-
--- ---- what the code of one leg answers beside its definition: the workspace, and what is promised of it
-pub record TurnMade (a : Asked) (p : Problem) (c : Cursor) (from to : Quat) (ws ws' : List Float) (r : Advanced) : Type 0 where
-  pub turn_is : r ≡ turn_by_value a p c from to (length ws)
-  pub left : ws' ≡ Plans.leaves r.planned.runs ws
-  pub answers : TurnAnswers a p c from to (length ws) r.planned
+whole_by_value Unknown p tiles a b c d size = Mosaics.nothing p.momenta 99 0
 
 -- ---- of a problem as declared, on a workspace of `size` numbers
 abbrev pub turn : ℕ → List ℕ → List Float → List Float → Bool → List Float → List Float → List ℕ → List Float → ℕ → Advanced
 turn way c v b limited from to n s size =
     turn_by_value (asked way) (Declared.problem c v b limited) (cursor (count c 0) n s) (quat_of from) (quat_of to) size
 
--- and what is promised of its answer
-abbrev pub Answers : ℕ → List ℕ → List Float → List Float → Bool → List Float → List Float → List ℕ → List Float → ℕ → Planned → Type 0
-Answers way c v b limited from to n s size r =
-    TurnAnswers (asked way) (Declared.problem c v b limited) (cursor (count c 0) n s) (quat_of from) (quat_of to) size r
-
--- what one leg a leaves with the caller: the cursor after it, and its answer as an entry of the planner tells it, with what is promised of it
-pub record TurnTold (Promise : Planned → Type 0) (a : Advanced) (moved : List ℕ) (summed : List Float) (ws ws' : List Float)
+-- what one leg a leaves with the caller: the cursor after it, and its answer as an entry of the planner tells it
+pub record TurnTold (a : Advanced) (moved : List ℕ) (summed : List Float) (ws ws' : List Float)
     (n : ℕ) (told : List ℕ) (duration defect : Float) (z : List Float) (nodes : List (List Float)) (held : List ℕ) : Type 0 where
   pub counts_are : moved ≡ counts a.cursor
   pub sums_are : summed ≡ sums a.cursor
-  pub leg_told : EntryPromised Promise a.planned ws ws' n told duration defect z nodes held
+  pub leg_told : EntryTold a.planned ws ws' n told duration defect z nodes held
 
 -- the whole mosaic that a caller's number asks for, with these lists and this workspace lent: a leg has a row in each list
 abbrev pub whole : ℕ → Problem → List (List Float) → List (List ℕ) → List (List Float) → List (List Float) → List (List (List Float)) → List Float → Flight
@@ -128,8 +97,8 @@ whole way p tiles counts times decisions nodes ws =
 abbrev pub leaves : Cursor → List Float → List Float
 leaves c ws = Plans.leaves (c.runs + c.refused_runs) ws
 
--- what a whole mosaic f leaves with the caller: its cursor, a row for each of its legs in each lent list, the workspace; and demand 3 of every leg
-pub record Fills (a : Asked) (p : Problem) (tiles : List (List Float)) (f : Flight) (r : Cursor) (counts counts' : List (List ℕ)) (times times' decisions decisions' : List (List Float))
+-- what a whole mosaic f leaves with the caller: its cursor, a row for each of its legs in each lent list, the workspace
+pub record Fills (f : Flight) (r : Cursor) (counts counts' : List (List ℕ)) (times times' decisions decisions' : List (List Float))
     (nodes nodes' : List (List (List Float))) (ws ws' : List Float) : Type 0 where
   pub cursor : r ≡ f.cursor
   pub counts_as : counts' ≡ Layout.leg_rows Layout.counts f.legs counts
@@ -137,11 +106,10 @@ pub record Fills (a : Asked) (p : Problem) (tiles : List (List Float)) (f : Flig
   pub decisions_as : decisions' ≡ Layout.leg_rows Layout.decision f.legs decisions
   pub nodes_as : nodes' ≡ Layout.leg_rows Layout.nodes f.legs nodes
   pub left : ws' ≡ leaves f.cursor ws
-  pub promised : LegsPromised a p tiles (length ws) f
 
--- what a call tells of it: its cursor, in each lent list a row for each leg, and demand 3 of every leg (`filled.promised`)
-pub record WholeTold (way : ℕ) (p : Problem) (tiles : List (List Float)) (f : Flight) (n : ℕ) (told : List ℕ) (summed : List Float)
+-- what a call tells of it: its cursor, and in each lent list a row for each leg
+pub record WholeTold (f : Flight) (n : ℕ) (told : List ℕ) (summed : List Float)
     (counts counts' : List (List ℕ)) (times times' decisions decisions' : List (List Float))
     (nodes nodes' : List (List (List Float))) (ws ws' : List Float) : Type 0 where
   pub cursor_told : CursorTold f.cursor n told summed
-  pub filled : Fills (asked way) p tiles f f.cursor counts counts' times times' decisions decisions' nodes nodes' ws ws'
+  pub filled : Fills f f.cursor counts counts' times times' decisions decisions' nodes nodes' ws ws'

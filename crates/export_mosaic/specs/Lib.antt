@@ -3,4 +3,3 @@
 pub mod Cursors  -- a cursor as counts and numbers, and the mosaics of a problem as declared
 -- ---- laws
 pub mod Told  -- what the code makes of a leg and of a whole mosaic is what the definitions say
-pub mod WholeLaws  -- what a call of `slew_mosaic` tells: 23 before every other answer, the whole mosaic, its cut at an inner tile

@@ -4,7 +4,7 @@
 // and its runs) and nine numbers (the answered legs' duration, and the momenta of eight wheels that the next leg starts with). The way to plan is a number:
 // 0 the search, 1 about one axis, 2 about one axis gently.
 ghost use Rattle.std.specs.Prelude.{◌≡◌, length};
-ghost use Rattle.mosaic.specs.Mosaics as Mosaics;
+ghost use Rattle.planner.specs.Plans as Plans;
 ghost use Rattle.problem_numbers.specs.Declared as Declared;
 ghost use Rattle.export_mosaic.specs.Cursors as Cursors;
 
@@ -13,8 +13,8 @@ use eigenaxis_seed::Shape;
 use export::plans::put_planned;
 use export_leaves::pack::{number_of, place_of};
 use geom::Quat;
-use mosaic::{Advanced, Cursor, check_count, halted, next, start};
-use plan_method::PlanMethod;
+use mosaic::ways::Way;
+use mosaic::{Advanced, Cursor, halted, next, start};
 use planner::refused;
 use problem::{Momenta, Problem};
 use problem_numbers::problem_of;
@@ -23,7 +23,7 @@ use whole_mosaic::{plan_mosaic, quat_of};
 // The way that a caller's number asks for, if any.
 #[derive(Clone, Copy)]
 pub enum Asked {
-    By(PlanMethod),
+    By(Way),
     Unknown,
 }
 
@@ -31,13 +31,13 @@ fn asked_of(way: usize) -> Asked
     ensures { result ≡ Cursors.asked way }
 {
     if way == 0 {
-        return Asked::By(PlanMethod::Search);
+        return Asked::By(Way::Search);
     }
     if way == 1 {
-        return Asked::By(PlanMethod::Eigenaxis(Shape::Fastest));
+        return Asked::By(Way::Eigenaxis(Shape::Fastest));
     }
     if way == 2 {
-        return Asked::By(PlanMethod::Eigenaxis(Shape::Gentle));
+        return Asked::By(Way::Eigenaxis(Shape::Gentle));
     }
     Asked::Unknown
 }
@@ -88,7 +88,8 @@ fn put_cursor(c: Cursor, counts: &mut [usize; 5], sums: &mut [f64; 9]) -> usize
 
 // One leg; or 99 where no way is asked for: nothing is planned, and the cursor stays.
 fn turn(p: Problem, way: usize, c: Cursor, from: Quat, to: Quat, ws: &mut [f64]) -> Advanced
-    ensures { Cursors.TurnMade (Cursors.asked way) p c from to ws.old ws.new result }
+    ensures value { result ≡ Cursors.turn_by_value (Cursors.asked way) p c from to (length ws.old) }
+    ensures ws_after { ws.new ≡ Plans.leaves result.planned.runs ws.old }
 {
     let asked = asked_of(way);
     match asked {
@@ -100,29 +101,18 @@ fn turn(p: Problem, way: usize, c: Cursor, from: Quat, to: Quat, ws: &mut [f64])
     }
 }
 
-// Where no way is asked for: 23 for the count of tiles, before 99.
-fn unasked(tiles: usize) -> usize
-    ensures { result ≡ Cursors.unasked (Mosaics.count_fate tiles) }
-{
-    let fate = check_count(tiles);
-    match fate {
-        Fate::Refused(number, _) => number,
-        Fate::Going => 99,
-    }
-}
-
-// The whole mosaic from the momenta of the problem: 23 first, then 99 where no way is asked for.
+// The whole mosaic from the momenta of the problem; or 99 where no way is asked for.
 fn fill(
     p: Problem,
     way: usize,
     tiles: &[[f64; 4]],
-    counts: &mut [[usize; 16]],
+    counts: &mut [[usize; 4]],
     times: &mut [[f64; 2]],
     decisions: &mut [[f64; 193]],
     nodes: &mut [[[f64; 22]; 17]],
     ws: &mut [f64],
 ) -> Cursor
-    ensures { Cursors.Fills (Cursors.asked way) p tiles.now
+    ensures { Cursors.Fills
         (Cursors.whole way p tiles.now counts.old times.old decisions.old nodes.old ws.old)
         result counts.old counts.new times.old times.new decisions.old decisions.new
         nodes.old nodes.new ws.old ws.new }
@@ -131,7 +121,7 @@ fn fill(
     let asked = asked_of(way);
     match asked {
         Asked::By(by) => plan_mosaic(p, by, m, tiles, counts, times, decisions, nodes, ws),
-        Asked::Unknown => halted(start(m), unasked(tiles.len()), 0, 0),
+        Asked::Unknown => halted(start(m), 99, 0, 0),
     }
 }
 
@@ -157,8 +147,6 @@ pub extern "C" fn slew_mosaic_next(
     held: &mut [usize; 12],
 ) -> usize
     ensures { Cursors.TurnTold
-        (Cursors.Answers way c.now v.now b.now limited from.now to.now
-        cursor.old sums.old (length ws.old))
         (Cursors.turn way c.now v.now b.now limited from.now to.now
         cursor.old sums.old (length ws.old))
         cursor.new sums.new ws.old ws.new result
@@ -174,8 +162,6 @@ pub extern "C" fn slew_mosaic_next(
 }
 
 // The whole mosaic from the momenta of the problem: a refusal's number, or 0; the cursor after it; and in each lent list a row for each answered leg.
-// `WholeLaws` has what follows from the contract: 23 before every other answer (`told_refused`), the whole mosaic (`told_whole`), its cut at an inner tile
-// (`told_cut`, `told_cut_refused`).
 #[unsafe(no_mangle)]
 pub extern "C" fn slew_mosaic(
     c: &[usize; 11],
@@ -184,7 +170,7 @@ pub extern "C" fn slew_mosaic(
     limited: bool,
     way: usize,
     tiles: &[[f64; 4]],
-    counts: &mut [[usize; 16]],
+    counts: &mut [[usize; 4]],
     times: &mut [[f64; 2]],
     decisions: &mut [[f64; 193]],
     nodes: &mut [[[f64; 22]; 17]],
@@ -192,7 +178,7 @@ pub extern "C" fn slew_mosaic(
     cursor: &mut [usize; 5],
     sums: &mut [f64; 9],
 ) -> usize
-    ensures { Cursors.WholeTold way (Declared.problem c.now v.now b.now limited) tiles.now
+    ensures { Cursors.WholeTold
         (Cursors.whole way (Declared.problem c.now v.now b.now limited) tiles.now
         counts.old times.old decisions.old nodes.old ws.old)
         result cursor.new sums.new

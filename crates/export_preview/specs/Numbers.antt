@@ -2,13 +2,7 @@
 use Rattle.std.specs.Prelude.{ℕ, ◌≡◌, Bool, List, [], ◌∷◌, eqb, Float}
 use Rattle.common.specs.Lists.{at}
 use Rattle.geom.specs.Vec as Vec
-use Rattle.problem.specs.Problems.{check}
 use Rattle.problem.specs.declared.Momenta.{Momenta}
-use Rattle.problem.specs.declared.Problem.{Problem}
-use Rattle.planner.specs.Plans.{seed_of}
-use Rattle.planner.specs.Promises.{Answers, own_seed}
-use Rattle.planner.specs.declared.Planned.{Planned}
-use Rattle.wheel_momenta.specs.Successive.{with_momenta}
 use Rattle.wheel_record.specs.Commits.{commit}
 use Rattle.wheel_record.specs.declared.Started.{Started}
 use Rattle.preview.specs.Previews.{preview, preview_from}
@@ -42,19 +36,6 @@ own c v b limited wheels onRecord size = preview (momenta wheels onRecord) (prob
 abbrev pub seeded : List ℕ → List Float → List Float → Bool → ℕ → List Float → Float → List Float → List Float → ℕ → Previewed
 seeded c v b limited wheels onRecord duration rates torques size =
     preview_from (momenta wheels onRecord) (problem c v b limited) duration rates torques size
-
--- the problem that it plans
-abbrev pub turning : List ℕ → List Float → List Float → Bool → ℕ → List Float → Problem
-turning c v b limited wheels onRecord = with_momenta (problem c v b limited) (momenta wheels onRecord)
-
--- DEMAND 3 of either's answer r
-abbrev pub OwnAnswers : List ℕ → List Float → List Float → Bool → ℕ → List Float → Planned → Type 0
-OwnAnswers c v b limited wheels onRecord r =
-    Answers (turning c v b limited wheels onRecord) (own_seed (check (turning c v b limited wheels onRecord)).problem) r
-
-abbrev pub SeededAnswers : List ℕ → List Float → List Float → Bool → ℕ → List Float → Float → List Float → Planned → Type 0
-SeededAnswers c v b limited wheels onRecord duration torques r =
-    Answers (turning c v b limited wheels onRecord) (seed_of (check (turning c v b limited wheels onRecord)).problem duration torques) r
 
 -- a start of the preview that answered the number `refusal`, 0 where it has a path
 abbrev pub start : ℕ → List Float → ℕ → ℕ → List Float → ℕ → List (List Float) → Started

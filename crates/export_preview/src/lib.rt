@@ -3,7 +3,7 @@
 // The momenta on record are a count of wheels and eight numbers, which the caller keeps. A preview is what the caller holds of it: the number that it answered,
 // the momenta that it began from, and its path's wheels and nodes.
 ghost use Rattle.std.specs.Prelude.{◌≡◌, length};
-ghost use Rattle.export.specs.Entries.{EntryPromised};
+ghost use Rattle.export.specs.Entries.{EntryTold};
 ghost use Rattle.export_preview.specs.Numbers as Numbers;
 
 use export::plans::put_planned;
@@ -67,7 +67,7 @@ pub extern "C" fn slew_preview_numbers(
     began_wheels: &mut usize,
     began: &mut [f64; 8],
 ) -> usize
-    ensures entry_promised { EntryPromised (Numbers.OwnAnswers c.now v.now b.now limited wheels on_record.now)
+    ensures entry_told { EntryTold
         (Numbers.own c.now v.now b.now limited wheels on_record.now (length ws.old)).planned
         ws.old ws.new result
         counts.new duration.new max_defect.new z.new nodes.new held.new }
@@ -104,8 +104,7 @@ pub extern "C" fn slew_preview_from_numbers(
     began_wheels: &mut usize,
     began: &mut [f64; 8],
 ) -> usize
-    ensures entry_promised { EntryPromised
-        (Numbers.SeededAnswers c.now v.now b.now limited wheels on_record.now seed_duration torques.now)
+    ensures entry_told { EntryTold
         (Numbers.seeded c.now v.now b.now limited wheels on_record.now
         seed_duration rates.now torques.now (length ws.old)).planned
         ws.old ws.new result

@@ -1,21 +1,18 @@
--- What an operation over declared actuators answers: the refusal of `prepare`, or what the operation over the prepared map answers. Definitions only.
-use Rattle.std.specs.Prelude.{List, Float}
-use Rattle.common.specs.Answer.{Answer, Refused}
-use Rattle.common.specs.declared.Fate.{Fate}
-use Rattle.common.specs.declared.Fate.TheVariants as Fate
-use Rattle.geom.specs.Answers.{of_fate}
-use Rattle.actuators.specs.declared.Allocated.{Allocated}
+-- What a call tells of a torque and of an allocated row. Definitions only.
+use Rattle.std.specs.Prelude.{ℕ, ◌≡◌, List, Float}
+use Rattle.actuators.specs.Allocate.{allocate}
+use Rattle.actuators.specs.Answers.{of_allocated}
+use Rattle.actuators.specs.declared.ActuatorMap.{ActuatorMap}
+use Rattle.controls.specs.Answers.{of_torque}
+use Rattle.controls.specs.declared.Torque.{Torque}
+use Rattle.export_leaves.specs.Outcomes.{number, Placed}
 
--- the answer a, unless the stage before it was refused
-abbrev pub unless_refused : {A : Type 0} → Fate → Answer A → Answer A
-unless_refused Fate.Going a = a
-unless_refused (Fate.Refused n k) a = Refused n k 0
+-- a call answers n and puts the torque t, zeros where it is refused
+pub record TorqueTold (t : Torque) (n : ℕ) (out : List Float) : Type 0 where
+  pub number_is : n ≡ number (of_torque t)
+  pub out_is : out ≡ t.tau
 
--- the first of two stages' refusals
-abbrev pub first_refusal : Fate → Fate → Fate
-first_refusal Fate.Going g = g
-first_refusal (Fate.Refused n k) g = Fate.Refused n k
-
--- a row of controls, zeros past those that count, or its refusal
-abbrev pub of_row : Allocated → Answer (List Float)
-of_row r = of_fate r.u r.fate
+-- a call answers n and puts place and the row that gives the torque tau, zeros where it is refused
+pub record RowTold (m : ActuatorMap) (tau : List Float) (n place : ℕ) (out : List Float) : Type 0 where
+  pub placed : Placed (of_allocated m (allocate m tau)) n place
+  pub out_is : out ≡ (allocate m tau).u

@@ -1,12 +1,7 @@
 -- What the code reads from how a run ended is what its answer says, in the specification's numbers. Assumes nothing.
-use Rattle.std.specs.Prelude.{ℕ, ◌≡◌, refl, Bool, List, Float}
-use Rattle.std.proofs.Common.{ap, ◌∙◌}
-use Rattle.common.specs.Answer.{Given}
+use Rattle.std.specs.Prelude.{ℕ, ◌≡◌, refl, List, Float}
 use Rattle.common.specs.declared.Fate.{Fate}
 use Rattle.common.specs.declared.Fate.TheVariants.{Going, Refused}
-use Rattle.geom.specs.Answers.{of_fate}
-use Rattle.elimination.specs.Elimination.{after, told, eliminated, solution_of, solve_dense}
-use Rattle.elimination.specs.EliminationLaws.{told_after}
 use Rattle.forward.specs.Reconstruct as Forward
 use Rattle.forward.specs.declared.Reconstructed.{Reconstructed}
 use Rattle.residuals.specs.MeasuredResiduals as Residuals
@@ -15,7 +10,6 @@ use Rattle.samples.specs.Rows.{rows}
 use Rattle.export_leaves.specs.Outcomes.{fate_number, fate_place}
 use Rattle.export_leaves.specs.OutcomeLaws.{Tells, counted}
 use Rattle.export_runs.specs.Paths.{RunTold, ResidualsTold}
-use Rattle.export_runs.specs.Rigs.{unless_refused, first_refusal}
 
 pub of_run_law : (r : Reconstructed) → Tells (Forward.answer r) r.run.fate r.runs
 of_run_law r = go r.run.fate refl
@@ -40,15 +34,3 @@ module _ {n place : ℕ} where
   pub residuals_told : (m : Measured) → place ≡ fate_place m.residuals.fate → n ≡ fate_number m.residuals.fate
       → ResidualsTold m n place m.runs m.residuals.r m.residuals.count
   residuals_told m p q = record { counted = counted (of_residuals m) p q; out_is = refl; count_is = refl }
-
--- a value beside its fate, after another stage: the first refusal of both counts
-pub first_refused : {A : Type 0} (a : A) (f g : Fate) → unless_refused (first_refusal f g) (Given a) ≡ unless_refused f (of_fate a g)
-first_refused a Going Going = refl
-first_refused a Going (Refused n k) = refl
-first_refused a (Refused n k) g = refl
-
--- what an elimination leaves of the right side is the answer
-pub solved_told : (n : ℕ) (a : List (List Float)) (b : List Float) (r : Bool) (m : List (List Float)) (d : List Float) → after r m d ≡ eliminated n a b
-    → told r d ≡ solve_dense n a b
-unfolding solve_dense
-solved_told n a b r m d h = told_after r m d ∙ ap solution_of h

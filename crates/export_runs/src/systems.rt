@@ -1,12 +1,13 @@
 // elimination, damped_steps: systems of equations, and the step of a Levenberg-Marquardt iteration. Where the lengths do not fit the answer is false, as for a singular
-// system, and nothing is touched.
+// system.
+ghost use Rattle.std.specs.Prelude.{◌≡◌};
+ghost use Rattle.elimination.specs.Elimination as Elimination;
 ghost use Rattle.export_runs.specs.Systems as Systems;
 
-// The matrix has as many rows and columns as the right side b numbers, at most 193; b becomes the answer. a, and b where the system is singular, are left as the
-// elimination leaves them.
+// The matrix has as many rows and columns as the right side b numbers, at most 193; b becomes the answer, the matrix is used up.
 #[unsafe(no_mangle)]
 pub extern "C" fn slew_solve_dense(a: &mut [f64], b: &mut [f64]) -> bool
-    ensures { Systems.SystemTold a.old b.old result a.new b.new }
+    ensures { Elimination.told result b.new ≡ Systems.solved a.old b.old }
 {
     let n = b.len();
     if n > 193 {
@@ -18,8 +19,7 @@ pub extern "C" fn slew_solve_dense(a: &mut [f64], b: &mut [f64]) -> bool
     elimination::solve_dense(a, b)
 }
 
-// v holds as many columns of m numbers as g has numbers, at most 193 of each, which stay, and after them room for the matrix; g becomes the step. The matrix, and g
-// where the equations are singular, are left as the elimination leaves them.
+// v holds as many columns of m numbers as g has numbers, at most 193 of each, and after them room for the matrix; g becomes the step.
 #[unsafe(no_mangle)]
 pub extern "C" fn slew_damped_step(
     v: &mut [f64],
@@ -28,7 +28,7 @@ pub extern "C" fn slew_damped_step(
     lambda: f64,
     g: &mut [f64],
 ) -> bool
-    ensures { Systems.StepTold v.old m r.now lambda g.old result v.new g.new }
+    ensures { Elimination.told result g.new ≡ Systems.stepped v.old m r.now lambda g.old }
 {
     let n = g.len();
     if n > 193 {

@@ -1,6 +1,8 @@
 // tile_order: an order for the tiles of a mosaic. Answers 0, or 25; beside a refusal the order and what is told are zeros.
 ghost use Rattle.std.specs.Prelude.{◌≡◌, cond};
-ghost use Rattle.export_tools.specs.OrderEntries.{OrderTold};
+ghost use Rattle.tile_order.specs.Answers as Answers;
+ghost use Rattle.export_leaves.specs.Outcomes.{fate_number};
+ghost use Rattle.export_tools.specs.OrderEntries as OrderEntries;
 
 use export_leaves::pack::number_of;
 
@@ -19,7 +21,9 @@ pub extern "C" fn slew_order(
     order: &mut [usize; 10],
     told: &mut [u64; 4],
 ) -> usize
-    ensures { OrderTold tiles times.now budget result order.new told.new }
+    ensures value { result ≡ fate_number (Answers.answer tiles times.now budget).fate }
+    ensures order_after { order.new ≡ (Answers.answer tiles times.now budget).found.order }
+    ensures told_after { told.new ≡ OrderEntries.told (Answers.answer tiles times.now budget).found }
 {
     let answer = tile_order::order(tiles, times, budget);
     let fate = answer.fate;

@@ -2,7 +2,6 @@
 -- ---- meaning
 pub mod Ops  -- abs, max, min, clamp and ceil, as Rust has them
 pub mod Sqrt  -- the square root of IEEE 754: the exact root, rounded once
-pub mod Exact  -- the exact value of a float
 -- ---- laws
 pub mod OpsLaws  -- max and min where the first is no NaN, ceil at some numbers
 pub mod SqrtLaws  -- sqrt over parts: a value of the format, none nearer to the root, the order kept

@@ -6,12 +6,20 @@ use Rattle.std.specs.Float.{nan, inf, fin, Format, binary64}
 use Rattle.std.specs.Float.Ieee.{low, lt, fits}
 use Rattle.std.specs.Float.Ieee.Exact.{HasValue}
 use Rattle.std.specs.Float.Ieee.Scale.{finite}
-use Rattle.float.specs.Exact.{signed, exact}
 use Rattle.float.specs.Ops.{abs}
-use Rattle.float.specs.Exact.{mag}
-use Rattle.float_laws.specs.Place.{mid, side, place, mag_exact, mag_lt}
+use Rattle.float_laws.specs.Place.{mag, mid, side, place, mag_exact, mag_lt}
 use Rattle.float_laws.specs.Order.{held, lt_up}
 use Rattle.float_laws.specs.Signs.{plus}
+
+-- n, or -n where s is true
+abbrev pub signed : Bool → ℕ → ℤ
+signed s n = cond s (neg_ℤ (pos n)) (pos n)
+
+-- x is exact x times 2 ^ -1074; a NaN and an infinity have none, and count as 0
+unfoldable pub exact : Float → ℤ
+exact nan = pos 0
+exact (inf s) = pos 0
+exact (fin s m e) = signed s (mag binary64 (fin s m e))
 
 -- `mag` is what it says: a finite value of the format is ± mag / 2 ^ low
 pub mag_value : (f : Format) (s : Bool) (m : ℕ) (e : ℤ) → T (fits f (fin s m e)) → HasValue (fin s m e) s (mag f (fin s m e)) (2 ^ low f)

@@ -5,11 +5,11 @@ use Rattle.std.specs.Float.Ieee.{add, sub, mul, lt, fits, of_bits}
 use Rattle.std.specs.Float.Ieee.Scale.{finite}
 use Rattle.float.specs.Ops.{number, abs}
 use Rattle.float.specs.Sqrt.{sqrt}
-use Rattle.float.specs.Exact.{mag}
+use Rattle.float_laws.specs.Place.{mag}
 use Rattle.float_laws.specs.Numbers.{numbers}
 use Rattle.float_laws.specs.Finite.{finites}
 use Rattle.float_laws.specs.Signs.{plus_number, pluses}
-use Rattle.float.specs.Exact.{exact}
+use Rattle.float_laws.specs.Exact.{exact}
 use Rattle.float_laws.specs.Limits.{Limit, Under, bound}
 use Rattle.float_laws.specs.Sizes.{Within, mul_in, sub_in}
 

@@ -10,18 +10,15 @@ use Rattle.std.specs.Float.{nan, inf, fin, Format, binary64}
 use Rattle.std.specs.Float.Ieee.{add, sub, neg, lt, le, fits, of_bits}
 use Rattle.std.specs.Float.Ieee.Fits.{sub-fits, neg-fits}
 use Rattle.std.specs.Float.Ieee.Scale.{finite}
-use Rattle.float.specs.Exact.{next_above_nano}
 use Rattle.float.specs.Ops.{number, abs, clamp}
-use Rattle.float.specs.Exact.{mag}
-use Rattle.float_laws.specs.Place.{mid, place, fin_under}
+use Rattle.float_laws.specs.Place.{mag, mid, place, fin_under}
 use Rattle.float_laws.specs.Order.{Held, held, lt_up, up_lt, mag_abs, place_neg, abs_fits}
 use Rattle.float_laws.specs.Signs.{plus, place_plus, abs_plus, above_zero_plus}
 use Rattle.float_laws.specs.Finite.{finite_number, finite_neg, finite_abs, sub_number}
 use Rattle.float_laws.specs.Clamp.{sym_abs, sym_idem}
 use Rattle.float_laws.specs.Rounding.{add_above}
 use Rattle.float_laws.specs.Largest.{largest, none_above}
-use Rattle.float.specs.Exact.{exact}
-use Rattle.float_laws.specs.Exact.{exact_plus, exact_abs}
+use Rattle.float_laws.specs.Exact.{exact, exact_plus, exact_abs}
 
 -- a limit as the problem's checks leave it: an f64, finite and above 0
 pub record Limit (l : Float) : Type 0 where
@@ -49,6 +46,10 @@ module _ (l : Float) (L : Limit l) where
 -- 1e-9
 abbrev pub tol : Float
 tol = of_bits binary64 0x3e11_2e0b_e826_d695
+
+-- the next f64 above 1e-9
+abbrev pub next_above_nano : Float
+next_above_nano = of_bits binary64 0x3e11_2e0b_e826_d696
 
 pub tol_held : Held binary64 tol
 unfolding of_bits fits

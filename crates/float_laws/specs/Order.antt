@@ -8,8 +8,7 @@ use Rattle.std.specs.Float.Ieee.{lt, le, neg, fits}
 use Rattle.std.specs.Float.Ieee.Fits.{neg-fits}
 use Rattle.float.specs.Ops.{number, abs}
 use Rattle.float_laws.specs.Numbers.{lt_l, lt_r, le_l, le_r}
-use Rattle.float.specs.Exact.{mag}
-use Rattle.float_laws.specs.Place.{mid, place, lt_is, le_is, mag_inf, mag_lt}
+use Rattle.float_laws.specs.Place.{mag, mid, place, lt_is, le_is, mag_inf, mag_lt}
 
 -- a number that the format holds
 pub record Held (f : Format) (x : Float) : Type 0 where

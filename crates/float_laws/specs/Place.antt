@@ -13,8 +13,13 @@ use Rattle.std.specs.Float.Ieee.{nan, prec, emax, low, up, down, below, level, l
 use Rattle.std.specs.Float.{inf, fin, Format}
 use Rattle.std.specs.Float.Ieee.Fits.{up_pos, down_pos, and_l, and_r, and_i, eq→eqb}
 use Rattle.std.specs.Float.Ieee.Digits.{back}
-use Rattle.float.specs.Exact.{mag}
 use Rattle.float.specs.Ops.{number}
+
+-- how many of the format's smallest values make the value's size; a NaN has size 0
+unfoldable pub mag : Format → Float → ℕ
+mag f nan = 0
+mag f (inf s) = 2 ^ (low f + suc (emax f))
+mag f (fin s m e) = m * up e * 2 ^ low f / down e
 
 -- the place of zero
 unfoldable pub mid : Format → ℕ

@@ -13,8 +13,7 @@ use Rattle.std.specs.Float.Ieee.Fits.{down_pos, and_l, and_r, round-fits, add-fi
 use Rattle.std.specs.Float.Ieee.Exact.{HasValue, round_exact}
 use Rattle.std.specs.Float.Ieee.Order.{round_mono}
 use Rattle.std.specs.Float.Ieee.Scale.{round_same, finite}
-use Rattle.float.specs.Exact.{mag}
-use Rattle.float_laws.specs.Place.{mid, side, place, mag_exact, mag_lt, mid_pos, place_inf, pow_back, down_le, same_lt, cross_l, cross_r, fin_under}
+use Rattle.float_laws.specs.Place.{mag, mid, side, place, mag_exact, mag_lt, mid_pos, place_inf, pow_back, down_le, same_lt, cross_l, cross_r, fin_under}
 use Rattle.float_laws.specs.Order.{Held, held, le_up, up_le, neg_held, place_neg}
 use Rattle.float_laws.specs.Signs.{place_plus, round_plus, round_neg, round_held}
 use Rattle.float_laws.specs.Finite.{finite_number, add_number}

@@ -6,8 +6,7 @@ use Rattle.std.specs.Float.Ieee.{prec, emax, low, up, down, odd, units, round, s
 use Rattle.std.specs.Float.Ieee.Fits.{round-fits}
 use Rattle.float.specs.Ops.{number, abs}
 use Rattle.float.specs.Sqrt.{sqrt, root_units}
-use Rattle.float.specs.Exact.{mag}
-use Rattle.float_laws.specs.Place.{mid, place}
+use Rattle.float_laws.specs.Place.{mag, mid, place}
 use Rattle.float_laws.specs.Order.{Held, held, neg_number}
 
 -- a number whose sign is +

@@ -14,8 +14,7 @@ use Rattle.std.specs.Float.Ieee.Fits.{up_pos, down_pos, and_i, add-fits, neg-fit
 use Rattle.std.specs.Float.Ieee.Order.{round_mono}
 use Rattle.std.specs.Float.Ieee.Scale.{round_same, finite}
 use Rattle.float.specs.Ops.{abs}
-use Rattle.float.specs.Exact.{mag}
-use Rattle.float_laws.specs.Place.{mid, place, mag_exact, mag_lt, mag_inf, mid_pos}
+use Rattle.float_laws.specs.Place.{mag, mid, place, mag_exact, mag_lt, mag_inf, mid_pos}
 use Rattle.float_laws.specs.Order.{Held, held, le_up, neg_held, place_neg, abs_held, mag_neg, mag_abs}
 use Rattle.float_laws.specs.Signs.{place_plus, round_plus, round_neg, round_held, abs_plus}
 use Rattle.float_laws.specs.Finite.{finite_number, finite_neg, add_number, le_finite}

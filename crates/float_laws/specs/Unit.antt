@@ -16,8 +16,7 @@ use Rattle.float.specs.Ops.{abs}
 use Rattle.float.specs.Sqrt.{sqrt, root_units}
 use Rattle.float.specs.SqrtLaws.{sqrt_fits, sqrt_mono, sqrt_value, grid_root, square_units}
 use Rattle.float_laws.specs.Numbers.{lt_l}
-use Rattle.float.specs.Exact.{mag}
-use Rattle.float_laws.specs.Place.{mid, place, mag_exact}
+use Rattle.float_laws.specs.Place.{mag, mid, place, mag_exact}
 use Rattle.float_laws.specs.Order.{Held, held, lt_up, nlt_up, up_le, le_up, place_neg, place_abs, abs_held}
 use Rattle.float_laws.specs.Signs.{plus, place_plus, square_plus, add_plus, sqrt_plus}
 use Rattle.float_laws.specs.Finite.{add_finite, sqrt_finite, finite_number, sub_number, finite_neg}

@@ -13,8 +13,7 @@ use Rattle.std.specs.Float.{inf, fin, Format, binary64}
 use Rattle.std.specs.Float.Ieee.Bits.{is_true, is_false, of_bits-to_bits}
 use Rattle.std.specs.Float.Ieee.Fits.{up_pos, down_pos, round-fits, neg-fits, add-fits}
 use Rattle.std.specs.Float.Ieee.Scale.{round_same, finite}
-use Rattle.float.specs.Exact.{mag}
-use Rattle.float_laws.specs.Place.{mid, place, mag_exact, mag_lt, mag_inf}
+use Rattle.float_laws.specs.Place.{mag, mid, place, mag_exact, mag_lt, mag_inf}
 use Rattle.float_laws.specs.Signs.{plus, place_plus, round_plus, round_neg}
 use Rattle.float_laws.specs.Rounding.{rnd, rnd_fix, rnd_mono, add_units}
 use Rattle.float_laws.specs.Commute.{mul_swap}

@@ -12,8 +12,7 @@ use Rattle.float.specs.OpsLaws.{max_number}
 use Rattle.float.specs.Sqrt.{sqrt}
 use Rattle.float.specs.SqrtLaws.{grid_root, square_units, sqrt_fits, sqrt_value}
 use Rattle.float.specs.SqrtFloats.{from_zero_value, same_value, sqrt_order}
-use Rattle.float_laws.specs.Place.{place, mid, mag_exact, place_inf, fin_under}
-use Rattle.float.specs.Exact.{mag}
+use Rattle.float_laws.specs.Place.{place, mid, mag, mag_exact, place_inf, fin_under}
 use Rattle.float_laws.specs.Order.{held, nlt_up, up_nlt, le_up, lt_le, not_above}
 
 -- a number whose sign is plus

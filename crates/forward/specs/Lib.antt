@@ -5,8 +5,6 @@ pub mod Steps  -- the step law, stage by stage
 pub mod Runs  -- 16 steps and 17 nodes
 pub mod Rows  -- nodes as rows of 22 numbers, which can be lent
 pub mod Reconstruct  -- `reconstruct` as a user calls it, the checks first
-pub mod Values  -- words for what holds of lists of floats and of attitudes
-pub mod DeclaredLimits  -- what the user declares: controls of a row, limits
 -- ---- laws
 pub mod ReconstructLaws  -- what an admitted problem is
 pub mod StepLaws  -- what a step needs of the pyramid's skew and matrix, and what it hands on
@@ -18,4 +16,3 @@ pub mod PastedLaws  -- a part put back keeps the list's length
 -- ---- inner words of proofs
 pub mod GimbalStartInner  -- what a run makes once: the skew's sine and cosine, the pyramid's first matrix
 pub mod StepPartInner  -- a step as its dynamics and its attitude, and that both are the step law's step
-pub mod PowerInner  -- the end of a step's dynamics where the gimbals go on

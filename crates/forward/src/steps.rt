@@ -9,7 +9,6 @@ ghost use Rattle.actuators.specs.declared.Cmgs.TheVariants.{With};
 ghost use Rattle.forward.specs.Steps as Steps;
 ghost use Rattle.forward.specs.StepLaws.{AnglesOf, Made, rooted};
 ghost use Rattle.forward.specs.StepPartInner as StepPartInner;
-ghost use Rattle.forward.specs.PowerInner as PowerInner;
 ghost use Rattle.std.specs.Float.{binary64};
 ghost use Rattle.std.specs.Float.Ieee.{lt};
 ghost use Rattle.float.specs.Sqrt.{sqrt};
@@ -221,45 +220,6 @@ pub fn dynamics_at(
     dynamics_from(tau, square, turn, s2, a)
 }
 
-// The dynamics l of step k from s, whose gimbals step to g: with the momenta, unless a wheel's power refuses them. `row` is the wheels' part of the control row.
-fn power_dynamics(
-    wheels: &[f64; 24],
-    powers: [Power; 8],
-    row: &[f64],
-    dt: f64,
-    k: usize,
-    s: BodyState,
-    g: GimbalStep,
-    l: Dynamics,
-) -> Dynamics
-    requires { length row.now ≤ 8 }
-    ensures { result ≡ PowerInner.power_dynamics wheels.now powers row.now dt k s g l }
-{
-    let n = row.len();
-    let w = s.w;
-    if over_power(wheels, powers, n, row, w) {
-        return refuse_dynamics(13, k, l);
-    }
-    let hw = s.hw;
-    let hw2 = control_rows::momenta_next(n, hw, row, dt);
-    let h2 = control_rows::body_momentum(wheels, n, &hw2);
-    let tau = l.tau;
-    let turn = l.turn;
-    let e = l.s;
-    let q = e.q;
-    let w2 = e.w;
-    let d2 = g.delta;
-    let a2 = g.a;
-    let s2 = BodyState {
-        q: q,
-        w: w2,
-        h: h2,
-        hw: hw2,
-        delta: d2,
-    };
-    dynamics_from(tau, l.square, turn, s2, a2)
-}
-
 // The dynamics l, whose torque, defect, turn and rate are known, with momenta, gimbals and power: of the step from s.
 pub fn finish_dynamics(
     r: Rig,
@@ -282,13 +242,35 @@ pub fn finish_dynamics(
     let at = nw + r.thruster_count;
     let end = u.len();
     let cmgs = r.cmgs;
+    let hw = s.hw;
+    let w = s.w;
     let d = s.delta;
     let g = step_gimbals(cmgs, skew, lut, &u[at..end], d, dt, k);
     let fate = g.fate;
     match fate {
-        Fate::Refused(number, place) => refuse_dynamics(number, place, l),
-        Fate::Going => power_dynamics(wheels, powers, &u[0..nw], dt, k, s, g, l),
+        Fate::Refused(number, place) => return refuse_dynamics(number, place, l),
+        Fate::Going => {}
     }
+    if over_power(wheels, powers, nw, &u[0..nw], w) {
+        return refuse_dynamics(13, k, l);
+    }
+    let hw2 = control_rows::momenta_next(nw, hw, &u[0..nw], dt);
+    let h2 = control_rows::body_momentum(wheels, nw, &hw2);
+    let tau = l.tau;
+    let turn = l.turn;
+    let e = l.s;
+    let q = e.q;
+    let w2 = e.w;
+    let d2 = g.delta;
+    let a2 = g.a;
+    let s2 = BodyState {
+        q: q,
+        w: w2,
+        h: h2,
+        hw: hw2,
+        delta: d2,
+    };
+    dynamics_from(tau, l.square, turn, s2, a2)
 }
 
 // The dynamics of step k with the control row u, from the state s, whatever its attitude, whose pyramid matrix is a.

@@ -8,4 +8,3 @@ pub mod Answers  -- each answer as a value or as a refusal
 -- ---- laws
 pub mod Tests  -- what a branch tells where it tests the negated answer of a call
 pub mod HalvesLaws  -- taking sine and cosine at once is taking each
-pub mod AdjugateLaws  -- the columns of the adjugate are cross products

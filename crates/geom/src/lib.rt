@@ -156,13 +156,11 @@ pub fn dot3(a: [f64; 3], b: [f64; 3]) -> f64
 pub fn cross(a: [f64; 3], b: [f64; 3]) -> [f64; 3]
     ensures { result ≡ Vec.cross a b }
 {
-    let x = a[0];
-    let y = a[1];
-    let z = a[2];
-    let u = b[0];
-    let v = b[1];
-    let w = b[2];
-    [y * w - z * v, z * u - x * w, x * v - y * u]
+    [
+        a[1] * b[2] - a[2] * b[1],
+        a[2] * b[0] - a[0] * b[2],
+        a[0] * b[1] - a[1] * b[0],
+    ]
 }
 
 // The tensor of nine numbers, by rows.
@@ -172,38 +170,31 @@ pub fn tensor(j: [f64; 9]) -> [[f64; 3]; 3]
     [[j[0], j[1], j[2]], [j[3], j[4], j[5]], [j[6], j[7], j[8]]]
 }
 
-fn flat(a: [f64; 3], b: [f64; 3], c: [f64; 3]) -> [f64; 9]
-    ensures { result ≡ Tensors.flat a b c }
-{
-    [a[0], a[1], a[2], b[0], b[1], b[2], c[0], c[1], c[2]]
-}
-
 // The nine numbers of a tensor, by rows.
 pub fn flatten(j: [[f64; 3]; 3]) -> [f64; 9]
     ensures { result ≡ Tensors.flatten j }
 {
-    flat(j[0], j[1], j[2])
+    [
+        j[0][0], j[0][1], j[0][2], j[1][0], j[1][1], j[1][2], j[2][0], j[2][1], j[2][2],
+    ]
 }
 
 pub fn apply_tensor(j: [[f64; 3]; 3], w: [f64; 3]) -> [f64; 3]
     ensures { result ≡ Vec.apply_tensor j w }
 {
-    [dot3(j[0], w), dot3(j[1], w), dot3(j[2], w)]
+    [
+        j[0][0] * w[0] + j[0][1] * w[1] + j[0][2] * w[2],
+        j[1][0] * w[0] + j[1][1] * w[1] + j[1][2] * w[2],
+        j[2][0] * w[0] + j[2][1] * w[1] + j[2][2] * w[2],
+    ]
 }
 
 pub fn det3(j: [[f64; 3]; 3]) -> f64
     ensures { result ≡ Vec.det3 j }
 {
-    let a = j[0];
-    let b = j[1];
-    let c = j[2];
-    let x = b[0];
-    let y = b[1];
-    let z = b[2];
-    let u = c[0];
-    let v = c[1];
-    let w = c[2];
-    a[0] * (y * w - z * v) - a[1] * (x * w - z * u) + a[2] * (x * v - y * u)
+    j[0][0] * (j[1][1] * j[2][2] - j[1][2] * j[2][1])
+        - j[0][1] * (j[1][0] * j[2][2] - j[1][2] * j[2][0])
+        + j[0][2] * (j[1][0] * j[2][1] - j[1][1] * j[2][0])
 }
 
 // Euler's equations in the body's frame, left side: J w' + w × (J w + h).
@@ -261,15 +252,12 @@ pub fn unit3(v: [f64; 3]) -> Axis
 pub fn exp_at(phi: [f64; 3], n: f64) -> Turned
     ensures { result ≡ Quats.exp_at phi n }
 {
-    let x = phi[0];
-    let y = phi[1];
-    let z = phi[2];
     if n < 1.0e-16 {
         return Turned::Is(Quat {
             w: 1.0,
-            x: 0.5 * x,
-            y: 0.5 * y,
-            z: 0.5 * z,
+            x: 0.5 * phi[0],
+            y: 0.5 * phi[1],
+            z: 0.5 * phi[2],
         });
     }
     let turn = angles::sin_cos(0.5 * n);
@@ -278,9 +266,9 @@ pub fn exp_at(phi: [f64; 3], n: f64) -> Turned
             let s = sine / n;
             Turned::Is(Quat {
                 w: cosine,
-                x: x * s,
-                y: y * s,
-                z: z * s,
+                x: phi[0] * s,
+                y: phi[1] * s,
+                z: phi[2] * s,
             })
         }
         Both::Outside => Turned::Outside,
@@ -389,17 +377,50 @@ pub fn is_spd(j: [[f64; 3]; 3]) -> bool
     symmetric(j) & definite(j)
 }
 
-// The adjugate times s: its columns are the cross products of the rows.
+fn adjugate0(j: [[f64; 3]; 3]) -> [f64; 3]
+    ensures { result ≡ Tensors.adjugate0 j }
+{
+    [
+        j[1][1] * j[2][2] - j[1][2] * j[2][1],
+        j[0][2] * j[2][1] - j[0][1] * j[2][2],
+        j[0][1] * j[1][2] - j[0][2] * j[1][1],
+    ]
+}
+
+fn adjugate1(j: [[f64; 3]; 3]) -> [f64; 3]
+    ensures { result ≡ Tensors.adjugate1 j }
+{
+    [
+        j[1][2] * j[2][0] - j[1][0] * j[2][2],
+        j[0][0] * j[2][2] - j[0][2] * j[2][0],
+        j[0][2] * j[1][0] - j[0][0] * j[1][2],
+    ]
+}
+
+fn adjugate2(j: [[f64; 3]; 3]) -> [f64; 3]
+    ensures { result ≡ Tensors.adjugate2 j }
+{
+    [
+        j[1][0] * j[2][1] - j[1][1] * j[2][0],
+        j[0][1] * j[2][0] - j[0][0] * j[2][1],
+        j[0][0] * j[1][1] - j[0][1] * j[1][0],
+    ]
+}
+
+fn flat(a: [f64; 3], b: [f64; 3], c: [f64; 3]) -> [f64; 9]
+    ensures { result ≡ Tensors.flat a b c }
+{
+    [a[0], a[1], a[2], b[0], b[1], b[2], c[0], c[1], c[2]]
+}
+
 fn scaled_adjugate(j: [[f64; 3]; 3], s: f64) -> [f64; 9]
     ensures { result ≡ Tensors.scaled_adjugate j s }
 {
-    let a = j[0];
-    let b = j[1];
-    let c = j[2];
-    let u = scale3(cross(b, c), s);
-    let v = scale3(cross(c, a), s);
-    let w = scale3(cross(a, b), s);
-    [u[0], v[0], w[0], u[1], v[1], w[1], u[2], v[2], w[2]]
+    flat(
+        scale3(adjugate0(j), s),
+        scale3(adjugate1(j), s),
+        scale3(adjugate2(j), s),
+    )
 }
 
 fn no_inverse() -> Inverse

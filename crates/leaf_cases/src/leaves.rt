@@ -18,19 +18,24 @@ fn free(a: f64, b: f64, x: f64) -> f64 {
 fn angle(v: &[u64; 1024], number: u64) -> bool {
     let mut x = 0.0;
     let y = real(v, 0);
-    let refused = match number {
+    let given = match number {
         9 => slew_sin(y, &mut x),
         10 => slew_cos(y, &mut x),
         _ => slew_acos(y, &mut x),
     };
-    at(v, 1) == refused as u64 && (refused != 0 || same(v, 2, x))
+    if given {
+        return at(v, 1) == 0 && same(v, 2, x);
+    }
+    at(v, 1) == 11
 }
 
 // Both angles' answer: 0, the sine and the cosine, or 11.
 fn both(v: &[u64; 1024]) -> bool {
     let mut x = [0.0; 2];
-    let refused = slew_sin_cos(real(v, 0), &mut x);
-    at(v, 1) == refused as u64 && (refused != 0 || (same(v, 2, x[0]) && same(v, 3, x[1])))
+    if slew_sin_cos(real(v, 0), &mut x) {
+        return at(v, 1) == 0 && same(v, 2, x[0]) && same(v, 3, x[1]);
+    }
+    at(v, 1) == 11
 }
 
 pub fn holds(number: u64, v: &[u64; 1024]) -> bool {

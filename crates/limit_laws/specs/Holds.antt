@@ -1,25 +1,22 @@
 -- `hold l x`, the control x held between -l and l: done twice, to two limits, of -x, in order, and where it changes x. Assumes nothing.
 -- A limit is any f64 above 0, infinity too. A control is any f64 but a NaN, so each finite one.
-use Rattle.std.proofs.Math.Path.{◌≡◌, refl, sym, ap}
-use Rattle.std.proofs.Common.{subst, ◌∙◌, ltb→lt}
-use Rattle.std.specs.Prelude.{ℕ, ◌*◌, ◌≤◌, Bool, not, cond, ltb, ℤ, Float}
-use native.Mathlib.Omega.{arith}
-use Rattle.std.proofs.Math.Bool.{true, false}
+use Rattle.std.specs.Prelude.{◌≡◌, refl, ◌≤◌, true, false, not, Float}
+use Rattle.std.proofs.Math.Path.{sym, ap}
+use Rattle.std.proofs.Common.{◌∙◌, arith}
 use Rattle.std.proofs.Math.Dec.{T}
-use Rattle.std.specs.Float.Ieee.{nan, fin, binary64, neg, lt, le, fits, of_bits, of_fields, is_nan}
-use Rattle.std.specs.Float.{inf}
-use Rattle.std.specs.Float.Ieee as Ieee
+use Rattle.std.specs.Float.Ieee.{nan, binary64, neg, lt, le, fits, of_bits, is_nan}
+use Rattle.std.specs.Float.{inf, fin}
 use Rattle.std.specs.Float.Ieee.Scale.{finite}
 use Rattle.std.specs.Float.Ieee.Bits.{is_true, is_false}
 use Rattle.float.specs.Ops as Ops
 use Rattle.float.specs.Ops.{number, abs}
-use Rattle.float_laws.specs.Numbers.{lt_r}
+use Rattle.float_laws.specs.Numbers.{lt_r, clamp_n}
 use Rattle.float_laws.specs.Finite.{finite_number}
 use Rattle.float_laws.specs.Limits as Limits
 use Rattle.float_laws.specs.Place.{mid, place}
 use Rattle.float_laws.specs.Order.{Held, held, lt_up, nlt_up, le_up, neg_held, abs_held, place_neg, place_abs, le_trans, lt_le, not_above}
 use Rattle.float_laws.specs.Signs.{place_plus, above_zero_plus}
-use Rattle.float_laws.specs.Clamp.{test, clamp_same, sym_idem, sym_neg, clamp_mono, clamp_wider, clamp_narrower}
+use Rattle.float_laws.specs.Clamp.{test, clamp_same, sym_abs, sym_idem, sym_neg, clamp_mono, clamp_wider, clamp_narrower}
 use Rattle.control_limits.specs.Limits.{hold, changed}
 
 -- a limit: an f64 above 0
@@ -80,83 +77,49 @@ module _ {l : Float} (L : Limit l) where
       let n = place_neg binary64 l top in
       clamp_same binary64 (neg l) l (neg_held top) top x (at p) (omega arith) (omega arith)
 
--- ---- where a control is changed: exactly where the number differs. Of every float, a NaN and one that f64 does not hold too.
-first : {A : Type 0} (b : Bool) (x y : A) → T b → cond b x y ≡ x
-first true x y t = refl
-first false x y t = absurd t
+-- ---- where a control is changed: exactly where the number differs
+not_number : (y : Float) → (T (number y) → ⊥) → y ≡ nan
+not_number nan h = refl
+not_number (inf s) h = absurd (h tt)
+not_number (fin s m e) h = absurd (h tt)
 
-second : {A : Type 0} (b : Bool) (x y : A) → T (not b) → cond b x y ≡ y
-second true x y t = absurd t
-second false x y t = refl
+module _ {l : Float} (L : Limit l) where
+  nan_same : hold l nan ≡ nan
+  unfolding hold
+  nan_same = not_number _ (clamp_n (neg l) l nan)
 
-not_below_self : (n : ℕ) → T (ltb n n) → ⊥
-not_below_self n t = omega (arith, ltb→lt n n t)
+  within_same : {x : Float} → Number x → T (not (changed l x)) → hold l x ≡ x
+  within_same {x} p h = hold_within L p (not_above binary64 (abs x) l (abs_held (at p)) (top L) h)
 
--- the limit that is finite
-module _ (n : ℕ) (d : ℤ) where
-  abbrev l : Float
-  l = fin false n d
+  beyond_differs : {x : Float} → Number x → T (changed l x) → hold l x ≡ x → ⊥
+  unfolding hold
+  beyond_differs {x} p t e =
+      let s : T (le (abs x) l) = rw e at (sym_abs binary64 l (top L) (up L) x (at p)) in
+      omega (arith, le_up binary64 (abs x) l (abs_held (at p)) (top L) s, lt_up binary64 l (abs x) (top L) (abs_held (at p)) t)
 
-  within_same : (x : Float) → T (not (changed l x)) → hold l x ≡ x
-  unfolding hold Ops.clamp abs neg lt
-  within_same nan t = refl
-  within_same (inf s) t = absurd t
-  within_same (fin false m e) t = second (changed l (fin false m e)) l (fin false m e) t
-  within_same (fin true m e) t = second (changed l (fin true m e)) (neg l) (fin true m e) t
+  -- A CONTROL THAT IS NOT CHANGED is the number that it was, a NaN too
+  pub unchanged_same : (x : Float) → T (fits binary64 x) → T (not (changed l x)) → hold l x ≡ x
+  unchanged_same nan f h = nan_same
+  unchanged_same (inf s) f h = within_same (record { fit = f; real = tt }) h
+  unchanged_same (fin s m e) f h = within_same (record { fit = f; real = tt }) h
 
-  beyond_differs : (x : Float) → T (changed l x) → hold l x ≡ x → ⊥
-  unfolding hold Ops.clamp abs neg lt
-  beyond_differs nan t e = absurd t
-  beyond_differs (inf false) t e = let z : ◌≡◌ {A = ℕ} 0 1 = cc in omega arith
-  beyond_differs (inf true) t e = let z : ◌≡◌ {A = ℕ} 0 1 = cc in omega arith
-  beyond_differs (fin false m e) t h =
-      let f : l ≡ fin false m e = sym (first (changed l (fin false m e)) l (fin false m e) t) ∙ h in
-      not_below_self (n * Ieee.up d * Ieee.down d) (subst (λ (y : Float). T (lt l (abs y))) (sym f) t)
-  beyond_differs (fin true m e) t h =
-      let f : neg l ≡ fin true m e = sym (first (changed l (fin true m e)) (neg l) (fin true m e) t) ∙ h in
-      not_below_self (n * Ieee.up d * Ieee.down d) (subst (λ (y : Float). T (lt l (abs y))) (sym f) t)
-
--- and the infinite one
-endless_same : (x : Float) → hold (inf false) x ≡ x
-unfolding hold Ops.clamp neg lt
-endless_same nan = refl
-endless_same (inf true) = refl
-endless_same (inf false) = refl
-endless_same (fin s m e) = refl
-
-endless_never : (x : Float) → T (changed (inf false) x) → ⊥
-unfolding abs lt
-endless_never nan t = t
-endless_never (inf s) t = t
-endless_never (fin s m e) t = t
-
--- A CONTROL THAT IS NOT CHANGED is the number that it was, a NaN too
-pub unchanged_same : {l : Float} → Limit l → (x : Float) → T (not (changed l x)) → hold l x ≡ x
-unfolding lt of_bits of_fields
-unchanged_same {l} L x = by l L.over
-  where
-    by : (l : Float) → T (lt (of_bits binary64 0) l) → T (not (changed l x)) → hold l x ≡ x
-    by nan o t = absurd o
-    by (inf true) o t = absurd o
-    by (inf false) o t = endless_same x
-    by (fin true n d) o t = absurd o
-    by (fin false n d) o t = within_same n d x t
-
--- ONE THAT IS CHANGED is another number
-pub changed_differs : {l : Float} → Limit l → (x : Float) → T (changed l x) → hold l x ≡ x → ⊥
-unfolding lt of_bits of_fields
-changed_differs {l} L x = by l L.over
-  where
-    by : (l : Float) → T (lt (of_bits binary64 0) l) → T (changed l x) → hold l x ≡ x → ⊥
-    by nan o t e = absurd o
-    by (inf true) o t e = absurd o
-    by (inf false) o t e = endless_never x t
-    by (fin true n d) o t e = absurd o
-    by (fin false n d) o t e = beyond_differs n d x t e
+  -- ONE THAT IS CHANGED is another number
+  pub changed_differs : (x : Float) → T (fits binary64 x) → T (changed l x) → hold l x ≡ x → ⊥
+  unfolding abs
+  changed_differs nan f t e = absurd (lt_r l nan t)
+  changed_differs (inf s) f t e = beyond_differs (record { fit = f; real = tt }) t e
+  changed_differs (fin s m x) f t e = beyond_differs (record { fit = f; real = tt }) t e
 
 -- an infinite limit changes nothing
+endless_same : (x : Float) → T (number x) → hold (inf false) x ≡ x
+unfolding hold Ops.clamp neg lt
+endless_same nan p = absurd p
+endless_same (inf true) p = refl
+endless_same (inf false) p = refl
+endless_same (fin s m e) p = refl
+
 pub hold_endless : {x : Float} → Number x → hold (inf false) x ≡ x
-hold_endless {x} p = endless_same x
+hold_endless {x} p = endless_same x p.real
 
 -- ---- the smaller of two limits
 min_first : (a b : Float) → T (number a) → T (not (lt b a)) → Ops.min a b ≡ a

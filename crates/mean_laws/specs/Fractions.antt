@@ -13,8 +13,7 @@ use Rattle.std.specs.Float.Ieee.Order.{round_mono}
 use Rattle.std.specs.Float.Ieee.Scale.{finite}
 use Rattle.common.specs.Floats.{one, plus_zero}
 use Rattle.float.specs.Ops.{number}
-use Rattle.float.specs.Exact.{mag}
-use Rattle.float_laws.specs.Place.{mid, place, place_inf}
+use Rattle.float_laws.specs.Place.{mag, mid, place, place_inf}
 use Rattle.float_laws.specs.Order.{Held, held, lt_up, le_up, up_le, place_neg}
 use Rattle.float_laws.specs.Signs.{plus, plus_number, place_plus, round_plus}
 use Rattle.float_laws.specs.Finite.{finite_number, finite_neg, sub_number}

@@ -10,8 +10,8 @@ use Rattle.std.specs.Float.Ieee.{up, down, units, round, sum, neg, add, sub, mul
 use Rattle.std.specs.Float.Ieee.Fits.{up_pos, and_l}
 use Rattle.std.specs.Float.Ieee.Scale.{finite}
 use Rattle.common.specs.Floats.{plus_zero}
-use Rattle.float.specs.Exact.{mag}
-use Rattle.float.specs.Exact.{signed, exact}
+use Rattle.float_laws.specs.Place.{mag}
+use Rattle.float_laws.specs.Exact.{signed, exact}
 use Rattle.mean_laws.specs.Means.{Plain, Fraction, mean, size, Bounded}
 use Rattle.mean_laws.specs.Weights.{nought, mean_first}
 use Rattle.mean_laws.specs.Rounded.{Weight, Mean, unit, weight_by, mean_is}

@@ -5,7 +5,7 @@ use Rattle.std.specs.Float.Ieee.{add, sub, mul, le, fits}
 use Rattle.std.specs.Float.Ieee.Scale.{finite}
 use Rattle.common.specs.Floats.{one}
 use Rattle.common.specs.Floats.{plus_zero}
-use Rattle.float.specs.Exact.{exact}
+use Rattle.float_laws.specs.Exact.{exact}
 
 -- a finite value of the format f; a finite f64
 pub record Value (f : Format) (x : Float) : Type 0 where

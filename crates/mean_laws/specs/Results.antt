@@ -8,8 +8,7 @@ use Rattle.std.specs.Float.Ieee.{prec, emax, low, up, down, unlike, round, add, 
 use Rattle.std.specs.Float.Ieee.Exact.{HasValue}
 use Rattle.std.specs.Float.Ieee.Fits.{down_pos, round-fits, add-fits, two, two-le_pos}
 use Rattle.std.specs.Float.Ieee.Scale.{grid, finite, round_same, round_val, round_under}
-use Rattle.float.specs.Exact.{mag}
-use Rattle.float_laws.specs.Place.{mid, place, mag_exact, mag_lt, place_inf}
+use Rattle.float_laws.specs.Place.{mag, mid, place, mag_exact, mag_lt, place_inf}
 use Rattle.float_laws.specs.Order.{Held, held, mag_neg}
 use Rattle.float_laws.specs.Signs.{plus, place_plus, round_plus, round_neg}
 use Rattle.float_laws.specs.Finite.{finite_number, finite_neg, add_number}

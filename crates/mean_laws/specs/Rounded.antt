@@ -5,8 +5,7 @@ use Rattle.std.specs.Float.{nan, inf, fin, Format, binary32, binary64}
 use Rattle.std.specs.Float.Ieee.{prec, emax, low, add, sub, mul, neg, le, fits}
 use Rattle.std.specs.Float.Ieee.Fits.{mul-fits, sub-fits, neg-fits, two}
 use Rattle.std.specs.Float.Ieee.Scale.{grid, finite}
-use Rattle.float.specs.Exact.{mag}
-use Rattle.float_laws.specs.Place.{mid, place, mag_exact, mag_lt}
+use Rattle.float_laws.specs.Place.{mag, mid, place, mag_exact, mag_lt}
 use Rattle.float_laws.specs.Numbers.{le_r}
 use Rattle.float_laws.specs.Order.{Held, held, le_up, place_neg}
 use Rattle.float_laws.specs.Signs.{place_plus}

@@ -8,14 +8,13 @@ use Rattle.std.specs.Float.Ieee.{binary64, low, up, down, unlike, size, units, r
 use Rattle.std.specs.Float.Ieee.Fits.{down_pos, add-fits, mul-fits}
 use Rattle.std.specs.Float.Ieee.Scale.{round_same}
 use Rattle.common.specs.Floats.{one}
-use Rattle.float.specs.Exact.{mag}
-use Rattle.float_laws.specs.Place.{mid, side, place, mag_exact, mag_lt, fin_above, fin_under, place_inf}
+use Rattle.float_laws.specs.Place.{mag, mid, side, place, mag_exact, mag_lt, fin_above, fin_under, place_inf}
 use Rattle.float_laws.specs.Order.{Held, held, place_neg}
 use Rattle.float_laws.specs.Signs.{round_neg, round_held}
 use Rattle.float_laws.specs.Finite.{finite_number}
 use Rattle.float_laws.specs.Rounding.{rnd, rnd_fix, add_above, add_below}
 use Rattle.float_laws.specs.Commute.{add_swap}
-use Rattle.float.specs.Exact.{signed, exact}
+use Rattle.float_laws.specs.Exact.{signed, exact}
 use Rattle.mean_laws.specs.Means.{Plain}
 
 -- a zero of either sign

@@ -17,11 +17,11 @@ use Rattle.planner.specs.PlanLaws.{leaves_none}
 use Rattle.planner.specs.declared.Planned.{Planned}
 use Rattle.mosaic.specs.Mosaics.{Planner, full_runs_value, leg_problem, halted, moved, is_full, opened, planned_by, next_by, count_fate}
 use Rattle.mosaic.specs.Turns.{Open, Turned, Advances}
-use Rattle.plan_method.specs.MethodLaws.{refused_answers}
-use Rattle.plan_method.specs.Methods.{planner_by, AnswersBy}
+use Rattle.mosaic.specs.WayLaws.{refused_answers}
+use Rattle.mosaic.specs.Ways.{planner_by, AnswersBy}
 use Rattle.mosaic.specs.declared.Advanced.{Advanced}
 use Rattle.mosaic.specs.declared.Cursor.{Cursor}
-use Rattle.plan_method.specs.declared.PlanMethod.{PlanMethod}
+use Rattle.mosaic.specs.declared.ways.Way.{Way}
 
 -- ---- 23
 pub count_few : (n : ℕ) → n < 2 → Refused 23 0 ≡ count_fate n
@@ -50,16 +50,16 @@ open_of c e f =
     record { index = ltb-false _ _ g.0; runs = ltb-false _ _ g.1 }
 
 -- ---- a turn
-module _ {method : PlanMethod} {p : Problem} {c : Cursor} {from to : Quat} {ws : List Float} where
+module _ {way : Way} {p : Problem} {c : Cursor} {from to : Quat} {ws : List Float} where
   -- the next leg was planned
-  pub turned : {q : Problem} {r : Planned} {d : Cursor} {exit : List Float} → q ≡ leg_problem p from to c.momenta → r ≡ planner_by method (length ws) q → exit ≡ Plans.leaves r.runs ws
-      → AnswersBy method (length ws) q r → d ≡ moved c r → Turned (planner_by method (length ws) (leg_problem p from to c.momenta)) method p c from to ws (record { cursor = d; planned = r }) exit
+  pub turned : {q : Problem} {r : Planned} {d : Cursor} {exit : List Float} → q ≡ leg_problem p from to c.momenta → r ≡ planner_by way (length ws) q → exit ≡ Plans.leaves r.runs ws
+      → AnswersBy way (length ws) q r → d ≡ moved c r → Turned (planner_by way (length ws) (leg_problem p from to c.momenta)) way p c from to ws (record { cursor = d; planned = r }) exit
   turned {q} {r} e f g a h =
-      let s : r ≡ planner_by method (length ws) (leg_problem p from to c.momenta) = rw e at f in
+      let s : r ≡ planner_by way (length ws) (leg_problem p from to c.momenta) = rw e at f in
       record { planned = s; cursor = h ∙ ap (moved c) s; left = g; answers = rw e at a }
 
   -- there is none
-  pub turned_full : (plan : Planner) {b : Bool} {r : Planned} {d : Cursor} → b ≡ is_full c → b ≡ true → d ≡ halted c 23 0 0 → r ≡ Plans.refused 23 0 0 → Turned (opened plan p c from to) method p c from to ws (record { cursor = d; planned = r }) ws
+  pub turned_full : (plan : Planner) {b : Bool} {r : Planned} {d : Cursor} → b ≡ is_full c → b ≡ true → d ≡ halted c 23 0 0 → r ≡ Plans.refused 23 0 0 → Turned (opened plan p c from to) way p c from to ws (record { cursor = d; planned = r }) ws
   unfolding opened moved
   turned_full plan e f g h =
       let t : is_full c ≡ true = sym e ∙ f in
@@ -67,28 +67,28 @@ module _ {method : PlanMethod} {p : Problem} {c : Cursor} {from to : Quat} {ws :
         planned = rw t h;
         cursor = rw t g;
         left = rw h (leaves_none ws);
-        answers = rw h (refused_answers method (length ws) (leg_problem p from to c.momenta) 23 0);
+        answers = rw h (refused_answers way (length ws) (leg_problem p from to c.momenta) 23 0);
       }
 
   -- there is one
-  pub turned_open : (plan : Planner) {b : Bool} {r : Advanced} {exit : List Float} → b ≡ is_full c → b ≡ false → Turned (plan (leg_problem p from to c.momenta)) method p c from to ws r exit → Turned (opened plan p c from to) method p c from to ws r exit
+  pub turned_open : (plan : Planner) {b : Bool} {r : Advanced} {exit : List Float} → b ≡ is_full c → b ≡ false → Turned (plan (leg_problem p from to c.momenta)) way p c from to ws r exit → Turned (opened plan p c from to) way p c from to ws r exit
   unfolding opened
   turned_open plan e f t = let g : is_full c ≡ false = sym e ∙ f in rw g t
 
   -- `next`, where the mosaic goes on
-  pub advances : {r : Advanced} {exit : List Float} → c.fate ≡ Going → Turned (opened (planner_by method (length ws)) p c from to) method p c from to ws r exit → Advances method p c from to ws r exit
+  pub advances : {r : Advanced} {exit : List Float} → c.fate ≡ Going → Turned (opened (planner_by way (length ws)) p c from to) way p c from to ws r exit → Advances way p c from to ws r exit
   advances e t = record {
-    cursor = t.cursor ∙ sym (ap (λ (f : Fate). next_by f c (planned_by f (planner_by method (length ws)) p c from to)) e);
-    planned = t.planned ∙ sym (ap (λ (f : Fate). planned_by f (planner_by method (length ws)) p c from to) e);
+    cursor = t.cursor ∙ sym (ap (λ (f : Fate). next_by f c (planned_by f (planner_by way (length ws)) p c from to)) e);
+    planned = t.planned ∙ sym (ap (λ (f : Fate). planned_by f (planner_by way (length ws)) p c from to) e);
     left = t.left;
     answers = t.answers;
   }
 
   -- and where it has ended
-  pub advances_not : {r : Planned} {n k : ℕ} → c.fate ≡ Refused n k → r ≡ Plans.refused n k 0 → Advances method p c from to ws (record { cursor = c; planned = r }) ws
+  pub advances_not : {r : Planned} {n k : ℕ} → c.fate ≡ Refused n k → r ≡ Plans.refused n k 0 → Advances way p c from to ws (record { cursor = c; planned = r }) ws
   advances_not {r} {n} {k} e h = record {
     cursor = rw e refl;
     planned = rw e h;
     left = rw h (leaves_none ws);
-    answers = rw h (refused_answers method (length ws) (leg_problem p from to c.momenta) n k);
+    answers = rw h (refused_answers way (length ws) (leg_problem p from to c.momenta) n k);
   }

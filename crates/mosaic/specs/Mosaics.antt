@@ -18,7 +18,7 @@ use Rattle.planner.specs.declared.Planned.{Planned}
 use Rattle.wheel_momenta.specs.Successive.{last_momenta, with_momenta}
 use Rattle.mosaic.specs.declared.Cursor.{Cursor}
 
--- any planner of one slew: what it answers for a problem. `Methods.planner_by` has ours, on a workspace of a given size.
+-- any planner of one slew: what it answers for a problem. `Ways.planner_by` has ours, on a workspace of a given size.
 abbrev pub Planner : Type 0
 Planner = Problem → Planned
 
@@ -81,7 +81,7 @@ moved c leg = moved_by leg.fate c leg
 
 -- ---- ONE LEG: a turn of a cursor that a caller holds
 
--- the most runs of one leg, by either method: 29 tries of 7,802 (plan_method `MethodLaws.runs_most`)
+-- the most runs of one leg, by either way: 29 tries of 7,802 (`WayLaws.runs_most`)
 abbrev pub most_runs : ℕ
 most_runs = 226258
 

@@ -3,14 +3,17 @@
 ghost use Rattle.std.specs.Prelude.{◌≡◌, ◌≤◌, length};
 ghost use Rattle.mosaic.specs.Mosaics as Mosaics;
 ghost use Rattle.mosaic.specs.Turns as Turns;
-ghost use Rattle.plan_method.specs.Methods as Methods;
+ghost use Rattle.mosaic.specs.Ways as Ways;
 
 use common::Fate;
 use geom::Quat;
-use plan_method::{PlanMethod, plan_by};
 use planner::{Planned, refused};
 use problem::{Momenta, Problem};
 use wheel_momenta::{last_momenta, with_momenta};
+
+pub mod ways;
+
+use ways::{Way, plan_by};
 
 // How a mosaic stands: the legs answered so far, which is also the index of the leg that comes next or that was refused; the momenta that the next leg starts
 // with; the durations and the runs of the answered legs, summed in order; how it goes on; and the runs of the refused leg, 0 while none is.
@@ -112,20 +115,13 @@ fn moved(c: Cursor, leg: Planned) -> Cursor
 }
 
 // The plan of the next leg of a mosaic that goes on, and the cursor after it.
-fn advance(
-    p: Problem,
-    method: PlanMethod,
-    c: Cursor,
-    from: Quat,
-    to: Quat,
-    ws: &mut [f64],
-) -> Advanced
+fn advance(p: Problem, way: Way, c: Cursor, from: Quat, to: Quat, ws: &mut [f64]) -> Advanced
     requires { Turns.Open c }
-    ensures { Turns.Turned (Methods.planner_by method (length ws.old) (Mosaics.leg_problem p from to c.momenta)) method p c from to
+    ensures { Turns.Turned (Ways.planner_by way (length ws.old) (Mosaics.leg_problem p from to c.momenta)) way p c from to
         ws.old result ws.new }
 {
     let m = c.momenta;
-    let planned = plan_by(leg_problem(p, from, to, m), method, ws);
+    let planned = plan_by(leg_problem(p, from, to, m), way, ws);
     Advanced {
         cursor: moved(c, planned),
         planned: planned,
@@ -143,15 +139,8 @@ fn is_full(c: Cursor) -> bool
 }
 
 // The next leg of a mosaic that goes on, where it has one.
-fn advance_open(
-    p: Problem,
-    method: PlanMethod,
-    c: Cursor,
-    from: Quat,
-    to: Quat,
-    ws: &mut [f64],
-) -> Advanced
-    ensures { Turns.Turned (Mosaics.opened (Methods.planner_by method (length ws.old)) p c from to) method p c from to ws.old result
+fn advance_open(p: Problem, way: Way, c: Cursor, from: Quat, to: Quat, ws: &mut [f64]) -> Advanced
+    ensures { Turns.Turned (Mosaics.opened (Ways.planner_by way (length ws.old)) p c from to) way p c from to ws.old result
         ws.new }
 {
     if is_full(c) {
@@ -160,19 +149,12 @@ fn advance_open(
             planned: refused(23, 0, 0),
         };
     }
-    advance(p, method, c, from, to, ws)
+    advance(p, way, c, from, to, ws)
 }
 
-// One turn: plans the leg from one attitude to another by a method. After a refusal the cursor stays as it is, and nothing is planned.
-pub fn next(
-    p: Problem,
-    method: PlanMethod,
-    c: Cursor,
-    from: Quat,
-    to: Quat,
-    ws: &mut [f64],
-) -> Advanced
-    ensures { Turns.Advances method p c from to ws.old result ws.new }
+// One turn: plans the leg from one attitude to another by a way. After a refusal the cursor stays as it is, and nothing is planned.
+pub fn next(p: Problem, way: Way, c: Cursor, from: Quat, to: Quat, ws: &mut [f64]) -> Advanced
+    ensures { Turns.Advances way p c from to ws.old result ws.new }
 {
     let fate = c.fate;
     match fate {
@@ -180,6 +162,6 @@ pub fn next(
             cursor: c,
             planned: refused(number, place, 0),
         },
-        Fate::Going => advance_open(p, method, c, from, to, ws),
+        Fate::Going => advance_open(p, way, c, from, to, ws),
     }
 }

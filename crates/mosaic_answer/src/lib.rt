@@ -1,13 +1,14 @@
 // What is printed of a mosaic's text: a heading and a path for each leg as program `slew` prints one, or the leg's refusal in the path's place; then the sums
 // of the legs that stand. It is written leg by leg into lent buffers.
-ghost use Rattle.std.specs.Prelude.{◌≡◌};
+ghost use Rattle.std.specs.Prelude.{◌≡◌, length};
+ghost use Rattle.mosaic.specs.Ways as Ways;
 ghost use Rattle.mosaic_answer.specs.MosaicAnswers as MosaicAnswers;
 ghost use Rattle.mosaic_answer.specs.MosaicAnswers.{Writes};
 
 use common::Fate;
+use mosaic::ways::Way;
 use mosaic::{Cursor, check_count, next};
 use mosaic_text::{ReadMosaic, read_mosaic};
-use plan_method::PlanMethod;
 use plan_text::tell;
 use refusal_text::explain_plan;
 
@@ -50,17 +51,17 @@ pub fn read_counted(text: &[u8]) -> ReadMosaic
     }
 }
 
-// Plans the next leg by a method, and writes it.
+// Plans the next leg by a way, and writes it.
 pub fn write_leg(
     m: ReadMosaic,
-    method: PlanMethod,
+    way: Way,
     c: Cursor,
     ws: &mut [f64],
     heading: &mut [u8],
     out: &mut [u8],
     said: &mut [u8],
 ) -> Leg
-    ensures { Writes method m c
+    ensures { Writes (Ways.planner_by way (length ws.old)) m c
         ws.old heading.old out.old said.old
         result ws.new heading.new out.new said.new }
 {
@@ -69,7 +70,7 @@ pub fn write_leg(
     let from = tile_at(tiles, k);
     let to = tile_after(tiles, k);
     let p = m.problem;
-    let advanced = next(p, method, c, from, to, ws);
+    let advanced = next(p, way, c, from, to, ws);
     let headed = write_heading(heading, k);
     let planned = advanced.planned;
     let told = tell(planned, out);

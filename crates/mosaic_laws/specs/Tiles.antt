@@ -23,15 +23,6 @@ count_least count e = by (ltb count 2) refl e
     by true f g = absurd (refused_going g)
     by false f g = ltb-false _ _ f
 
--- and at most 64
-pub count_most : (count : ℕ) → count_fate count ≡ Going → count ≤ 64
-count_most count e = by (ltb count 2) (ltb 64 count) refl e
-  where
-    by : (x y : Bool) → ltb 64 count ≡ y → cond x (Refused 23 0) (cond y (Refused 23 0) Going) ≡ Going → count ≤ 64
-    by true y h g = absurd (refused_going g)
-    by false true h g = absurd (refused_going g)
-    by false false h g = ltb-false _ _ h
-
 module _ (plan : Planner) (p : Problem) where
   -- ---- the count, before all else
   pub too_few : (tile : ℕ → Quat) (m : Momenta) (count : ℕ) → count < 2 → whole plan p tile m count ≡ nothing m 23 0

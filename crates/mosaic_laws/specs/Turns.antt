@@ -11,11 +11,10 @@ use Rattle.problem.specs.declared.Momenta.{Momenta}
 use Rattle.problem.specs.declared.Problem.{Problem}
 use Rattle.planner.specs.declared.Planned.{Planned}
 use Rattle.mosaic.specs.Mosaics.{Planner, Flight, most_runs, full_runs_value, leg_problem, moved, is_full, opened, planned_by, planned, next_by, next, leg_from, flown}
-use Rattle.plan_method.specs.MethodLaws.{runs_most}
-use Rattle.plan_method.specs.Methods.{planner_by}
-use Rattle.mosaic.specs.Turns.{Open}
+use Rattle.mosaic.specs.WayLaws.{runs_most}
+use Rattle.mosaic.specs.Ways.{planner_by}
 use Rattle.mosaic.specs.declared.Cursor.{Cursor}
-use Rattle.plan_method.specs.declared.PlanMethod.{PlanMethod}
+use Rattle.mosaic.specs.declared.ways.Way.{Way}
 use Rattle.mosaic_laws.specs.Legs.{runs_onto, legal, going_index, flown_next, stays, index_le}
 
 -- ---- a cursor that goes on and is not full plans the leg
@@ -44,28 +43,14 @@ module _ (plan : Planner) (p : Problem) (tile : ℕ → Quat) (m : Momenta) (n :
   abbrev flight : Flight
   flight = flown plan p tile m n
 
-  -- a cursor that goes on has room for the leg
-  room : flight.cursor.fate ≡ Going → ((i : ℕ) (leg : Planned) → get_elem? flight.legs i ≡ some leg → leg.runs ≤ most_runs) → Open flight.cursor
-  room e few =
-      let i : flight.cursor.index ≡ n = going_index plan p tile m n e in
-      let r : flight.cursor.runs ≤ length flight.legs * most_runs = rw (legal plan p tile m n).runs (omega (arith, runs_bound flight.legs 0 few)) in
-      let s : flight.cursor.runs ≤ full_runs_value = omega (arith, (legal plan p tile m n).count) in
-      record { index = omega arith; runs = s }
-
-  -- which is the planner's
-  pub planned_next : flight.cursor.fate ≡ Going → ((i : ℕ) (leg : Planned) → get_elem? flight.legs i ≡ some leg → leg.runs ≤ most_runs)
-      → planned plan p flight.cursor (tile flight.cursor.index) (tile (flight.cursor.index + 1)) ≡ leg_from plan p tile n flight.cursor.momenta
-  planned_next e few =
-      let o = room e few in
-      planned_open plan p flight.cursor (tile flight.cursor.index) (tile (flight.cursor.index + 1)) e o.index o.runs
-      ∙ ap (λ (k : ℕ). leg_from plan p tile k flight.cursor.momenta) (going_index plan p tile m n e)
-
   going : flight.cursor.fate ≡ Going → ((i : ℕ) (leg : Planned) → get_elem? flight.legs i ≡ some leg → leg.runs ≤ most_runs)
       → next plan p flight.cursor (tile flight.cursor.index) (tile (flight.cursor.index + 1)) ≡ (flown plan p tile m (n + 1)).cursor
   going e few =
-      let o = room e few in
-      next_open plan p flight.cursor (tile flight.cursor.index) (tile (flight.cursor.index + 1)) e o.index o.runs
-      ∙ ap (λ (k : ℕ). moved flight.cursor (leg_from plan p tile k flight.cursor.momenta)) (going_index plan p tile m n e)
+      let i : flight.cursor.index ≡ n = going_index plan p tile m n e in
+      let r : flight.cursor.runs ≤ length flight.legs * most_runs = rw (legal plan p tile m n).runs (omega (arith, runs_bound flight.legs 0 few)) in
+      let s : flight.cursor.runs ≤ full_runs_value = omega (arith, (legal plan p tile m n).count) in
+      next_open plan p flight.cursor (tile flight.cursor.index) (tile (flight.cursor.index + 1)) e (omega arith) s
+      ∙ ap (λ (k : ℕ). moved flight.cursor (leg_from plan p tile k flight.cursor.momenta)) i
       ∙ sym (ap (λ (f : Flight). f.cursor) (flown_next plan p tile m n e))
 
   by : (f : Fate) → flight.cursor.fate ≡ f → ((i : ℕ) (leg : Planned) → get_elem? flight.legs i ≡ some leg → leg.runs ≤ most_runs)
@@ -79,16 +64,8 @@ module _ (plan : Planner) (p : Problem) (tile : ℕ → Quat) (m : Momenta) (n :
       → next plan p flight.cursor (tile flight.cursor.index) (tile (flight.cursor.index + 1)) ≡ (flown plan p tile m (n + 1)).cursor
   one_by_one few = by flight.cursor.fate refl few
 
--- so it is by either method of ours, with no premise: each leg has few runs
-few_runs : (method : PlanMethod) (size : ℕ) (p : Problem) (tile : ℕ → Quat) (m : Momenta) (n : ℕ) (i : ℕ) (leg : Planned) → get_elem? (flown (planner_by method size) p tile m n).legs i ≡ some leg → leg.runs ≤ most_runs
-few_runs method size p tile m n i leg e = rw ((legal (planner_by method size) p tile m n).leg i leg e).is (runs_most method size _)
-
-pub planned_next_by : (method : PlanMethod) (size : ℕ) (p : Problem) (tile : ℕ → Quat) (m : Momenta) (n : ℕ) → n ≤ 62 → (flown (planner_by method size) p tile m n).cursor.fate ≡ Going
-    → planned (planner_by method size) p (flown (planner_by method size) p tile m n).cursor (tile (flown (planner_by method size) p tile m n).cursor.index) (tile ((flown (planner_by method size) p tile m n).cursor.index + 1))
-    ≡ leg_from (planner_by method size) p tile n (flown (planner_by method size) p tile m n).cursor.momenta
-planned_next_by method size p tile m n most e = planned_next (planner_by method size) p tile m n most e (few_runs method size p tile m n)
-
-pub one_by_one_by : (method : PlanMethod) (size : ℕ) (p : Problem) (tile : ℕ → Quat) (m : Momenta) (n : ℕ) → n ≤ 62
-    → next (planner_by method size) p (flown (planner_by method size) p tile m n).cursor (tile (flown (planner_by method size) p tile m n).cursor.index) (tile ((flown (planner_by method size) p tile m n).cursor.index + 1))
-    ≡ (flown (planner_by method size) p tile m (n + 1)).cursor
-one_by_one_by method size p tile m n most = one_by_one (planner_by method size) p tile m n most (few_runs method size p tile m n)
+-- so it is by either way of ours, with no premise
+pub one_by_one_by : (way : Way) (size : ℕ) (p : Problem) (tile : ℕ → Quat) (m : Momenta) (n : ℕ) → n ≤ 62
+    → next (planner_by way size) p (flown (planner_by way size) p tile m n).cursor (tile (flown (planner_by way size) p tile m n).cursor.index) (tile ((flown (planner_by way size) p tile m n).cursor.index + 1))
+    ≡ (flown (planner_by way size) p tile m (n + 1)).cursor
+one_by_one_by way size p tile m n most = one_by_one (planner_by way size) p tile m n most (λ i leg e. rw ((legal (planner_by way size) p tile m n).leg i leg e).is (runs_most way size _))

@@ -1,5 +1,5 @@
 // Sums of products of columns over the residual rows in order: eight cells of the normal matrix at a time.
-ghost use Rattle.std.specs.Prelude.{◌≡◌, ◌+◌, ◌*◌, ◌≤◌, ◌<◌, length, set};
+ghost use Rattle.std.specs.Prelude.{◌≡◌, ◌+◌, ◌*◌, ◌≤◌, ◌<◌, length};
 ghost use Rattle.common.specs.Lists.{at};
 ghost use Rattle.normal_equations.specs.FilledInner.{Filled};
 ghost use Rattle.normal_equations.specs.Inner as Inner;
@@ -80,17 +80,6 @@ fn dot8(o: &[f64], p: &[f64], q: &[f64], t: &[f64], u: &[f64], v: &[f64]) -> Eig
     }
 }
 
-// Four numbers from cell d on.
-fn put_four(d: usize, a: f64, b: f64, c: f64, e: f64, row: &mut [f64])
-    requires { d + 4 ≤ length row.old }
-    ensures { row.new ≡ set (set (set (set row.old d a) (d + 1) b) (d + 2) c) (d + 3) e }
-{
-    row[d] = a;
-    row[d + 1] = b;
-    row[d + 2] = c;
-    row[d + 3] = e;
-}
-
 // Cells d to d + 3 of the rows of columns o and p.
 fn eight_at(o: &[f64], p: &[f64], j: &[f64], d: usize, row: &mut [f64], next: &mut [f64])
     requires { (d + 4 ≤ length row.old)
@@ -107,8 +96,14 @@ fn eight_at(o: &[f64], p: &[f64], j: &[f64], d: usize, row: &mut [f64], next: &m
     let v = u + m;
     let e = v + m;
     let s = dot8(o, p, &j[q..t], &j[t..u], &j[u..v], &j[v..e]);
-    put_four(d, s.a, s.b, s.c, s.d, row);
-    put_four(d, s.e, s.f, s.g, s.h, next);
+    row[d] = s.a;
+    row[d + 1] = s.b;
+    row[d + 2] = s.c;
+    row[d + 3] = s.d;
+    next[d] = s.e;
+    next[d + 1] = s.f;
+    next[d + 2] = s.g;
+    next[d + 3] = s.h;
 }
 
 // Cells from `from` on by fours, of both rows: the place after the last.

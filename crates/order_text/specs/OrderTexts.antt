@@ -9,7 +9,6 @@ use Rattle.text_writer.specs.Texts.{times, digits, counted}
 use Rattle.tile_order.specs.declared.Found.{Found}
 use Rattle.tile_order.specs.declared.Ordered.{Ordered}
 use Rattle.tile_order.specs.Answers as Answers
-use Rattle.tile_order.specs.Promises.{Promised}
 use Rattle.order_text.specs.declared.reading.ReadTiles.{ReadTiles}
 use Rattle.order_text.specs.declared.Told.{Told}
 use Rattle.order_text.specs.TileTexts.{read_tiles}
@@ -90,13 +89,8 @@ pub record Prints (n : ℕ) (a : Ordered) (out : List ℕ) (r : Told) (out' : Li
   pub is : r ≡ wholly n a
   pub puts : Puts out 0 (printed n a) 400 out' r.bytes
 
--- what is promised of the order that a text gets: the promises of `order`, for the tiles, the times and the budget that the text has
-abbrev pub TextPromised : List ℕ → Type 0
-TextPromised text = let r = read_tiles text in Promised r.tiles (cells r) r.budget (answer r).found
-
--- the answer to a text is told; the bytes written lie within the buffer; where an order is told, every promise holds of it
+-- the answer to a text is told; the bytes written lie within the buffer
 pub record Tells (text out : List ℕ) (r : Told) (out' : List ℕ) : Type 0 where
   pub is : r ≡ told text out
   pub bytes : out' ≡ written text out
   pub within : r.bytes ≤ length out'
-  pub promised : r.fate ≡ Going → TextPromised text

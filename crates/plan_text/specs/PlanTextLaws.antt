@@ -11,14 +11,13 @@ use Rattle.common.specs.Lists.{at, slice}
 use Rattle.common.specs.declared.Fate.TheVariants.{Going, Refused}
 use Rattle.problem.specs.declared.Problem.{Problem}
 use Rattle.planner.specs.Plans as Plans
-use Rattle.planner.specs.Promises.{Answers}
 use Rattle.planner.specs.declared.Planned.{Planned}
 use Rattle.problem_text.specs.Reader.{read_problem}
 use Rattle.problem_text.specs.declared.Read.{Read}
 use Rattle.text_writer.specs.Puts.{Puts}
 use Rattle.text_writer.specs.PutLaws.{puts_most, puts_whole}
 use Rattle.text_writer.specs.Texts as Texts
-use Rattle.plan_text.specs.PlanTexts.{of_read, of_text, from_seed, TextAnswers, path_text, printed, no_room, told, written, leaves, Prints, Tells}
+use Rattle.plan_text.specs.PlanTexts.{of_read, of_text, from_seed, path_text, printed, no_room, told, written, leaves, Prints, Tells}
 use Rattle.plan_text.specs.declared.Told.{Told}
 
 -- ---- reading
@@ -27,17 +26,6 @@ use Rattle.plan_text.specs.declared.Told.{Told}
 pub text_planned : (text : List ℕ) (plan : Problem → Planned) {read : Read} {a : Planned} → read ≡ read_problem text → a ≡ of_read read plan → a ≡ of_text text plan
 unfolding of_text
 text_planned text plan e h = h ∙ rw e
-
--- a refusal before any run promises nothing of a path
-pub refused_answers : (p : Problem) (seed : List Float) (n k : ℕ) → Answers p seed (Plans.refused n k 0)
-refused_answers p seed n k = record {
-  given = λ path e. let z : ◌≡◌ {A = ℕ} 0 1 = cc in absurd (omega arith);
-  refused = λ number place runs e. let x : n ≡ number = cc in let y : k ≡ place = cc in let z : 0 ≡ runs = cc in rw (x, y, ← z) refl;
-}
-
--- what is promised of the plan of what was read is promised of the text's
-pub text_promised : (text : List ℕ) (seed : Problem → List Float) {read : Read} {a b : Planned} → read ≡ read_problem text → a ≡ b → Answers read.problem (seed read.problem) a → TextAnswers text seed b
-text_promised text seed e g h = rw (e, g) at h
 
 -- ---- a caller's seed
 module _ (p : Problem) (seed : List Float) (size : ℕ) where

@@ -5,9 +5,7 @@ use Rattle.common.specs.Lists.{at, slice}
 use Rattle.common.specs.declared.Fate.{Fate}
 use Rattle.common.specs.declared.Fate.TheVariants.{Going, Refused}
 use Rattle.problem.specs.declared.Problem.{Problem}
-use Rattle.problem.specs.Problems.{check}
 use Rattle.planner.specs.Plans as Plans
-use Rattle.planner.specs.Promises.{Answers, own_seed}
 use Rattle.planner.specs.declared.Path.{Path}
 use Rattle.planner.specs.declared.Planned.{Planned}
 use Rattle.problem_text.specs.Reader.{read_problem}
@@ -43,23 +41,6 @@ from_seed p seed size =
 
 abbrev pub planned_from : List ℕ → List Float → ℕ → Planned
 planned_from text seed size = of_text text (λ p. from_seed p seed size)
-
--- ---- demand 3 of it: of a path every promise of the planner's entry, of a refusal that it stands alone
-
--- the seed's decision that our own entry makes for a problem
-abbrev pub seed_own : Problem → List Float
-seed_own p = own_seed (check p).problem
-
--- and the one that a caller's numbers make
-abbrev pub seed_from : List Float → Problem → List Float
-seed_from seed p =
-    cond (eqb (length seed) 103)
-    (Plans.seed_of (check p).problem (at seed 0) (slice 52 103 seed))
-    (Plans.seed_of (check p).problem plus_zero [])
-
--- of the plan a of the problem that a text has
-abbrev pub TextAnswers : List ℕ → (Problem → List Float) → Planned → Type 0
-TextAnswers text seed a = Answers (read_problem text).problem (seed (read_problem text).problem) a
 
 -- ---- what is printed of it
 
@@ -106,8 +87,3 @@ pub record Tells (plan : ℕ → Planned) (ws : List Float) (out : List ℕ) (r 
   pub left : ws' ≡ leaves (plan (length ws)) out ws
   pub bytes : out' ≡ written (plan (length ws)) out
   pub within : r.bytes ≤ length out'
-
--- and what is promised of it, where the buffer is long enough
-pub record Promises (Promise : Planned → Type 0) (plan : ℕ → Planned) (ws : List Float) (out : List ℕ) (r : Told) (ws' : List Float) (out' : List ℕ) : Type 0 where
-  pub tells : Tells plan ws out r ws' out'
-  pub promised : 16384 ≤ length out → Promise (plan (length ws))

@@ -3,8 +3,7 @@ ghost use Rattle.std.specs.Prelude.{◌≡◌, ◌≤◌, length};
 ghost use Rattle.planner.specs.Plans as Plans;
 ghost use Rattle.text_writer.specs.Puts.{Puts};
 ghost use Rattle.plan_text.specs.PlanTexts as PlanTexts;
-ghost use Rattle.plan_text.specs.PlanTexts.{Prints, Promises, planned, planned_from, seed_own, seed_from, TextAnswers};
-ghost use Rattle.planner.specs.Promises.{Answers};
+ghost use Rattle.plan_text.specs.PlanTexts.{Prints, Tells, planned, planned_from};
 
 use common::Fate;
 use planner::{Path, Planned, plan, plan_from, refused};
@@ -81,9 +80,8 @@ pub fn no_room() -> Told
 
 // The plan of what was read, from our own seed. A text that is refused is refused before any run.
 pub fn plan_read(read: Read, ws: &mut [f64]) -> Planned
-    ensures { (result ≡ PlanTexts.of_read read (λ p. Plans.plan p (length ws.old)))
-        × (ws.new ≡ Plans.leaves result.runs ws.old)
-        × Answers read.problem (seed_own read.problem) result }
+    ensures value { result ≡ PlanTexts.of_read read (λ p. Plans.plan p (length ws.old)) }
+    ensures ws_after { ws.new ≡ Plans.leaves result.runs ws.old }
 {
     let fate = read.fate;
     match fate {
@@ -97,7 +95,7 @@ pub fn plan_read(read: Read, ws: &mut [f64]) -> Planned
 
 // The plan of a text from our own seed: what `slew` prints.
 pub fn plan_text(text: &[u8], ws: &mut [f64], out: &mut [u8]) -> Told
-    ensures { Promises (TextAnswers text.now seed_own) (planned text.now) ws.old out.old result ws.new out.new }
+    ensures { Tells (planned text.now) ws.old out.old result ws.new out.new }
 {
     if out.len() < 16384 {
         return no_room();
@@ -108,9 +106,7 @@ pub fn plan_text(text: &[u8], ws: &mut [f64], out: &mut [u8]) -> Told
 
 // The plan of a problem from a caller's seed: a duration, 17 rates and 17 torques, 103 numbers. Another count is handed on as a seed of no nodes.
 pub fn plan_seeded(p: Problem, seed: &[f64], ws: &mut [f64]) -> Planned
-    ensures { (result ≡ PlanTexts.from_seed p seed.now (length ws.old))
-        × (ws.new ≡ Plans.leaves result.runs ws.old)
-        × Answers p (seed_from seed.now p) result }
+    ensures { (result ≡ PlanTexts.from_seed p seed.now (length ws.old)) × (ws.new ≡ Plans.leaves result.runs ws.old) }
 {
     if seed.len() != 103 {
         return plan_from(p, 0.0, &seed[..0], &seed[..0], ws);
@@ -120,9 +116,8 @@ pub fn plan_seeded(p: Problem, seed: &[f64], ws: &mut [f64]) -> Planned
 
 // The plan of what was read, from a caller's seed.
 fn plan_read_from(read: Read, seed: &[f64], ws: &mut [f64]) -> Planned
-    ensures { (result ≡ PlanTexts.of_read read (λ p. PlanTexts.from_seed p seed.now (length ws.old)))
-        × (ws.new ≡ Plans.leaves result.runs ws.old)
-        × Answers read.problem (seed_from seed.now read.problem) result }
+    ensures value { result ≡ PlanTexts.of_read read (λ p. PlanTexts.from_seed p seed.now (length ws.old)) }
+    ensures ws_after { ws.new ≡ Plans.leaves result.runs ws.old }
 {
     let fate = read.fate;
     match fate {
@@ -136,7 +131,7 @@ fn plan_read_from(read: Read, seed: &[f64], ws: &mut [f64]) -> Planned
 
 // The plan of a text from a caller's seed.
 pub fn plan_text_from(text: &[u8], seed: &[f64], ws: &mut [f64], out: &mut [u8]) -> Told
-    ensures { Promises (TextAnswers text.now (seed_from seed.now)) (planned_from text.now seed.now) ws.old out.old result ws.new out.new }
+    ensures { Tells (planned_from text.now seed.now) ws.old out.old result ws.new out.new }
 {
     if out.len() < 16384 {
         return no_room();

@@ -28,7 +28,7 @@ use Rattle.actuators.specs.declared.Actuators.{Actuators}
 use Rattle.actuators.specs.contracts.Actuators as ActuatorsOf
 use Rattle.problem.specs.declared.Problem.{Problem}
 use Rattle.problem.specs.contracts.Problem as ProblemOf
-use Rattle.forward.specs.Values.{FitsQ}
+use Rattle.run_laws.specs.Values.{FitsQ}
 use Rattle.run_laws.specs.Prepared.{RateFits}
 use Rattle.run_laws.specs.Checked.{SlewFits, FitsP}
 use Rattle.search_laws.specs.Fits.{Fit}

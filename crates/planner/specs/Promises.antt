@@ -7,13 +7,12 @@ use Rattle.common.specs.Answer.{Answer, Given, Refused}
 use Rattle.common.specs.Lists.{at}
 use Rattle.common.specs.declared.Fate.TheVariants.{Going}
 use Rattle.float.specs.Ops.{abs}
-use Rattle.float.specs.Exact.{exact}
-use Rattle.float.specs.Exact.{next_above_nano}
+use Rattle.float_laws.specs.Exact.{exact}
+use Rattle.float_laws.specs.Limits.{next_above_nano}
 use Rattle.geom.specs.Quats.{norm3, normalized}
 use Rattle.geom.specs.declared.Quat.{Quat}
 use Rattle.geom.specs.declared.Normal.TheVariants as Normal
 use Rattle.geom.specs.declared.Rotation.TheVariants as Rotation
-use Rattle.actuators.specs.Maps.{control_dim}
 use Rattle.control_rows.specs.Parts.{body_momentum}
 use Rattle.held_counts.specs.Counts.{count_at_value}
 use Rattle.profile.specs.Seeds.{sample_seed}
@@ -27,17 +26,14 @@ use Rattle.forward.specs.Runs.{node_at}
 use Rattle.residuals.specs.Sums.{norm_slice}
 use Rattle.residuals.specs.Residuals.{error_of}
 use Rattle.residuals.specs.MeasuredResiduals.{residuals}
-use Rattle.seeds.specs.Seeds.{allocated}
-use Rattle.scvx.specs.Search as Search
 use Rattle.scvx.specs.Search.{search}
 use Rattle.scvx.specs.declared.Candidate.{Candidate}
 use Rattle.end_checks.specs.Ends.{tolerance}
-use Rattle.forward.specs.Values.{Fine3, FineN}
-use Rattle.held_counts.specs.Counts.{control}
-use Rattle.scvx.specs.Better.{Better}
-use Rattle.search_laws.specs.Changed.{rows_changed}
-use Rattle.scvx.specs.Made.{LastTaken, state_at}
-use Rattle.forward.specs.DeclaredLimits.{controls_of, control_limit, momentum_limit}
+use Rattle.run_laws.specs.Values.{Fine3, FineN}
+use Rattle.run_laws.specs.Paths.{control}
+use Rattle.search_laws.specs.Better.{Better}
+use Rattle.search_laws.specs.Made.{LastTaken}
+use Rattle.search_laws.specs.Declared.{controls_of, control_limit, momentum_limit}
 use Rattle.planner.specs.Plans as Plans
 use Rattle.planner.specs.declared.Path.{Path}
 use Rattle.planner.specs.declared.Planned.{Planned}
@@ -76,35 +72,12 @@ pub record FiniteNode (n : Node) : Type 0 where
   pub tau : Fine3 n.tau
   pub hw : FineN 8 n.hw
 
--- The counts `held` are those of the projection that makes z from `before`: at each of the c places of a row, the number of rows whose control there it changes,
--- bit for bit.
-abbrev pub CountsChanged : ℕ → List Float → List Float → List ℕ → Type 0
-CountsChanged c before z held = (i : ℕ) → i < c → count_at_value held i ≡ rows_changed c before z i
-
--- The search stayed at the seed's decision: the seed's rows, allocated and then projected. The counts are those of that projection.
-pub record SeedHeld (c : CheckedProblem) (seed : List Float) (path : Path) : Type 0 where
-  pub duration : Float
-  pub torques : List Float
-  pub seed_is : seed ≡ Plans.seed_of c duration torques
-  pub z_is : path.z ≡ seed
-  pub untried : (search c seed).tried ≡ false
-  pub held_are : path.held ≡ Plans.seed_held_of c duration torques
-  pub rows : CountsChanged (control_dim c.map) (allocated c.map duration torques) path.z path.held
-
--- The decision is the last trial that the search took: from the decision at which it stood, moved by the step that solves the normal equations there, then
--- projected. The counts are those of that projection.
-pub record TrialHeld (c : CheckedProblem) (seed : List Float) (path : Path) : Type 0 where
-  pub trial : Candidate
-  pub last : LastTaken c seed 40 trial
-  pub z_is : path.z ≡ trial.z
-  pub held_are : path.held ≡ trial.held
-  pub rows : CountsChanged (control_dim c.map) (Search.applied c (state_at c seed last.k).candidate.z last.d) path.z path.held
-
--- How many controls were held in the projection that made the path's decision. (Where the search stays at its seed, `PromisesKept.plan_held` and
--- `plan_from_held` say that the counts are those of the entry's own duration and torques.)
+-- How many controls were held in the projection that made the path's decision. The search stayed at the seed's decision, whose counts are those of its allocated
+-- rows (`PromisesKept.plan_held`); or the decision is the last trial that the search took, from the decision at which it stood and by the step that solves the
+-- normal equations there, and the counts are those of that decision moved by that step, before it was projected (`Search.trial_held`).
 pub data HeldBy (c : CheckedProblem) (seed : List Float) (path : Path) : Type 0 where
-  as_seed : SeedHeld c seed path → HeldBy c seed path
-  as_trial : TrialHeld c seed path → HeldBy c seed path
+  as_seed : path.z ≡ seed → (search c seed).tried ≡ false → HeldBy c seed path
+  as_trial : (t : Candidate) → LastTaken c seed 40 t → path.z ≡ t.z → path.held ≡ t.held → HeldBy c seed path
 
 -- our own seed's counts: of its allocated rows
 abbrev pub own_held : CheckedProblem → List ℕ
@@ -140,8 +113,7 @@ pub record Promised (p : Problem) (seed : List Float) (path : Path) (reported : 
   -- the forward runs reported are the number that the search definition begins on that problem and seed
   pub runs : reported ≡ (search (check p).problem seed).runs
   pub bound : reported ≤ 40 * (16 * controls_of p.actuators + 3) + 2
-  -- how many of the 16 controls at each place of a row were held in the projection that made the decision, which is how many it changed: at most 16, and 0 past
-  -- the controls
+  -- how many of the 16 controls at each place of a row were held in the projection that made the decision: at most 16, and 0 past the controls
   pub held : HeldBy (check p).problem seed path
   pub held_most : (i : ℕ) → i < 12 → count_at_value path.held i ≤ 16
   pub held_past : (i : ℕ) → controls_of p.actuators ≤ i → i < 12 → count_at_value path.held i ≡ 0

@@ -40,16 +40,15 @@ use Rattle.residuals.specs.declared.Measured.{Measured}
 use Rattle.scvx.specs.Search as Search
 use Rattle.scvx.specs.Search.{search, room}
 use Rattle.end_checks.specs.Ends.{end_fate}
-use Rattle.forward.specs.Values.{goes, FineN}
+use Rattle.run_laws.specs.Values.{goes, FineN}
 use Rattle.run_laws.specs.Checked.{FitsP, Ready, check_ready}
-use Rattle.held_counts.specs.Counts.{control}
-use Rattle.run_laws.specs.Paths.{rerun}
+use Rattle.run_laws.specs.Paths.{control, rerun}
 use Rattle.run_laws.specs.Residuals.{residuals_count}
 use Rattle.run_laws.specs.Runs.{Spare}
 use Rattle.search_laws.specs.Answers.{limit_in, Answered, answered}
 use Rattle.search_laws.specs.BetterLaws.{better_as}
 use Rattle.search_laws.specs.Counts.{runs_most}
-use Rattle.forward.specs.DeclaredLimits.{controls_of}
+use Rattle.search_laws.specs.Declared.{controls_of}
 use Rattle.search_laws.specs.DeclaredLaws.{Same, check_same, controls_same, limit_same}
 use Rattle.search_laws.specs.Fits.{Fit}
 use Rattle.search_laws.specs.OwnSeed.{duration_fits, torques_fit}
@@ -160,7 +159,7 @@ module _ (p : Problem) (F : FitsP p) (passed : (check p).fate ≡ Going) (serves
         seed_measured = measured_goes seed A.seed_measured;
         runs = refl;
         bound = rw (← row) (runs_most c seed);
-        held = path_held c ready narrow duration torques G t;
+        held = path_held c seed counts t;
         held_most = counts_most c narrow seed duration torques t;
         held_past = λ i h k. counts_past c narrow seed duration torques t i (rw row h) k;
         past = λ i h k. let n : packed_len (control_dim c.map) ≤ i = rw row h in A.sound.tail.past i n ∙ seed_past c.map narrow duration torques ready.map c.torque_limit ready.limits i n k;

@@ -13,7 +13,7 @@ use Rattle.actuators.specs.declared.Thruster.{Thruster}
 use Rattle.actuators.specs.declared.Cmgs.{Cmgs}
 use Rattle.actuators.specs.declared.Cmgs.TheVariants.{Without, With}
 use Rattle.actuators.specs.declared.Actuators.{Actuators}
-use Rattle.actuators.specs.declared.Prepared.{Prepared}
+use Rattle.actuators.specs.declared.ActuatorMap.{ActuatorMap}
 use Rattle.problem.specs.declared.Momenta.{Momenta}
 use Rattle.problem.specs.declared.Problem.{Problem}
 use Rattle.problem.specs.declared.Weights.{Weights}
@@ -69,9 +69,9 @@ actuators c v = record {
   cmgs = cmgs_of (eqb (count c 2) 1) (at v 96) (at v 97) (at v 98) (at v 99);
 }
 
--- what `prepare` makes of them: a map, or its refusal and a blank one
-abbrev pub prepared : List ℕ → List Float → Prepared
-prepared c v = Prepare.prepare (actuators c v)
+-- the map that `prepare` makes of them, blank where it refuses
+abbrev pub map : List ℕ → List Float → ActuatorMap
+map c v = (Prepare.prepare (actuators c v)).map
 
 -- the six weights
 abbrev pub weights : List Float → Weights

@@ -7,7 +7,7 @@
 ghost use Rattle.std.specs.Prelude.{◌≡◌, ◌<◌};
 ghost use Rattle.problem_numbers.specs.Declared as Declared;
 
-use actuators::{Actuators, CmgPyramid, Cmgs, Prepared, Thruster, Wheel};
+use actuators::{ActuatorMap, Actuators, CmgPyramid, Cmgs, Thruster, Wheel};
 use export_leaves::pack::limit_of;
 use geom::Quat;
 use problem::{Momenta, Problem, Weights};
@@ -123,11 +123,13 @@ pub fn actuators_of(c: &[usize; 11], v: &[f64; 100]) -> Actuators
     }
 }
 
-// What `prepare` makes of them: a map, or its refusal and a blank one.
-pub fn prepared_of(c: &[usize; 11], v: &[f64; 100]) -> Prepared
-    ensures { result ≡ Declared.prepared c.now v.now }
+// The map that `prepare` makes of them, blank where it refuses.
+pub fn map_of(c: &[usize; 11], v: &[f64; 100]) -> ActuatorMap
+    ensures { result ≡ Declared.map c.now v.now }
 {
-    actuators::prepare(actuators_of(c, v))
+    let prepared = actuators::prepare(actuators_of(c, v));
+    let map = prepared.map;
+    map
 }
 
 // The six weights of a body's numbers.

@@ -19,7 +19,7 @@ use Rattle.text.specs.Bytes.{bytes}
 use Rattle.text.specs.Forms.{loose}
 use Rattle.text.specs.Lines.{is_at, LineForm}
 use Rattle.problem_text.specs.Listing.{pick_actuators, pick_listing, with_wheel, with_thruster, with_pyramid, with_item, wrong_line, end_at, close_at, next_line, first_line, turn, list_at_value, item_at}
-use Rattle.problem_text.specs.Reader.{attitude_forms, body_forms, plan_forms, nothing, next_line as lineNext, lines_from, lines_at}
+use Rattle.problem_text.specs.Reader.{head_forms, nothing, next_line as lineNext, lines_from, lines_at}
 
 -- ---- counts: a line adds at most one to each
 
@@ -103,13 +103,14 @@ module _ (s : List ℕ) (at : ℕ) (c₀ c : Listing) (k : ℕ) (f : c₀ ≡ fi
 
 -- ---- the lines before the list, one after another
 
--- three lines
-module _ (s : List ℕ) (line : ℕ) (c c₁ c₂ c₃ : Found) (f₁ f₂ f₃ : LineForm) where
-  pub three_lines : c₁ ≡ lineNext loose s line c f₁ → c₂ ≡ lineNext loose s (line + 1) c₁ f₂ → c₃ ≡ lineNext loose s (line + 1 + 1) c₂ f₃ → c₃ ≡ lines_from loose s line c (f₁ ∷ f₂ ∷ f₃ ∷ [])
+module _ (s : List ℕ) (line : ℕ) (c : Found) where
+  pub lines_more : (f : LineForm) (fs : List LineForm) (next r : Found) → next ≡ lineNext loose s line c f → r ≡ lines_from loose s (line + 1) next fs → r ≡ lines_from loose s line c (f ∷ fs)
   unfolding lines_from
-  three_lines e₁ e₂ e₃ = rw (← e₁, ← e₂) e₃
+  lines_more f fs next r e h = rw (← e) h
 
--- nine, by threes
-pub nine_lines : (s : List ℕ) (at : ℕ) (c c₁ c₂ c₃ : Found) → c ≡ nothing Going at → c₁ ≡ lines_from loose s 1 c attitude_forms → c₂ ≡ lines_from loose s 4 c₁ body_forms → c₃ ≡ lines_from loose s 7 c₂ plan_forms → c₃ ≡ lines_at loose s at
-unfolding lines_from
-nine_lines s at c c₁ c₂ c₃ e e₁ e₂ e₃ = rw (← e, ← e₁, ← e₂) e₃
+  pub lines_end : c ≡ lines_from loose s line c []
+  unfolding lines_from
+  lines_end = refl
+
+pub lines_begin : (s : List ℕ) (at : ℕ) (c r : Found) → c ≡ nothing Going at → r ≡ lines_from loose s 1 c head_forms → r ≡ lines_at loose s at
+lines_begin s at c r e h = rw (← e) h

@@ -1,5 +1,5 @@
 -- The problem of a text, or the first line, from 1, that is wrong or missing; over any form of words, and what the reader takes. Definitions only.
-use Rattle.std.specs.Prelude.{ℕ, ◌+◌, ◌-◌, Bool, true, false, List, [], ◌∷◌, ◌++◌, eqb, ltb, length, get_or, set, replicate, Float}
+use Rattle.std.specs.Prelude.{ℕ, ◌+◌, ◌-◌, Bool, true, false, List, [], ◌∷◌, eqb, ltb, length, get_or, set, replicate, Float}
 use Rattle.common.specs.Lists as Lists
 use Rattle.common.specs.Answer as Answer
 use Rattle.common.specs.declared.Fate.{Fate}
@@ -22,29 +22,18 @@ use Rattle.text.specs.Lines.{LineForm, form, line_at, wrong_row}
 use Rattle.problem_text.specs.Listing.{list_at_value}
 
 -- ---- the lines before the list of actuators, in their order
-abbrev pub attitude_forms : List LineForm
-attitude_forms =
+abbrev pub head_forms : List LineForm
+head_forms =
     form (bytes "(problem") (Floats 0) (bytes "\n")
     ∷ form (bytes " (q0") (Floats 4) (bytes ")\n")
     ∷ form (bytes " (qf") (Floats 4) (bytes ")\n")
-    ∷ []
-
-abbrev pub body_forms : List LineForm
-body_forms =
-    form (bytes " (inertia") (Floats 9) (bytes ")\n")
+    ∷ form (bytes " (inertia") (Floats 9) (bytes ")\n")
     ∷ form (bytes " (limit") (Floats 3) (bytes ")\n")
     ∷ form (bytes " (slew") (Limited 0) (bytes ")\n")
-    ∷ []
-
-abbrev pub plan_forms : List LineForm
-plan_forms =
-    form (bytes " (weights") (Floats 6) (bytes ")\n")
+    ∷ form (bytes " (weights") (Floats 6) (bytes ")\n")
     ∷ form (bytes " (tolerance") (Floats 2) (bytes ")\n")
     ∷ form (bytes " (momenta") Any (bytes ")\n")
     ∷ []
-
-abbrev pub head_forms : List LineForm
-head_forms = attitude_forms ++ (body_forms ++ plan_forms)
 
 -- ---- one line after another: each begins where the one before ends, and the first wrong one ends the reading
 

@@ -89,39 +89,20 @@ fn next_line(s: &[u8], c: Found, line: usize, head: &[u8], words: Words, tail: &
     }
 }
 
-// Lines 1 to 3.
-fn attitude_lines(s: &[u8], c: Found) -> Found
-    ensures { result ≡ Reader.lines_from loose s.now 1 c Reader.attitude_forms }
-{
-    let c = next_line(s, c, 1, b"(problem", Words::Floats(0), b"\n");
-    let c = next_line(s, c, 2, b" (q0", Words::Floats(4), b")\n");
-    next_line(s, c, 3, b" (qf", Words::Floats(4), b")\n")
-}
-
-// Lines 4 to 6.
-fn body_lines(s: &[u8], c: Found) -> Found
-    ensures { result ≡ Reader.lines_from loose s.now 4 c Reader.body_forms }
-{
-    let c = next_line(s, c, 4, b" (inertia", Words::Floats(9), b")\n");
-    let c = next_line(s, c, 5, b" (limit", Words::Floats(3), b")\n");
-    next_line(s, c, 6, b" (slew", Words::Limited(0), b")\n")
-}
-
-// Lines 7 to 9.
-fn plan_lines(s: &[u8], c: Found) -> Found
-    ensures { result ≡ Reader.lines_from loose s.now 7 c Reader.plan_forms }
-{
-    let c = next_line(s, c, 7, b" (weights", Words::Floats(6), b")\n");
-    let c = next_line(s, c, 8, b" (tolerance", Words::Floats(2), b")\n");
-    next_line(s, c, 9, b" (momenta", Words::Any, b")\n")
-}
-
 // The first nine lines from a position on.
 fn lines_at(s: &[u8], at: usize) -> Found
     ensures { result ≡ Reader.lines_at loose s.now at }
 {
     let c = nothing(Fate::Going, at);
-    plan_lines(s, body_lines(s, attitude_lines(s, c)))
+    let c = next_line(s, c, 1, b"(problem", Words::Floats(0), b"\n");
+    let c = next_line(s, c, 2, b" (q0", Words::Floats(4), b")\n");
+    let c = next_line(s, c, 3, b" (qf", Words::Floats(4), b")\n");
+    let c = next_line(s, c, 4, b" (inertia", Words::Floats(9), b")\n");
+    let c = next_line(s, c, 5, b" (limit", Words::Floats(3), b")\n");
+    let c = next_line(s, c, 6, b" (slew", Words::Limited(0), b")\n");
+    let c = next_line(s, c, 7, b" (weights", Words::Floats(6), b")\n");
+    let c = next_line(s, c, 8, b" (tolerance", Words::Floats(2), b")\n");
+    next_line(s, c, 9, b" (momenta", Words::Any, b")\n")
 }
 
 // The same, but a text of more than 4,096 bytes is refused at line 0.

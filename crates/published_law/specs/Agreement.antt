@@ -35,7 +35,7 @@ use Rattle.forward.specs.Runs.{Rollout, start_of, advance, rollout_by, rollout_t
 use Rattle.forward.specs.Reconstruct as Reconstruct
 use Rattle.forward.specs.Reconstruct.{admit, reconstruct_by, reconstruct_under}
 use Rattle.forward.specs.declared.BodyState.{BodyState}
-use Rattle.forward.specs.Values.{goes, Fine3}
+use Rattle.run_laws.specs.Values.{goes, Fine3}
 use Rattle.run_laws.specs.Attitudes.{exp_finite}
 use Rattle.run_laws.specs.Steps.{turn_back}
 use Rattle.published_law.specs.Published as Published

@@ -15,7 +15,7 @@ use Rattle.forward.specs.Reconstruct.{reconstruct_under}
 use Rattle.forward.specs.declared.BodyState.{BodyState}
 use Rattle.forward.specs.declared.Run.{Run}
 use Rattle.forward.specs.declared.Reconstructed.{Reconstructed}
-use Rattle.forward.specs.Values.{goes}
+use Rattle.run_laws.specs.Values.{goes}
 
 -- one forward run, and `reconstruct`, as the Rust has them
 abbrev pub run_of : CheckedProblem → List Float → Run

@@ -22,7 +22,7 @@ use Rattle.forward.specs.Reconstruct as Reconstruct
 use Rattle.forward.specs.Reconstruct.{admit, reconstruct_under}
 use Rattle.forward.specs.declared.BodyState.{BodyState}
 use Rattle.forward.specs.declared.Node.{Node}
-use Rattle.forward.specs.Values.{goes}
+use Rattle.run_laws.specs.Values.{goes}
 use Rattle.run_laws.specs.Steps.{Once, step_goes}
 use Rattle.published_law.specs.Published as Published
 use Rattle.published_law.specs.Published.{Still, rollout_at, Unladen}

@@ -1,5 +1,6 @@
--- What each refusal means, in words: a table of sentences, and which line of it is told. Definitions only.
-use Rattle.std.specs.Prelude.{ℕ, ◌+◌, ◌-◌, ◌*◌, Bool, false, cond, List, [], ◌∷◌, ◌++◌, eqb, leb, ltb, length, drop, get_or}
+-- What each refusal means, in words: a table of sentences, and which of them is told. Definitions only.
+use Rattle.std.specs.Prelude.{ℕ, ◌+◌, ◌-◌, ◌*◌, Bool, false, cond, ◌&&◌, ◌||◌, List, [], ◌∷◌, ◌++◌, eqb, leb, length, drop, get_or}
+use Rattle.common.specs.Iter.{iter}
 use Rattle.common.specs.declared.Fate.{Fate}
 use Rattle.common.specs.declared.Fate.TheVariants.{Going, Refused}
 use Rattle.text.specs.Bytes.{bytes}
@@ -7,7 +8,7 @@ use Rattle.text_writer.specs.Puts.{Puts}
 use Rattle.text_writer.specs.Texts.{digits}
 
 -- A line for each sentence. Before it stand four numbers of two digits: the refusal's; when it was met (00 whenever, 01 before any run, 02 in a run or after it, 03 in a dense sample); the
--- first place that the sentence is for; and what is taken from the place to be told where the sentence has `#`. The first three are for whoever reads the table: `line_for` chooses the line, as they say (`columns_agree`).
+-- first place that the sentence is for; and what is taken from the place to be told where the sentence has `#`. Where several lines are for a refusal, the last of them is told.
 unfoldable pub table : List ℕ
 table =
     bytes "00 00 00 00 No refusal has this number.\n"
@@ -30,10 +31,10 @@ table =
     ++ bytes "07 00 01 00 The slew is half a turn, whose axis the search does not choose: plan the slew about one axis (eigenaxis).\n"
     ++ bytes "07 00 02 00 The torque limits or the slew limit are too small or too large for a profile: look at their units.\n"
     ++ bytes "08 00 00 00 These actuators are not served: take none, three or more wheels, three or more thrusters, or one pyramid.\n"
-    ++ bytes "09 00 00 00 The workspace is too short for these controls: slew lends 8,000 numbers, for 4 controls a row or 3 with pointing. Declare fewer, plan about one axis (eigenaxis), or call the library and lend more.\n"
+    ++ bytes "09 00 00 00 The workspace is too short for these controls: the programs lend 8,000 numbers, for 4 controls a row or 3 with a pointing weight. Declare fewer, or call the library and lend more.\n"
     ++ bytes "10 00 00 00 The seed must have 17 nodes and a finite duration above 0: look at the seed, or at torque limits near 0.\n"
     ++ bytes "11 00 00 00 Step # of a run turns through an angle out of range: plan the slew about one axis (eigenaxis), or look at the units of the limits.\n"
-    ++ bytes "11 01 00 00 An angle is out of range: a sine or cosine takes numbers of at most 1,024 in size, an arc cosine numbers from 0 to 1.\n"
+    ++ bytes "11 01 00 00 The slew is half a turn but for rounding, and the tie tolerance lets it pass: plan the slew about one axis (eigenaxis).\n"
     ++ bytes "11 03 00 00 Sample # turns through an angle out of range: look at the nodes and the duration.\n"
     ++ bytes "12 00 00 00 Step # of a run meets a singular pyramid: plan the slew about one axis (eigenaxis).\n"
     ++ bytes "13 00 00 00 Step # of a run takes a wheel over its power: plan the slew about one axis (eigenaxis).\n"
@@ -54,71 +55,33 @@ table =
     ++ bytes "26 00 00 00 Wheel #: the momenta on record are not those that the preview began from, or it was refused: preview again.\n"
     ++ bytes "27 00 00 00 Outside the room: the angle goes from -64 to 64, the rate from -8 to 8; of a reply the choice from -2 to 2, the turns left from 1 to 64.\n"
     ++ bytes "28 00 00 00 The column has more than 4,096 numbers, the bytes are not 8 for each, or the output is too short.\n"
-    ++ bytes "29 00 00 00 Step # of the reference asks an actuator for more than its limit: take a longer duration, or look at the units.\n"
-    ++ bytes "30 00 00 00 Sample # of the reference: rounding spoils the momentum balance: look at the units of inertia and momenta.\n"
 
 -- ---- which line
+
+-- the number of the two digits at k
+abbrev pub number_at : List ℕ → ℕ → ℕ
+number_at t k = (get_or t k 0 - 48) * 10 + (get_or t (k + 1) 0 - 48)
+
+unfoldable pub begins : List ℕ → ℕ → Bool
+begins t k = eqb k 0 || eqb (get_or t (k - 1) 0) 10
 
 -- when a refusal was met, by the runs begun and whether it is a dense sample's
 unfoldable pub met : ℕ → Bool → ℕ
 met runs sampled = cond sampled 3 (cond (eqb runs 0) 1 2)
 
--- a place, or the last that has a line of its own
-abbrev pub at_most : ℕ → ℕ → ℕ
-at_most place last = cond (ltb place last) place last
+-- the line at k is for refusal n at a place
+unfoldable pub serves : List ℕ → ℕ → ℕ → ℕ → ℕ → Bool
+serves t n place when k = eqb (number_at t k) n && (leb (number_at t (k + 6)) place && (eqb (number_at t (k + 3)) 0 || eqb (number_at t (k + 3)) when))
 
--- refusals 2 and 3, by the actuator: wheels, thrusters, the pyramid
-unfoldable pub actuator : ℕ → ℕ
-actuator place = cond (leb place 7) 0 (cond (leb place 19) 1 2)
+-- the line at k, or the one that was found before it
+unfoldable pub later : List ℕ → ℕ → ℕ → ℕ → ℕ → ℕ → ℕ
+later t n place when k found = cond (begins t k && serves t n place when k) k found
 
--- refusal 5, by the attitude; a dense sample's is the last
-unfoldable pub attitude : ℕ → ℕ → ℕ
-attitude place when = cond (eqb when 3) 3 (at_most place 2)
-
--- refusal 11, by when it was met: in a run, before any, in a dense sample
-unfoldable pub angle : ℕ → ℕ
-angle when = cond (eqb when 1) 1 (cond (eqb when 3) 2 0)
-
--- what is wrong with the problem as it was given, refusals 1 to 10
-unfoldable pub argument : ℕ → ℕ → ℕ → ℕ
-argument n place when =
-    cond (eqb n 1) (1 + at_most place 1)
-    (cond (eqb n 2) (3 + actuator place)
-    (cond (eqb n 3) (6 + actuator place)
-    (cond (eqb n 4) 9
-    (cond (eqb n 5) (10 + attitude place when)
-    (cond (eqb n 6) (14 + at_most place 1)
-    (cond (eqb n 7) (16 + at_most place 2) (11 + n)))))))
-
--- what ended a forward run, refusals 11 to 13
-unfoldable pub run : ℕ → ℕ → ℕ
-run n when = cond (eqb n 11) (22 + angle when) (13 + n)
-
--- which line of the table is for refusal n at a place; the first is for whatever has no other
-unfoldable pub line_for : ℕ → ℕ → ℕ → ℕ
-line_for n place when =
-    cond (eqb n 0) 0
-    (cond (leb n 10) (argument n place when)
-    (cond (leb n 13) (run n when)
-    (cond (leb n 19) (13 + n)
-    (cond (eqb n 20) (33 + at_most place 1)
-    (cond (eqb n 21) (35 + at_most place 1)
-    (cond (leb n 30) (15 + n) 0))))))
-
--- how many line feeds are still to be passed after a byte
-unfoldable pub passed : ℕ → ℕ → ℕ
-passed left b = cond (eqb b 10) (left - 1) left
-
--- a text from the line on that has so many before it
-unfoldable pub line_of : ℕ → List ℕ → List ℕ
-line_of left [] = []
-line_of left (b ∷ t) = cond (eqb left 0) (b ∷ t) (line_of (passed left b) t)
+-- where the last line for it begins; the first line is for whatever has no other
+unfoldable pub line_for : List ℕ → ℕ → ℕ → ℕ → ℕ
+line_for t n place when = iter (later t n place when) 0 (length t)
 
 -- ---- its sentence
-
--- the number of the two digits at k
-abbrev pub number_at : List ℕ → ℕ → ℕ
-number_at t k = (get_or t k 0 - 48) * 10 + (get_or t (k + 1) 0 - 48)
 
 abbrev pub marked : ℕ → ℕ → List ℕ
 marked count b = cond (eqb b 35) (digits 20 count) (b ∷ [])
@@ -128,13 +91,12 @@ abbrev pub told : ℕ → List ℕ → List ℕ
 told count [] = []
 told count (b ∷ t) = cond (eqb b 10) (10 ∷ []) (marked count b ++ told count t)
 
--- of a line, with its four numbers before it
-abbrev pub sentence : ℕ → List ℕ → List ℕ
-sentence place l = told (place - number_at l 9) (drop 12 l)
+unfoldable pub sentence : List ℕ → ℕ → ℕ → List ℕ
+sentence t place k = told (place - number_at t (k + 9)) (drop (k + 12) t)
 
 -- the sentence of a table for refusal n at a place, met at a stage
-unfoldable pub sentence_for : List ℕ → ℕ → ℕ → ℕ → List ℕ
-sentence_for t n place when = sentence place (line_of (line_for n place when) t)
+abbrev pub sentence_for : List ℕ → ℕ → ℕ → ℕ → List ℕ
+sentence_for t n place when = sentence t place (line_for t n place when)
 
 -- a text is put at the start of a buffer
 abbrev pub Tells : List ℕ → List ℕ → List ℕ → ℕ → Type 0

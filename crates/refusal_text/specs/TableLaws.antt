@@ -1,12 +1,11 @@
 -- A line of a table told byte by byte, and how long its sentence can be. Assumes nothing.
-use Rattle.std.specs.Prelude.{ℕ, zero, suc, ◌+◌, ◌-◌, ◌/◌, ◌%◌, ◌≤◌, ◌<◌, ◌≡◌, refl, Bool, true, false, cond, ◌&&◌, List, [], ◌∷◌, ◌++◌, T, eqb, leb, ltb, length, drop, get_or}
+use Rattle.std.specs.Prelude.{ℕ, zero, suc, ◌+◌, ◌-◌, ◌/◌, ◌%◌, ◌≤◌, ◌<◌, ◌≡◌, Bool, true, false, cond, ◌&&◌, List, [], ◌∷◌, ◌++◌, T, eqb, leb, ltb, length, drop, get_or}
 use Rattle.std.proofs.Common.{le_refl, add-one, arith, ne_eqb, leb→le, length-append, drop_of_length-le, drop-cons}
 use Rattle.std.proofs.Math.Seq.{length-sets}
 use Rattle.text_writer.specs.Puts.{Puts}
 use Rattle.text_writer.specs.PutLaws.{puts_join, puts_none}
 use Rattle.text_writer.specs.Texts.{digits}
-use Rattle.refusal_text.specs.Sentences as Sentences
-use Rattle.refusal_text.specs.Sentences.{table, Tells, number_at, met, line_for, passed, line_of, marked, told, sentence_for, explain}
+use Rattle.refusal_text.specs.Sentences.{table, Tells, number_at, met, begins, serves, later, line_for, marked, told, sentence, explain}
 
 -- any bound on the text's length
 pub puts_short : {b b' t : List ℕ} {at i m n : ℕ} → length t ≤ n → Puts b at t m b' i → Puts b at t n b' i
@@ -14,29 +13,14 @@ puts_short l p = record { is = p.is; ends = p.ends; short = l }
 
 -- ---- which line
 
--- a byte that is passed on the way to a line
-pub line_next : (left k : ℕ) (t : List ℕ) → k < length t → (left ≡ 0 → ⊥) → line_of (passed left (get_or t k 0)) (drop (k + 1) t) ≡ line_of left (drop k t)
-unfolding line_of
-line_next left k t h e = rw (drop-cons t k 0 h, ne_eqb left 0 e, add-one k)
-
--- a text from the line on that has none before it
-pub line_here : (t : List ℕ) → line_of 0 t ≡ t
-unfolding line_of
-line_here [] = refl
-line_here (b ∷ t) = refl
-
-pub line_none : (left k : ℕ) (t : List ℕ) → length t ≤ k → drop k t ≡ line_of left (drop k t)
-unfolding line_of
-line_none left k t h = rw (drop_of_length-le t h)
-
--- the line that is chosen for what stands before it is the line itself, for the first n lines
-unfoldable pub agree : ℕ → Bool
-agree zero = true
-agree (suc i) = (let l = line_of i table in eqb (line_for (number_at l 0) (number_at l 6) (cond (eqb (number_at l 3) 0) 2 (number_at l 3))) i) && agree i
-
-pub columns_agree : T (agree 46)
-unfolding agree line_of passed table line_for Sentences.argument Sentences.run Sentences.actuator Sentences.attitude Sentences.angle
-columns_agree = tt
+-- what is found lies before the next byte
+pub later_most : (t : List ℕ) (n place when k found : ℕ) → found ≤ k → later t n place when k found ≤ k + 1
+unfolding later
+later_most t n place when k found h = by (begins t k && serves t n place when k)
+  where
+    by : (e : Bool) → cond e k found ≤ k + 1
+    by true = omega arith
+    by false = omega arith
 
 -- ---- byte by byte
 
@@ -120,17 +104,6 @@ table_fits : T (fits 0 table)
 unfolding table fits
 table_fits = tt
 
-line_short : (count n left : ℕ) (t : List ℕ) → T (fits n t) → length (told count (drop 12 (line_of left t))) ≤ 212
-unfolding fits line_of
-line_short count n left [] f = omega arith
-line_short count n left (b ∷ t) f = by (eqb left 0) (line_short count (cond (eqb b 10) 0 (n + width b)) (passed left b) t (split (leb (n + width b) 212) _ f).1)
-  where
-    by : (e : Bool) → length (told count (drop 12 (line_of (passed left b) t))) ≤ 212 → length (told count (drop 12 (cond e (b ∷ t) (line_of (passed left b) t)))) ≤ 212
-    by true h = rest_short count n 12 (b ∷ t) f
-    by false h = h
-
 pub explain_short : (n place runs : ℕ) (sampled : Bool) → length (explain n place runs sampled) ≤ 212
-unfolding explain sentence_for
-explain_short n place runs sampled =
-    let l = line_for n place (met runs sampled) in
-    line_short (place - number_at (line_of l table) 9) 0 l table table_fits
+unfolding explain sentence
+explain_short n place runs sampled = let k = line_for table n place (met runs sampled) in rest_short (place - number_at table (k + 9)) 0 (k + 12) table table_fits

@@ -1,4 +1,4 @@
-// What a refusal means, in words: one decision over the numbers of refusals, with ranges for what was given, for a forward run and for the end checks, chooses a line of one table.
+// What a refusal means, in words: one table of sentences, and the search of a refusal's line in it.
 ghost use Rattle.std.specs.Prelude.{◌≡◌, ◌+◌, ◌-◌, ◌≤◌, ◌<◌, ◌^◌, length, get_or, drop};
 ghost use Rattle.text_writer.specs.Puts.{Puts};
 ghost use Rattle.refusal_text.specs.Sentences as Sentences;
@@ -9,7 +9,7 @@ use text::hex::byte;
 use text_writer::put::{put_all, put_byte, put_digits};
 
 // The table that `Sentences.table` is, byte for byte; what its columns say stands there.
-const TABLE: [u8; 4836] = *b"\
+const TABLE: [u8; 4578] = *b"\
 00 00 00 00 No refusal has this number.\n\
 01 00 00 00 There are more than 8 wheels: leave some out.\n\
 01 00 01 00 There are more than 12 thrusters: leave some out.\n\
@@ -30,10 +30,10 @@ const TABLE: [u8; 4836] = *b"\
 07 00 01 00 The slew is half a turn, whose axis the search does not choose: plan the slew about one axis (eigenaxis).\n\
 07 00 02 00 The torque limits or the slew limit are too small or too large for a profile: look at their units.\n\
 08 00 00 00 These actuators are not served: take none, three or more wheels, three or more thrusters, or one pyramid.\n\
-09 00 00 00 The workspace is too short for these controls: slew lends 8,000 numbers, for 4 controls a row or 3 with pointing. Declare fewer, plan about one axis (eigenaxis), or call the library and lend more.\n\
+09 00 00 00 The workspace is too short for these controls: the programs lend 8,000 numbers, for 4 controls a row or 3 with a pointing weight. Declare fewer, or call the library and lend more.\n\
 10 00 00 00 The seed must have 17 nodes and a finite duration above 0: look at the seed, or at torque limits near 0.\n\
 11 00 00 00 Step # of a run turns through an angle out of range: plan the slew about one axis (eigenaxis), or look at the units of the limits.\n\
-11 01 00 00 An angle is out of range: a sine or cosine takes numbers of at most 1,024 in size, an arc cosine numbers from 0 to 1.\n\
+11 01 00 00 The slew is half a turn but for rounding, and the tie tolerance lets it pass: plan the slew about one axis (eigenaxis).\n\
 11 03 00 00 Sample # turns through an angle out of range: look at the nodes and the duration.\n\
 12 00 00 00 Step # of a run meets a singular pyramid: plan the slew about one axis (eigenaxis).\n\
 13 00 00 00 Step # of a run takes a wheel over its power: plan the slew about one axis (eigenaxis).\n\
@@ -53,9 +53,7 @@ const TABLE: [u8; 4836] = *b"\
 25 00 00 00 There is no tile, or there are more than 10, or a time is outside 1 to 10,000,000 milliseconds.\n\
 26 00 00 00 Wheel #: the momenta on record are not those that the preview began from, or it was refused: preview again.\n\
 27 00 00 00 Outside the room: the angle goes from -64 to 64, the rate from -8 to 8; of a reply the choice from -2 to 2, the turns left from 1 to 64.\n\
-28 00 00 00 The column has more than 4,096 numbers, the bytes are not 8 for each, or the output is too short.\n\
-29 00 00 00 Step # of the reference asks an actuator for more than its limit: take a longer duration, or look at the units.\n\
-30 00 00 00 Sample # of the reference: rounding spoils the momentum balance: look at the units of inertia and momenta.\n";
+28 00 00 00 The column has more than 4,096 numbers, the bytes are not 8 for each, or the output is too short.\n";
 
 // A decimal digit's number; 0 of what is before the digits, and past the end.
 fn digit(t: &[u8], k: usize) -> usize
@@ -76,6 +74,16 @@ fn number_at(t: &[u8], k: usize) -> usize
     digit(t, k) * 10 + digit(t, k + 1)
 }
 
+// Whether a line begins at k.
+fn begins(t: &[u8], k: usize) -> bool
+    ensures { result ≡ Sentences.begins t.now k }
+{
+    if k == 0 {
+        return true;
+    }
+    byte(t, k - 1) == b'\n'
+}
+
 // When a refusal was met.
 fn met(runs: usize, sampled: bool) -> usize
     ensures { result ≡ Sentences.met runs sampled }
@@ -86,110 +94,50 @@ fn met(runs: usize, sampled: bool) -> usize
     if runs == 0 { 1 } else { 2 }
 }
 
-// A place, or the last that has a line of its own.
-fn at_most(place: usize, last: usize) -> usize
-    ensures { (result ≡ Sentences.at_most place last) × (result ≤ last) }
+// Whether the line at k is for a refusal.
+fn serves(t: &[u8], n: usize, place: usize, when: usize, k: usize) -> bool
+    requires { k < 2 ^ 31 }
+    ensures { result ≡ Sentences.serves t.now n place when k }
 {
-    if place < last { place } else { last }
-}
-
-// Refusals 2 and 3, by the actuator: wheels, thrusters, the pyramid.
-fn actuator(place: usize) -> usize
-    ensures { (result ≡ Sentences.actuator place) × (result ≤ 2) }
-{
-    match place {
-        0..=7 => 0,
-        8..=19 => 1,
-        _ => 2,
+    if number_at(t, k) != n {
+        return false;
     }
-}
-
-// Refusal 5, by the attitude; a dense sample's is the last.
-fn attitude(place: usize, when: usize) -> usize
-    ensures { (result ≡ Sentences.attitude place when) × (result ≤ 3) }
-{
-    if when == 3 {
-        return 3;
+    if place < number_at(t, k + 6) {
+        return false;
     }
-    at_most(place, 2)
-}
-
-// Refusal 11, by when it was met: in a run, before any, in a dense sample.
-fn angle(when: usize) -> usize
-    ensures { (result ≡ Sentences.angle when) × (result ≤ 2) }
-{
-    match when {
-        1 => 1,
-        3 => 2,
-        _ => 0,
+    let asked = number_at(t, k + 3);
+    if asked == 0 {
+        return true;
     }
+    asked == when
 }
 
-// What is wrong with the problem as it was given, refusals 1 to 10.
-fn argument(n: usize, place: usize, when: usize) -> usize
-    requires { n ≤ 10 }
-    ensures { result ≡ Sentences.argument n place when }
+// The line at k where it is for a refusal, else the one that was found before it.
+fn later(t: &[u8], n: usize, place: usize, when: usize, k: usize, found: usize) -> usize
+    requires { k < 2 ^ 31 }
+    ensures { result ≡ Sentences.later t.now n place when k found }
 {
-    match n {
-        1 => 1 + at_most(place, 1),
-        2 => 3 + actuator(place),
-        3 => 6 + actuator(place),
-        4 => 9,
-        5 => 10 + attitude(place, when),
-        6 => 14 + at_most(place, 1),
-        7 => 16 + at_most(place, 2),
-        _ => 11 + n,
+    if !begins(t, k) {
+        return found;
     }
-}
-
-// What ended a forward run, refusals 11 to 13.
-fn run(n: usize, when: usize) -> usize
-    requires { n ≤ 13 }
-    ensures { result ≡ Sentences.run n when }
-{
-    match n {
-        11 => 22 + angle(when),
-        _ => 13 + n,
+    if serves(t, n, place, when, k) {
+        return k;
     }
+    found
 }
 
-// Which line of the table is for a refusal.
-fn line_for(n: usize, place: usize, when: usize) -> usize
-    ensures { result ≡ Sentences.line_for n place when }
+// Where the last line for a refusal begins.
+fn line_for(t: &[u8], n: usize, place: usize, when: usize) -> usize
+    requires { length t.now < 2 ^ 16 }
+    ensures { (result ≡ Sentences.line_for t.now n place when) × (result ≤ length t.now) }
 {
-    match n {
-        1..=10 => argument(n, place, when),
-        11..=13 => run(n, when),
-        14..=19 => 13 + n,
-        20 => 33 + at_most(place, 1),
-        21 => 35 + at_most(place, 1),
-        22..=30 => 15 + n,
-        _ => 0,
-    }
-}
-
-// How many line feeds are still to be passed after a byte.
-fn passed(left: usize, b: u8) -> usize
-    requires { 0 < left }
-    ensures { result ≡ Sentences.passed left b }
-{
-    if b == b'\n' { left - 1 } else { left }
-}
-
-// Where a line of a text begins.
-fn begin_of(t: &[u8], line: usize) -> usize
-    ensures { (drop result t.now ≡ Sentences.line_of line t.now) × (result ≤ length t.now) }
-{
-    let mut left = line;
+    let mut found: usize = 0;
     let mut k: usize = 0;
     while k < t.len() {
-        if left == 0 {
-            return k;
-        }
-        left = passed(left, t[k]);
+        found = later(t, n, place, when, k, found);
         k += 1;
     }
-    k
+    found
 }
 
 // A byte of a sentence, or the count in the place of `#`.
@@ -236,7 +184,7 @@ fn put_sentence(out: &mut [u8], t: &[u8], n: usize, place: usize, when: usize) -
     requires { length t.now < 2 ^ 16 }
     ensures { Tells out.old (Sentences.sentence_for t.now n place when) out.new result }
 {
-    let k = begin_of(t, line_for(n, place, when));
+    let k = line_for(t, n, place, when);
     let least = number_at(t, k + 9);
     put_line(out, t, k + 12, above(place, least))
 }

@@ -1,18 +1,18 @@
 // Tests the programs on what they refuse: `slew` gets the problem on standard input, and `slew_samples` what is left of it, which is nothing. Then the dense samples of a half turn
 // about one axis, gently: the search has no seed for it.
 use eigenaxis_seed::Shape;
-use plan_method::PlanMethod;
-use sample_program::Wanted;
+use mosaic::ways::Way;
+use programs::samples::Wanted;
 
 fn main() {
-    plan_program::run();
-    sample_program::run();
+    programs::plans::run();
+    programs::samples::run();
     let gently = Wanted {
         board: false,
-        method: PlanMethod::Eigenaxis(Shape::Gentle),
+        way: Way::Eigenaxis(Shape::Gentle),
         end: 0,
     };
-    sample_program::print_text(
+    programs::samples::print_text(
         b"(problem\n (q0 3FF 0 0 0)\n (qf 0 0 0 3FF)\n (inertia 4024 0 0 0 4028 0 0 0 402)\n (limit 3F2 3F2 3F2)\n (slew none)\n (weights 3FF 0 0 0 0 0)\n (tolerance 3EB 3EB)\n (momenta)\n (actuators))\n",
         17,
         gently,

@@ -6,26 +6,23 @@ use export_leaves::courses::{
     slew_sample_seed, slew_switch_times,
 };
 
-// The place of a refusal is 2 for 7, else 0.
 fn switch_times(v: &[u64; 1024]) -> bool {
     let mut x = [0.0; 3];
-    let mut place: usize = 1;
     let with = at(v, 2) == 1;
-    let refused = slew_switch_times(real(v, 0), real(v, 1), with, real(v, 3), &mut x, &mut place);
+    let refused = slew_switch_times(real(v, 0), real(v, 1), with, real(v, 3), &mut x);
     if refused == 0 {
-        return at(v, 4) == 0 && place == 0 && same3(v, 5, x);
+        return at(v, 4) == 0 && same3(v, 5, x);
     }
-    at(v, 4) == refused as u64 && (place == 2) == (refused == 7)
+    at(v, 4) == refused as u64
 }
 
 fn alpha_from_box(v: &[u64; 1024]) -> bool {
     let mut x = 0.0;
-    let mut place: usize = 1;
-    let refused = slew_alpha_from_box(&nine(v, 0), &three(v, 9), &three(v, 12), &mut x, &mut place);
+    let refused = slew_alpha_from_box(&nine(v, 0), &three(v, 9), &three(v, 12), &mut x);
     if refused == 0 {
-        return at(v, 15) == 0 && place == 0 && same(v, 16, x);
+        return at(v, 15) == 0 && same(v, 16, x);
     }
-    at(v, 15) == refused as u64 && place == 2
+    at(v, 15) == refused as u64
 }
 
 fn bang_coast_bang(v: &[u64; 1024]) -> bool {

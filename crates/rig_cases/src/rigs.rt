@@ -1,5 +1,5 @@
 // Actuators and rows of controls beside what is stored. What a user declares begins a case: eleven counts, a hundred numbers; a row is its length and 24
-// numbers, zeros past its length. But for `prepare` and `control_dim` what is declared can be prepared, and a refusal is one of the operation's own.
+// numbers, zeros past its length.
 ghost use Rattle.std.specs.Prelude.{◌≡◌, ◌≤◌, length};
 
 use cases::declared::{counts, numbers};
@@ -40,26 +40,15 @@ fn body_torque(v: &[u64; 1024], u: &[f64]) -> bool {
     let h = three(v, 139);
     let delta = four(v, 142);
     let mut x = [0.0; 3];
-    let mut place: usize = 0;
-    let refused = slew_body_torque(
-        &counts(v),
-        &numbers(v),
-        u,
-        &omega,
-        &h,
-        &delta,
-        &mut x,
-        &mut place,
-    );
+    let refused = slew_body_torque(&counts(v), &numbers(v), u, &omega, &h, &delta, &mut x);
     at(v, 146) == refused as u64 && (refused != 0 || same3(v, 147, x))
 }
 
 fn project_controls(v: &[u64; 1024], u: &mut [f64]) -> bool
     requires { length u.old ≤ 24 }
 {
-    let mut place: usize = 0;
-    let refused = slew_project_controls(&counts(v), &numbers(v), u, &three(v, 136), &mut place);
-    at(v, 139) == refused as u64 && same_all(v, 140, u)
+    slew_project_controls(&counts(v), &numbers(v), u, &three(v, 136));
+    at(v, 139) == 0 && same_all(v, 140, u)
 }
 
 fn allocate_body_torque(v: &[u64; 1024]) -> bool {
@@ -72,36 +61,27 @@ fn allocate_body_torque(v: &[u64; 1024]) -> bool {
 
 fn singularity(v: &[u64; 1024]) -> bool {
     let mut x = 0.0;
-    let mut place: usize = 0;
-    let refused = slew_singularity(&counts(v), &numbers(v), &four(v, 111), &mut x, &mut place);
+    let refused = slew_singularity(&counts(v), &numbers(v), &four(v, 111), &mut x);
     at(v, 115) == refused as u64 && (refused != 0 || same(v, 116, x))
 }
 
 fn power_excess(v: &[u64; 1024], u: &[f64]) -> bool {
-    let mut x = 0.0;
-    let mut place: usize = 0;
-    let omega = three(v, 136);
-    let refused = slew_power_excess(&counts(v), &numbers(v), u, &omega, &mut x, &mut place);
-    at(v, 139) == refused as u64 && same(v, 140, x)
+    let x = slew_power_excess(&counts(v), &numbers(v), u, &three(v, 136));
+    at(v, 139) == 0 && same(v, 140, x)
 }
 
 fn wheel_momenta(v: &[u64; 1024], u: &[f64]) -> bool {
     let c = counts(v);
     let d = numbers(v);
     let mut x = [0.0; 3];
-    let mut excess = 0.0;
-    let mut place: usize = 0;
-    let refused = slew_body_momentum(&c, &d, u, &mut x, &mut place);
-    let also = slew_momentum_excess(&c, &d, u, &mut excess, &mut place);
-    let told = at(v, 136) == refused as u64 && refused == also;
-    told && same(v, 137, excess) && same3(v, 138, x)
+    slew_body_momentum(&c, &d, u, &mut x);
+    at(v, 136) == 0 && same(v, 137, slew_momentum_excess(&c, &d, u)) && same3(v, 138, x)
 }
 
 fn wheel_momentum_rates(v: &[u64; 1024], u: &[f64]) -> bool {
     let mut x = [0.0; 8];
-    let mut place: usize = 0;
-    let refused = slew_wheel_momentum_rates(&counts(v), &numbers(v), u, &mut x, &mut place);
-    at(v, 136) == refused as u64 && same8(v, 137, &x)
+    slew_wheel_momentum_rates(&counts(v), &numbers(v), u, &mut x);
+    at(v, 136) == 0 && same8(v, 137, &x)
 }
 
 // What takes a row u.
@@ -133,12 +113,8 @@ fn rowed(number: u64, v: &[u64; 1024]) -> bool {
     same && (number != 102 || same24(v, 140, &u))
 }
 
-// Where `prepare` refuses 3 is stored, which is lent here and stays.
 fn control_dim(v: &[u64; 1024]) -> bool {
-    let mut n: usize = 3;
-    let mut place: usize = 0;
-    let refused = slew_control_dim(&counts(v), &numbers(v), &mut n, &mut place);
-    at(v, 111) == n as u64 && refused < 4
+    at(v, 111) == slew_control_dim(&counts(v), &numbers(v)) as u64
 }
 
 fn pyramid_a(v: &[u64; 1024]) -> bool {

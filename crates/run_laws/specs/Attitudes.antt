@@ -20,7 +20,7 @@ use Rattle.geom.specs.declared.Normal.{Normal}
 use Rattle.geom.specs.declared.Normal.TheVariants as Normal
 use Rattle.geom.specs.declared.Turned.{Turned}
 use Rattle.geom.specs.declared.Turned.TheVariants as Turned
-use Rattle.forward.specs.Values.{Fine3, FitsQ, WithinQ}
+use Rattle.run_laws.specs.Values.{Fine3, FitsQ, WithinQ}
 use Rattle.run_laws.specs.TestLaws.{outcomes}
 
 -- ---- the exponential

@@ -24,7 +24,7 @@ use Rattle.control_limits.specs.Limits as Controls
 use Rattle.control_rows.specs.StoredLaws.{stored_length}
 use Rattle.control_rows.specs.declared.Rig.{Rig}
 use Rattle.controls.specs.Controls.{rig_of}
-use Rattle.forward.specs.Values.{Fine3, Fit3, HeldN}
+use Rattle.run_laws.specs.Values.{Fine3, Fit3, HeldN}
 use Rattle.run_laws.specs.Torques.{stored_at}
 use Rattle.run_laws.specs.Prepared.{MapOk, RateOk}
 

@@ -35,7 +35,7 @@ use Rattle.problem.specs.StartLaws.{Passed, starts_passed, placed_at, placed_pas
 use Rattle.problem.specs.declared.Momenta.{Momenta}
 use Rattle.problem.specs.declared.Problem.{Problem}
 use Rattle.problem.specs.declared.CheckedProblem.{CheckedProblem}
-use Rattle.forward.specs.Values.{goes, FitsQ, WithinQ}
+use Rattle.run_laws.specs.Values.{goes, FitsQ, WithinQ}
 use Rattle.run_laws.specs.Attitudes.{normalized_is, normed_in}
 use Rattle.run_laws.specs.Prepared.{FitsM, MapOk, limit_of_law, prepare_ok}
 use Rattle.run_laws.specs.Runs.{MomentaOk}

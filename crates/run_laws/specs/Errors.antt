@@ -14,8 +14,7 @@ use Rattle.common.specs.Floats as Floats
 use Rattle.wide.specs.IsqrtLaws.{isqrt_root}
 use Rattle.float.specs.Ops.{clamp}
 use Rattle.float.specs.SqrtLaws.{sqrt_fits}
-use Rattle.float.specs.Exact.{mag}
-use Rattle.float_laws.specs.Place.{mid, place}
+use Rattle.float_laws.specs.Place.{mag, mid, place}
 use Rattle.float_laws.specs.Order.{Held, held, lt_up, nlt_up, up_le, not_above}
 use Rattle.float_laws.specs.Clamp.{clamp_held, clamp_place}
 use Rattle.float_laws.specs.Finite.{finite_number}
@@ -33,7 +32,7 @@ use Rattle.geom.specs.declared.Quat.{Quat}
 use Rattle.geom.specs.declared.Rotation.{Rotation}
 use Rattle.geom.specs.declared.Rotation.TheVariants as Rotation
 use Rattle.common.specs.Lists.{at}
-use Rattle.forward.specs.Values.{Fine3, WithinQ}
+use Rattle.run_laws.specs.Values.{Fine3, WithinQ}
 
 -- ---- lengths of three finite numbers
 module _ (v : List Float) (p : Fine3 v) where

@@ -1,4 +1,6 @@
 -- What a forward run with nodes is: finite, bounded, the same when rerun.
+-- ---- meaning
+pub mod Values  -- words for what holds of lists of floats and of attitudes
 -- ---- laws
 pub mod Paths  -- `reconstruct` with nodes: what it keeps, and that a rerun gives the same
 pub mod Runs  -- sixteen steps that go on

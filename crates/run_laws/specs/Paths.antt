@@ -12,7 +12,6 @@ use Rattle.common.specs.declared.Fate.TheVariants.{Going, Refused}
 use Rattle.actuators.specs.Maps.{is_sized, is_empty, control_dim, gimbals}
 use Rattle.actuators.specs.declared.ActuatorMap.{ActuatorMap}
 use Rattle.control_rows.specs.Parts.{width}
-use Rattle.held_counts.specs.Counts.{control}
 use Rattle.problem.specs.Problems.{check, refused}
 use Rattle.problem.specs.declared.Problem.{Problem}
 use Rattle.problem.specs.declared.CheckedProblem.{CheckedProblem}
@@ -24,12 +23,16 @@ use Rattle.forward.specs.Steps.{Body}
 use Rattle.forward.specs.Reconstruct.{admit, reconstruct_by, reconstruct_under, reconstruct}
 use Rattle.forward.specs.declared.Node.{Node}
 use Rattle.forward.specs.declared.Run.{Run}
-use Rattle.forward.specs.Values.{goes, Fine3}
+use Rattle.run_laws.specs.Values.{goes, Fine3}
 use Rattle.run_laws.specs.Torques.{at-slice}
 use Rattle.run_laws.specs.Runs.{StateOk, NodeOk, start_ok, Flown, run_flown}
 use Rattle.run_laws.specs.Defects.{grounded}
 use Rattle.run_laws.specs.Times.{time_finite}
 use Rattle.run_laws.specs.Checked.{FitsP, Ready, check_ready}
+
+-- control i of row k of the decision z, c to a row
+abbrev pub control : ℕ → List Float → ℕ → ℕ → Float
+control c z k i = at z (1 + k * c + i)
 
 abbrev pub run_node : Run → ℕ → Node
 run_node r k = get_or r.nodes k no_node

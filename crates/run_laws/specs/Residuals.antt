@@ -23,7 +23,7 @@ use Rattle.forward.specs.Runs.{node_at}
 use Rattle.forward.specs.declared.Node.{Node}
 use Rattle.residuals.specs.declared.ResidualVector.{ResidualVector}
 use Rattle.residuals.specs.declared.Target.{Target}
-use Rattle.forward.specs.Values.{goes}
+use Rattle.run_laws.specs.Values.{goes}
 use Rattle.run_laws.specs.Errors.{TurnIn, error_in_law}
 use Rattle.run_laws.specs.Checked.{Ready}
 use Rattle.run_laws.specs.Paths.{run_node, run_path}

@@ -34,7 +34,7 @@ use Rattle.forward.specs.declared.BodyState.{BodyState}
 use Rattle.forward.specs.declared.Stepped.{Stepped}
 use Rattle.forward.specs.declared.Node.{Node}
 use Rattle.forward.specs.declared.Run.{Run}
-use Rattle.forward.specs.Values.{goes, Fine3, Fit3, FineN, FitN, HeldN, WithinQ}
+use Rattle.run_laws.specs.Values.{goes, Fine3, Fit3, FineN, FitN, HeldN, WithinQ}
 use Rattle.run_laws.specs.Attitudes.{normed_in, product_fits}
 use Rattle.run_laws.specs.Torques.{at-slice, axes_back, row_back, row_fits, wheel_control, momenta_length, momenta_at_law, momenta_after_law}
 use Rattle.run_laws.specs.Steps.{Once, step_goes}

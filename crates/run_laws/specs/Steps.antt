@@ -18,7 +18,7 @@ use Rattle.control_limits.specs.Limits.{power_excess}
 use Rattle.forward.specs.Steps.{Body, stop, matrix_at, rate_dot, rate_next, turn_of, defect_of, gimbal_row, step_gimbals, state_next, slack, powered, gimbals_step, attitude_step, normed_step, turned_step, rated_step, torqued_step, matrix_step, step}
 use Rattle.forward.specs.declared.BodyState.{BodyState}
 use Rattle.forward.specs.declared.Stepped.{Stepped}
-use Rattle.forward.specs.Values.{goes, Fine3}
+use Rattle.run_laws.specs.Values.{goes, Fine3}
 use Rattle.run_laws.specs.Attitudes.{is_turned, exp_finite, Normed, normalized_is}
 
 -- ---- back from the turn to the rates and the time of a step

@@ -24,7 +24,7 @@ use Rattle.control_rows.specs.Parts.{axes, wheel_by, wheel_part, pyramid_part, g
 use Rattle.control_rows.specs.declared.Rig.{Rig}
 use Rattle.control_rows.specs.declared.WheelLaw.{WheelLaw}
 use Rattle.control_rows.specs.declared.WheelLaw.TheVariants.{Once, Published}
-use Rattle.forward.specs.Values.{Fine3, Fit3, FineN, FitN}
+use Rattle.run_laws.specs.Values.{Fine3, Fit3, FineN, FitN}
 
 -- ---- numbers of a part of a row
 pub shr_slice_at : (a e : ℕ) (u : List Float) (i : ℕ) → i < e - a → at (slice a e u) i ≡ at u (a + i)

@@ -5,7 +5,7 @@ use Rattle.std.specs.Float.Ieee.{sub, div, lt, le, eq}
 use Rattle.common.specs.Floats.{plus_zero}
 use Rattle.common.specs.Answer.{Given}
 use Rattle.common.specs.Lists.{at}
-use Rattle.float.specs.Exact.{exact}
+use Rattle.float_laws.specs.Exact.{exact}
 use Rattle.mean_laws.specs.Means.{Fraction, Bounded}
 use Rattle.forward.specs.declared.Node.{Node}
 use Rattle.forward.specs.Runs.{node_at}

@@ -24,7 +24,7 @@ use Rattle.forward.specs.declared.BodyState.{BodyState}
 use Rattle.forward.specs.Runs.{node_at}
 use Rattle.run_laws.specs.Runs.{time_of}
 use Rattle.run_laws.specs.Steps.{step_goes}
-use Rattle.forward.specs.Values.{goes, Fit3}
+use Rattle.run_laws.specs.Values.{goes, Fit3}
 
 -- node k of a run of steps of the time dt
 pub record RunNode (dt : Float) (k : ℕ) (n : Node) : Type 0 where

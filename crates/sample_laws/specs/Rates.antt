@@ -12,7 +12,7 @@ use Rattle.common.specs.Lists.{at}
 use Rattle.common.specs.declared.Fate.{Fate}
 use Rattle.common.specs.declared.Fate.TheVariants.{Going, Refused}
 use Rattle.float_laws.specs.Below.{below_three}
-use Rattle.float.specs.Exact.{exact}
+use Rattle.float_laws.specs.Exact.{exact}
 use Rattle.float_laws.specs.Finite.{between_finite}
 use Rattle.float_laws.specs.Order.{Held, held, lt_up, le_up, lt_le, not_above, not_most}
 use Rattle.float_laws.specs.Place.{mid, place}
@@ -23,7 +23,7 @@ use Rattle.mean_laws.specs.Weights.{plain_held}
 use Rattle.forward.specs.StepLaws.{refused_going}
 use Rattle.forward.specs.declared.Node.{Node}
 use Rattle.forward.specs.Runs.{node_at}
-use Rattle.forward.specs.Values.{Fine3}
+use Rattle.run_laws.specs.Values.{Fine3}
 use Rattle.run_laws.specs.Runs as Runs
 use Rattle.samples.specs.Answers.{of_sampled}
 use Rattle.samples.specs.Counts.{sample_count}

@@ -1,5 +1,5 @@
 -- Dense samples of the plan of a problem's text: what is answered, and what is left of the lent numbers. Definitions only.
-use Rattle.std.specs.Prelude.{◌≡◌, ℕ, ◌≤◌, cond, List, [], ◌∷◌, ◌++◌, length, drop, pos, nat_lt, Float}
+use Rattle.std.specs.Prelude.{◌≡◌, ℕ, cond, List, [], ◌∷◌, ◌++◌, length, drop, pos, nat_lt, Float}
 use Rattle.std.specs.Float.{binary64}
 use Rattle.std.specs.Float.Ieee.{of_int}
 use Rattle.common.specs.Answer.{Answer, Given, Refused}
@@ -14,7 +14,6 @@ use Rattle.samples.specs.Rows.{rows}
 use Rattle.samples.specs.Samples as Samples
 use Rattle.samples.specs.declared.PathSample.{PathSample}
 use Rattle.samples.specs.declared.Sampled.{Sampled}
-use Rattle.sample_laws.specs.Between.{WithinNodes}
 use Rattle.problem_text.specs.Reader.{read_problem}
 use Rattle.text_writer.specs.Texts as Texts
 use Rattle.plan_text.specs.PlanTexts.{planned}
@@ -65,10 +64,6 @@ answer_by (Fate.Refused number place) runs a = Refused number place runs
 unfoldable pub answer : Dense → Answer PathSample
 answer d = answer_by d.sampled.fate d.runs d.sampled.sample
 
--- BETWEEN THE NODES of a text's plan: every dense sample of it that is given lies between two of its nodes, whatever number and acceleration are asked for
-abbrev pub CourseBetween : Course → Type 0
-CourseBetween c = (requested : ℕ) (alpha : Float) (index : ℕ) (s : PathSample) → answer (sample_course c requested alpha index) ≡ Given s → WithinNodes c.nodes s
-
 -- ---- what is told of it, and the lent numbers at exit. Fewer than 14 get nothing, and then no run begins.
 
 -- time, attitude, rate, torque, body momentum
@@ -104,15 +99,8 @@ written a out = cond (nat_lt (length out) 14) out (headed a out)
 unfoldable pub leaves : ℕ → List Float → List Float → List Float
 leaves runs out ws = cond (nat_lt (length out) 14) ws (Plans.leaves runs ws)
 
--- a text's plan to take samples of, for as many numbers as are lent; what is left of them; and between the nodes
-pub record Makes (course : ℕ → Course) (ws : List Float) (c : Course) (ws' : List Float) : Type 0 where
-  pub is : c ≡ course (length ws)
-  pub left : ws' ≡ Plans.leaves c.runs ws
-  pub between : CourseBetween c
-
--- sample number index of the plan for as many numbers as are lent is given; where enough are lent for it, it lies between two nodes of that plan
+-- sample number index of the plan for as many numbers as are lent is given
 pub record Gives (course : ℕ → Course) (requested : ℕ) (alpha : Float) (index : ℕ) (ws out : List Float) (r : ℕ) (ws' out' : List Float) : Type 0 where
   pub is : r ≡ told (answer (sample_course (course (length ws)) requested alpha index)) out
   pub left : ws' ≡ leaves (course (length ws)).runs out ws
   pub numbers : out' ≡ written (answer (sample_course (course (length ws)) requested alpha index)) out
-  pub between : 14 ≤ length out → (s : PathSample) → answer (sample_course (course (length ws)) requested alpha index) ≡ Given s → WithinNodes (course (length ws)).nodes s

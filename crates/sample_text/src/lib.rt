@@ -1,7 +1,8 @@
 // Dense samples of a problem's text: the text is read and planned with our own seed, and samples of the path are put into numbers or printed.
 ghost use Rattle.std.specs.Prelude.{◌≡◌, ◌≤◌, ◌++◌, length, drop};
+ghost use Rattle.planner.specs.Plans as Plans;
 ghost use Rattle.sample_text.specs.SampleTexts as SampleTexts;
-ghost use Rattle.sample_text.specs.SampleTexts.{Gives, Makes, plan_course};
+ghost use Rattle.sample_text.specs.SampleTexts.{Gives, plan_course};
 
 use common::{Fate, SOLVER_NODES};
 use forward::Node;
@@ -68,7 +69,8 @@ pub fn course_of(p: Problem, a: Planned, alpha: f64) -> Course
 
 // The plan of a text from our own seed, to take samples of.
 pub fn plan_course(text: &[u8], ws: &mut [f64]) -> Course
-    ensures { Makes (plan_course text.now) ws.old result ws.new }
+    ensures value { result ≡ SampleTexts.plan_course text.now (length ws.old) }
+    ensures ws_after { ws.new ≡ Plans.leaves result.runs ws.old }
 {
     let read = text_reader::read(text);
     let p = read.problem;

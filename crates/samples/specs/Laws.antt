@@ -13,7 +13,7 @@ use Rattle.geom.specs.declared.Normal.TheVariants as Normal
 use Rattle.geom.specs.declared.Turned.{Turned}
 use Rattle.geom.specs.declared.Turned.TheVariants as Turned
 use Rattle.float_laws.specs.Below.{below_three, below_turns}
-use Rattle.float.specs.Exact.{exact}
+use Rattle.float_laws.specs.Exact.{exact}
 use Rattle.mean_laws.specs.Means.{Plain}
 use Rattle.mean_laws.specs.Weights.{nought, mean_first, mean_last}
 use Rattle.forward.specs.StepLaws.{refused_going}

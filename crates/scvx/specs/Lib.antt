@@ -1,8 +1,6 @@
 -- The search of `solve` in scvx.rs.
 -- ---- meaning
 pub mod Search  -- state, Jacobian, step, trial, iteration, and the whole search
-pub mod Made  -- which projection made the decision that the search ends in
-pub mod Better  -- the seed's decision, or one of a smaller residual length
 -- ---- laws
 pub mod CountLaws  -- how many forward runs it begins
 pub mod ColumnLaws  -- the loop over the Jacobian's columns

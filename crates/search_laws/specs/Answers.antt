@@ -24,19 +24,18 @@ use Rattle.forward.specs.Runs.{node_at}
 use Rattle.residuals.specs.Residuals.{error_of, residuals_of}
 use Rattle.scvx.specs.Search.{search, searched, residual_length}
 use Rattle.end_checks.specs.Ends as Ends
-use Rattle.forward.specs.Values.{goes}
+use Rattle.run_laws.specs.Values.{goes}
 use Rattle.run_laws.specs.Checked.{Ready}
 use Rattle.run_laws.specs.Defects.{grounded_finite}
 use Rattle.run_laws.specs.Runs.{Spare}
-use Rattle.run_laws.specs.Paths.{Path, run_path}
-use Rattle.held_counts.specs.Counts.{control}
+use Rattle.run_laws.specs.Paths.{Path, control, run_path}
 use Rattle.run_laws.specs.Errors.{TurnIn, error_in_law, length_test}
 use Rattle.run_laws.specs.Bounds.{torque_under, momentum_under}
 use Rattle.run_laws.specs.Decisions.{Projected, control_small}
 use Rattle.run_laws.specs.Residuals.{residuals_go}
 use Rattle.search_laws.specs.Keeps.{search_gone}
 use Rattle.search_laws.specs.Begun.{seed_measured}
-use Rattle.scvx.specs.Better.{Better}
+use Rattle.search_laws.specs.Better.{Better}
 use Rattle.search_laws.specs.BetterLaws.{searched_better}
 use Rattle.search_laws.specs.Decisions.{Sound, searched_sound}
 use Rattle.search_laws.specs.Ends.{Checked, ends_checked}

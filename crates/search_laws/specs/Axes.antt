@@ -14,8 +14,7 @@ use Rattle.common.specs.Floats.{one}
 use Rattle.common.specs.Lists.{at}
 use Rattle.float.specs.Sqrt.{sqrt}
 use Rattle.float.specs.SqrtLaws.{sqrt_fits}
-use Rattle.float.specs.Exact.{mag}
-use Rattle.float_laws.specs.Place.{mid, place, mag_exact}
+use Rattle.float_laws.specs.Place.{mag, mid, place, mag_exact}
 use Rattle.float_laws.specs.Order.{Held, held, nlt_up}
 use Rattle.float_laws.specs.Signs.{plus, place_plus, square_plus, add_plus, sqrt_plus}
 use Rattle.float_laws.specs.Finite.{finite_number, add_finite, mul_finite, sqrt_finite}
@@ -24,7 +23,7 @@ use Rattle.geom.specs.Vec.{dot3}
 use Rattle.geom.specs.Quats.{norm3, least, unit_by, unit3}
 use Rattle.geom.specs.declared.Axis.{Axis}
 use Rattle.geom.specs.declared.Axis.TheVariants.{Is, Not}
-use Rattle.forward.specs.Values.{Fine3, Fit3}
+use Rattle.run_laws.specs.Values.{Fine3, Fit3}
 use Rattle.run_laws.specs.TestLaws.{outcomes}
 
 -- ---- a number whose square is finite

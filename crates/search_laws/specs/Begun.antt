@@ -10,7 +10,7 @@ use Rattle.residuals.specs.Residuals.{residuals_of}
 use Rattle.scvx.specs.Search as Search
 use Rattle.scvx.specs.declared.Status.TheVariants.{Refused}
 use Rattle.scvx.specs.declared.SearchState.{SearchState}
-use Rattle.forward.specs.Values.{goes}
+use Rattle.run_laws.specs.Values.{goes}
 
 module _ (p : CheckedProblem) (number place : ℕ) where
   stays : (s : SearchState) → s.status ≡ Refused number place → (k : ℕ) → Search.turn p k s ≡ s

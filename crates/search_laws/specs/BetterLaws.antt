@@ -14,7 +14,7 @@ use Rattle.residuals.specs.Sums.{squares, norm_slice}
 use Rattle.scvx.specs.Search as Search
 use Rattle.scvx.specs.declared.SearchState.{SearchState}
 use Rattle.search_laws.specs.Keeps.{Kept, searched_keeps}
-use Rattle.scvx.specs.Better.{Better, same, below}
+use Rattle.search_laws.specs.Better.{Better, same, below}
 
 -- the same by another name of the lengths
 pub better_as : (r s : List Float → Float) (seed z : List Float) → r seed ≡ s seed → r z ≡ s z → Better r seed z → Better s seed z

@@ -21,8 +21,7 @@ use Rattle.scvx.specs.Search as Search
 use Rattle.run_laws.specs.Prepared.{MapOk}
 use Rattle.run_laws.specs.Checked.{Ready}
 use Rattle.run_laws.specs.Decisions.{Projected, Done, all_done, projected_is}
-use Rattle.search_laws.specs.Keeps.{Kept, turns_keep}
-use Rattle.scvx.specs.Made.{state_at}
+use Rattle.search_laws.specs.Keeps.{Kept, searched_keeps}
 use Rattle.search_laws.specs.Fits.{Fit}
 
 -- ---- one number of a list set: what holds of the list's numbers and of the new one holds of all
@@ -116,15 +115,6 @@ module _ (p : CheckedProblem) (R : Ready p) (seed : List Float) (long : packed_l
   sound_kept : Kept p (λ s. Sound p seed s.candidate.z)
   sound_kept = record { ran = λ s n q. q; ended = λ s f q. q; damped = λ s x q. q; begun = λ k s q. q; moved = λ s d y q h. trial_sound s.candidate.z d q }
 
-  -- SOUND: the decision after every iteration, and that of every search, from a projected seed
-  pub states_sound : Projected p.map p.torque_limit seed → (k : ℕ) → Sound p seed (state_at p seed k).candidate.z
-  states_sound P k = turns_keep p (λ s. Sound p seed s.candidate.z) sound_kept (Search.start p seed) k (unfold Search.start in record { projected = P; tail = tail_same size seed })
-
+  -- SOUND: the decision of every search from a projected seed
   pub searched_sound : Projected p.map p.torque_limit seed → Sound p seed (Search.searched p seed).candidate.z
-  unfolding Search.searched
-  searched_sound P = states_sound P 40
-
-  -- moved by a step, and not yet projected, a decision is as long as it was
-  pub applied_long : (z d : List Float) → Sound p seed z → packed_len (control_dim p.map) ≤ length (Search.applied p z d)
-  unfolding Search.numbers
-  applied_long z d S = rw ((added d size z S.projected.fit).tail.long, S.tail.long) long
+  searched_sound P = searched_keeps p (λ s. Sound p seed s.candidate.z) sound_kept seed (unfold Search.start in record { projected = P; tail = tail_same size seed })

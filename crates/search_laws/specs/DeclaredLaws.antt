@@ -24,12 +24,11 @@ use Rattle.problem.specs.Starts.{check_starts, placed}
 use Rattle.problem.specs.StartLaws.{starts_passed}
 use Rattle.problem.specs.declared.Problem.{Problem}
 use Rattle.problem.specs.declared.CheckedProblem.{CheckedProblem}
-use Rattle.forward.specs.Values.{goes}
+use Rattle.run_laws.specs.Values.{goes}
 use Rattle.run_laws.specs.Checked.{FitsP}
 use Rattle.search_laws.specs.Answers.{limit_in}
 use Rattle.search_laws.specs.Prepared.{prepare_fits, Declared, prepare_declared}
-use Rattle.search_laws.specs.Given.{Given}
-use Rattle.forward.specs.DeclaredLimits.{control_limit, controls_of, none}
+use Rattle.search_laws.specs.Declared.{Given, control_limit, controls_of, none}
 
 pub given_fits : (p : Problem) → Given p → FitsP p
 given_fits p G = record { q0 = G.q0; qf = G.qf; limit = G.limit; slew = G.slew; tolerance = G.tolerance; map = prepare_fits p.actuators G.actuators; momenta = G.momenta }

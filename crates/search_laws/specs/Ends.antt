@@ -14,7 +14,7 @@ use Rattle.forward.specs.declared.Run.{Run}
 use Rattle.forward.specs.Runs.{node_at}
 use Rattle.residuals.specs.Residuals.{error_of}
 use Rattle.end_checks.specs.Ends as Ends
-use Rattle.forward.specs.Values.{goes}
+use Rattle.run_laws.specs.Values.{goes}
 use Rattle.run_laws.specs.TestLaws.{past}
 
 -- 17 to 19 at one node

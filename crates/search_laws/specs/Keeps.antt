@@ -17,7 +17,7 @@ use Rattle.scvx.specs.declared.Status.{Status}
 use Rattle.scvx.specs.declared.Status.TheVariants.{Going, Ended, Refused}
 use Rattle.scvx.specs.declared.SearchState.{SearchState}
 use Rattle.scvx.specs.declared.Found.{Found}
-use Rattle.forward.specs.Values.{goes}
+use Rattle.run_laws.specs.Values.{goes}
 
 -- A property of the state that each part keeps: runs counted, an end, another damping factor, an iteration begun, and a trial of a strictly smaller length taken.
 pub record Kept (p : CheckedProblem) (Q : SearchState → Type 0) : Type 0 where
@@ -80,8 +80,7 @@ module _ (p : CheckedProblem) (Q : SearchState → Type 0) (K : Kept p Q) where
   turn_by_keeps k s Ended q = q
   turn_by_keeps k s (Refused number place) q = q
 
-  -- KEPT by every iteration
-  pub turns_keep : (s : SearchState) (k : ℕ) → Q s → Q (iter (Search.turn p) s k)
+  turns_keep : (s : SearchState) (k : ℕ) → Q s → Q (iter (Search.turn p) s k)
   unfolding iter Search.turn
   turns_keep s zero q = q
   turns_keep s (suc k) q = turn_by_keeps k (iter (Search.turn p) s k) (iter (Search.turn p) s k).status (turns_keep s k q)

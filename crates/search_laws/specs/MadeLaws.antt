@@ -17,7 +17,7 @@ use Rattle.scvx.specs.declared.Candidate.{Candidate}
 use Rattle.scvx.specs.declared.Status.{Status}
 use Rattle.scvx.specs.declared.Status.TheVariants.{Going, Ended, Refused}
 use Rattle.scvx.specs.declared.SearchState.{SearchState}
-use Rattle.scvx.specs.Made.{state_at, StepsBy, Made, by_seed, by_trial}
+use Rattle.search_laws.specs.Made.{state_at, StepsBy, Made, by_seed, by_trial}
 
 -- ---- one iteration leaves the candidate, or takes the trial of its step
 data Turned (p : CheckedProblem) (s : SearchState) (c : Candidate) : Type 0 where

@@ -24,7 +24,7 @@ use Rattle.problem.specs.declared.Problem.{Problem}
 use Rattle.problem.specs.declared.CheckedProblem.{CheckedProblem}
 use Rattle.forward.specs.Runs.{start, start_of}
 use Rattle.forward.specs.declared.BodyState.{BodyState}
-use Rattle.forward.specs.Values.{goes}
+use Rattle.run_laws.specs.Values.{goes}
 use Rattle.search_laws.specs.Axes.{unit_fine}
 use Rattle.search_laws.specs.Prepared.{FitsA, Axes}
 use Rattle.search_laws.specs.DeclaredLaws.{Same, check_same}

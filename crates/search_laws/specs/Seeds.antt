@@ -192,16 +192,13 @@ module _ (m : ActuatorMap) (narrow : control_dim m ≤ 12) (duration : Float) (t
   unfolding Seeds.allocated
   filled = below_turns Filled (Seeds.allocate_turn m torques) (set (replicate 193 Floats.plus_zero) 0 duration) 16 turn begin
 
-  pub allocated_long : length (Seeds.allocated m duration torques) ≡ 193
-  allocated_long = filled.long
-
   -- ---- and projected
   module _ (M : MapOk m) (box : List Float) (L : (i : ℕ) → i < 3 → Limit (at box i)) where
     abbrev z0 : List Float
     z0 = Seeds.allocated m duration torques
 
     wide : packed_len c ≤ length z0
-    wide = omega (arith, allocated_long, narrow)
+    wide = omega (arith, filled.long, narrow)
 
     done : Done m M box L z0 wide 16 (Seeds.seed_decision m box duration torques)
     unfolding Seeds.seed_decision

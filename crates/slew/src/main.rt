@@ -1,4 +1,4 @@
-// Plans the problem whose text stands on standard input (crates/plan_program/src/lib.rt).
+// Plans the problem whose text stands on standard input (crates/programs/src/plans.rt).
 fn main() {
-    plan_program::run();
+    programs::plans::run();
 }

@@ -1,4 +1,4 @@
-// Plans the problem whose text stands on standard input about one axis (crates/eigenaxis_program/src/lib.rt).
+// Plans the problem whose text stands on standard input about one axis (crates/programs/src/axis_plans.rt).
 fn main() {
-    eigenaxis_program::run();
+    programs::axis_plans::run();
 }

@@ -1,4 +1,4 @@
-// Plans the mosaic whose text stands on standard input, leg by leg (crates/mosaic_program/src/lib.rt).
+// Plans the mosaic whose text stands on standard input, leg by leg (crates/programs/src/mosaics.rt).
 fn main() {
-    mosaic_program::run();
+    programs::mosaics::run();
 }

@@ -1,10 +1,7 @@
 // Orders the tiles of the table of times that stands on standard input: the answer goes to standard output and, where it is refused, a sentence to standard error.
-ghost use Rattle.std.specs.Prelude.{◌≤◌, length};
-ghost use Rattle.slew_order.specs.OrderAnswers.{Answers};
-
 use common::Fate;
 use libc::{STDERR_FILENO, STDIN_FILENO, STDOUT_FILENO};
-use order_text::{Told, order_text};
+use order_text::order_text;
 use refusal_text::explain;
 
 // What a refusal means, in a sentence.
@@ -14,20 +11,12 @@ fn say(number: usize, place: usize) {
     io::write_all(STDERR_FILENO, &sentence[..n]);
 }
 
-// The answer to a text, printed into a buffer that holds every answer.
-fn answer(text: &[u8], out: &mut [u8]) -> Told
-    requires { 512 ≤ length out.old }
-    ensures { Answers text.now result out.new }
-{
-    order_text(text, out)
-}
-
 // A text longer than 4,096 bytes is refused, so one byte more is all that is looked at.
 fn main() {
     let mut text = [0u8; 4097];
     let length = io::read_full(STDIN_FILENO, &mut text);
     let mut out = [0u8; 512];
-    let told = answer(&text[..length], &mut out);
+    let told = order_text(&text[..length], &mut out);
     let bytes = told.bytes;
     io::write_all(STDOUT_FILENO, &out[..bytes]);
     let fate = told.fate;

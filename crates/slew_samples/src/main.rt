@@ -1,4 +1,4 @@
-// Prints the dense samples of the problem whose text stands on standard input (crates/sample_program/src/lib.rt).
+// Prints the dense samples of the problem whose text stands on standard input (crates/programs/src/samples.rt).
 fn main() {
-    sample_program::run();
+    programs::samples::run();
 }

@@ -8,7 +8,6 @@ pub mod Answers  -- the answer for a table and a budget, and its refusal
 pub mod Promises  -- what is promised of the answer
 -- ---- laws
 pub mod PromisesKept  -- the promises hold of every table and every budget
-pub mod Diagonal  -- the answer does not depend on the times from a tile to itself
 pub mod Examples  -- three tiles by the definitions alone
 pub mod TableLaws  -- what the table's test says
 pub mod LeastLaws  -- where the budget was not used up, no order is cheaper

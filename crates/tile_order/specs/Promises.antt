@@ -1,11 +1,8 @@
 -- What is promised of the answer for n tiles, the table t and the budget b. Definitions only: `PromisesKept` proves it.
-use Rattle.std.specs.Prelude.{ℕ, ◌+◌, ◌-◌, ◌<◌, ◌≤◌, ◌≡◌, true, false, List, length, get_or, take}
-use Rattle.common.specs.declared.Fate.TheVariants.{Going}
+use Rattle.std.specs.Prelude.{ℕ, ◌+◌, ◌-◌, ◌≤◌, ◌≡◌, true, false, List, length, get_or, take}
 use Rattle.tile_order.specs.declared.Found.{Found}
-use Rattle.tile_order.specs.declared.Ordered.{Ordered}
-use Rattle.tile_order.specs.Tables.{time, floor}
+use Rattle.tile_order.specs.Tables.{floor}
 use Rattle.tile_order.specs.Orders.{Order, cost}
-use Rattle.tile_order.specs.Answers.{answer}
 
 pub record Promised (n : ℕ) (t : List ℕ) (b : ℕ) (r : Found) : Type 0 where
   -- it is an order, in the first n of ten places, with 0 in the others, and at its cost
@@ -20,15 +17,3 @@ pub record Promised (n : ℕ) (t : List ℕ) (b : ℕ) (r : Found) : Type 0 wher
   pub least : r.exhausted ≡ false → (o : List ℕ) → Order n o → r.cost ≤ cost n t o
   pub bottom : (o : List ℕ) → Order n o → r.floor ≤ cost n t o
   pub near : (o : List ℕ) → Order n o → r.cost ≤ cost n t o + (r.cost - r.floor)
-
--- two tables of one length with the same time from each tile to each other one
-pub record Alike (n : ℕ) (t u : List ℕ) : Type 0 where
-  pub long : length t ≡ length u
-  pub times : (i j : ℕ) → i < n → j < n → (i ≡ j → ⊥) → time n t i j ≡ time n u i j
-
--- ---- the contract of `order`: the answer; where it is an order, every promise; more budget never gives a dearer order; the diagonal is not read
-pub record Answers (n : ℕ) (t : List ℕ) (b : ℕ) (r : Ordered) : Type 0 where
-  pub is : r ≡ answer n t b
-  pub promised : r.fate ≡ Going → Promised n t b r.found
-  pub more : (b' : ℕ) → b ≤ b' → (answer n t b').found.cost ≤ r.found.cost
-  pub diagonal : (u : List ℕ) → Alike n t u → answer n u b ≡ r

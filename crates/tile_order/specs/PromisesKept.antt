@@ -22,8 +22,7 @@ use Rattle.tile_order.specs.LeastLaws.{visit_least}
 use Rattle.tile_order.specs.MoreLaws.{visit_ahead, visit_nothing}
 use Rattle.tile_order.specs.FloorLaws.{floor_le}
 use Rattle.tile_order.specs.WaysLaws.{ways, ways_up, visit_ways}
-use Rattle.tile_order.specs.Diagonal.{answer_same}
-use Rattle.tile_order.specs.Promises.{Promised, Answers}
+use Rattle.tile_order.specs.Promises.{Promised}
 
 -- the search begins with tile 0 placed, and with the order 0, 1, 2 and so on
 begun : (n : ℕ) (t : List ℕ) → 1 ≤ n → Placed n t 0 (replicate 10 0) 0
@@ -39,15 +38,6 @@ starts : (n b : ℕ) (t : List ℕ) → Table n t → Sound n b t (opening n t)
 starts n b t r =
     let f = straight_is n r.few in
     record { part = straight_part n r.some r.few; long = f.long; past = f.past; price = refl; within = omega arith; used = λ e. never false e refl }
-
--- an order is answered for such a table alone
-going_table : (n : ℕ) (t : List ℕ) (b : ℕ) → (answer n t b).fate ≡ Going → Table n t
-unfolding answer
-going_table n t b g = by (refused n t) refl g
-  where
-    by : (q : Bool) → refused n t ≡ q → (cond q refusal (found (search n t b) (floor n t))).fate ≡ Going → Table n t
-    by true e h = let z : ◌≡◌ {A = ℕ} 0 1 = cc in absurd (omega arith)
-    by false e h = table n t e
 
 -- such a table is answered
 pub given : (n : ℕ) (t : List ℕ) (b : ℕ) → Table n t → of_ordered (answer n t b) ≡ Answer.Given (answer n t b).found
@@ -76,13 +66,6 @@ answered n t b r =
 
     h : Sound n b t (search n t b)
     h = visit_sound n b t (n - 1) 0 _ 0 _ r.few (omega arith) (begun n t r.some) (starts n b t r)
-
-going : (n : ℕ) (t : List ℕ) (b : ℕ) → (answer n t b).fate ≡ Going → Promised n t b (answer n t b).found
-going n t b g = answered n t b (going_table n t b g)
-
--- whatever was answered with an order
-pub kept : (n : ℕ) (t : List ℕ) (b : ℕ) {r : Ordered} → r ≡ answer n t b → r.fate ≡ Going → Promised n t b r.found
-kept n t b e g = rw e (going n t b (rw e at g))
 
 -- anything else is refused, with zeros
 refused_else : (n : ℕ) (t : List ℕ) (b : ℕ) → (Table n t → ⊥) → answer n t b ≡ refusal
@@ -134,15 +117,6 @@ module _ (n : ℕ) (t : List ℕ) (b b' : ℕ) (up : b ≤ b') where
         by : (q : Bool) → (answer n t b).found.exhausted ≡ q → (answer n t b).found.placed ≡ min b (answer n t b').found.placed
         by true e = omega (arith, (answered n t b r).used e, below_need e)
         by false e = rw (settled e) (omega (arith, (answered n t b r).within))
-
--- so whatever is the answer meets the contract of `order`
-pub carries : (n : ℕ) (t : List ℕ) (b : ℕ) {r : Ordered} → r ≡ answer n t b → Answers n t b r
-carries n t b e = record {
-  is = e;
-  promised = kept n t b e;
-  more = λ b' up. rw e (more n t b b' up);
-  diagonal = λ u same. sym (answer_same n b t u same.times same.long) ∙ sym e;
-}
 
 -- a budget of all the ways to place is not used up; ten tiles have 986,409
 pub enough : (n : ℕ) (t : List ℕ) (b : ℕ) → Table n t → ways (n - 1) ≤ b → (answer n t b).found.exhausted ≡ false

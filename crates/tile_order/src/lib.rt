@@ -2,7 +2,6 @@
 // a budget counts the tiles placed. What is found is in specs/Search.antt and specs/Answers.antt, and what that is worth in specs/Promises.antt.
 ghost use Rattle.std.specs.Prelude.{◌≡◌, ◌≤◌};
 ghost use Rattle.tile_order.specs.Answers as Answers;
-ghost use Rattle.tile_order.specs.Promises as Promises;
 ghost use Rattle.tile_order.specs.Orders as Orders;
 
 use common::Fate;
@@ -63,7 +62,7 @@ fn refusal() -> Ordered
 
 // An order of the tiles by a table of the times from each to each, row after row, in at most `budget` placements.
 pub fn order(tiles: usize, times: &[u32], budget: u64) -> Ordered
-    ensures { Promises.Answers tiles times.now budget result }
+    ensures { result ≡ Answers.answer tiles times.now budget }
 {
     if refused(tiles, times) {
         return refusal();

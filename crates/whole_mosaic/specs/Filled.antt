@@ -10,7 +10,7 @@ use Rattle.planner.specs.declared.Planned.{Planned}
 use Rattle.mosaic.specs.Mosaics.{Flight, momenta_at}
 use Rattle.mosaic.specs.Turns.{LegPromised}
 use Rattle.mosaic.specs.declared.Cursor.{Cursor}
-use Rattle.plan_method.specs.declared.PlanMethod.{PlanMethod}
+use Rattle.mosaic.specs.declared.ways.Way.{Way}
 use Rattle.whole_mosaic.specs.Layout as Layout
 
 -- there is a tile more than legs, at most 63 legs, and a row for each leg in lists of a, b, c and d rows
@@ -24,7 +24,7 @@ pub record Lends (legs tiles a b c d : ℕ) : Type 0 where
 
 -- WHAT `plan_mosaic` ANSWERS: the flight's cursor; in each lent list a row for each of its legs, in turn, and behind them what stood there; the workspace (untouched
 -- where no leg began a run, else all +0); and demand 3 of every leg
-pub record Filled (f : Flight) (way : PlanMethod) (p : Problem) (tile : ℕ → Quat) (m : Momenta) (r : Cursor) (counts counts' : List (List ℕ)) (times times' decisions decisions' : List (List Float)) (nodes nodes' : List (List (List Float))) (ws ws' : List Float) : Type 0 where
+pub record Filled (f : Flight) (way : Way) (p : Problem) (tile : ℕ → Quat) (m : Momenta) (r : Cursor) (counts counts' : List (List ℕ)) (times times' decisions decisions' : List (List Float)) (nodes nodes' : List (List (List Float))) (ws ws' : List Float) : Type 0 where
   pub cursor : r ≡ f.cursor
   pub counts_as : counts' ≡ Layout.leg_rows Layout.counts f.legs counts
   pub times_as : times' ≡ Layout.leg_rows Layout.times f.legs times

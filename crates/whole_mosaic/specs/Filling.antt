@@ -16,11 +16,11 @@ use Rattle.planner.specs.Plans.{leaves}
 use Rattle.planner.specs.declared.Planned.{Planned}
 use Rattle.mosaic.specs.Mosaics.{Planner, Flight, most_runs, full_runs_value, start, took, halted, moved, added_by, leg_problem, leg_from, flown, momenta_at}
 use Rattle.mosaic.specs.Turns.{LegPromised, Advances}
-use Rattle.plan_method.specs.MethodLaws.{runs_most}
-use Rattle.plan_method.specs.Methods.{planner_by}
+use Rattle.mosaic.specs.WayLaws.{runs_most}
+use Rattle.mosaic.specs.Ways.{planner_by}
 use Rattle.mosaic.specs.declared.Advanced.{Advanced}
 use Rattle.mosaic.specs.declared.Cursor.{Cursor}
-use Rattle.plan_method.specs.declared.PlanMethod.{PlanMethod}
+use Rattle.mosaic.specs.declared.ways.Way.{Way}
 use Rattle.mosaic_laws.specs.Legs.{legal, going_index, flown_next, stays, each_more}
 use Rattle.mosaic_laws.specs.Turns.{planned_open, next_open}
 use Rattle.whole_mosaic.specs.Filled.{Filled}
@@ -38,7 +38,7 @@ row_as : {A : Type 0} (f : Planned → A) (legs : List Planned) (k : ℕ) → le
 row_as f legs k n leg out out' e h = rw (e, ← n) (put_row_law f legs leg out (omega arith))
 
 -- demand 3 of a leg, by its place
-promised_as : (way : PlanMethod) (size : ℕ) (p : Problem) (tile : ℕ → Quat) (m : Momenta) (legs : List Planned) (k : ℕ) (from to : Quat) (n : Momenta) (leg : Planned) → length legs ≡ k → from ≡ tile k → to ≡ tile (k + 1) → n ≡ momenta_at m legs k
+promised_as : (way : Way) (size : ℕ) (p : Problem) (tile : ℕ → Quat) (m : Momenta) (legs : List Planned) (k : ℕ) (from to : Quat) (n : Momenta) (leg : Planned) → length legs ≡ k → from ≡ tile k → to ≡ tile (k + 1) → n ≡ momenta_at m legs k
     → LegPromised way size p from to n leg → LegPromised way size p (tile (length legs)) (tile (length legs + 1)) (momenta_at m legs (length legs)) leg
 promised_as way size p tile m legs k from to n leg e f g h x = rw (e, ← f, ← g, ← h) x
 
@@ -46,7 +46,7 @@ promised_as way size p tile m legs k from to n leg e f g h x = rw (e, ← f, ←
 pub start_own : {c : Cursor} {m : Momenta} → c ≡ start m → c ≡ start c.momenta
 start_own e = e ∙ ap start (sym (ap (λ (x : Cursor). x.momenta) e))
 
-module _ (way : PlanMethod) (p : Problem) (tile : ℕ → Quat) (m : Momenta) (ws : List Float) where
+module _ (way : Way) (p : Problem) (tile : ℕ → Quat) (m : Momenta) (ws : List Float) where
   abbrev pub plan : Planner
   plan = planner_by way (length ws)
 
@@ -191,7 +191,7 @@ module _ (way : PlanMethod) (p : Problem) (tile : ℕ → Quat) (m : Momenta) (w
         })
 
 -- a mosaic from the same momenta
-pub filled_from : (plan : Planner) (way : PlanMethod) (p : Problem) (tile : ℕ → Quat) (k : ℕ) {m n : Momenta} → m ≡ n → {r : Cursor} {counts counts' : List (List ℕ)} {times times' decisions decisions' : List (List Float)} {nodes nodes' : List (List (List Float))} {ws ws' : List Float}
+pub filled_from : (plan : Planner) (way : Way) (p : Problem) (tile : ℕ → Quat) (k : ℕ) {m n : Momenta} → m ≡ n → {r : Cursor} {counts counts' : List (List ℕ)} {times times' decisions decisions' : List (List Float)} {nodes nodes' : List (List (List Float))} {ws ws' : List Float}
     → Filled (flown plan p tile m k) way p tile m r counts counts' times times' decisions decisions' nodes nodes' ws ws'
     → Filled (flown plan p tile n k) way p tile n r counts counts' times times' decisions decisions' nodes nodes' ws ws'
 filled_from plan way p tile k e h = rw e at h

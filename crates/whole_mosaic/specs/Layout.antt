@@ -2,23 +2,15 @@
 use Rattle.std.specs.Prelude.{ℕ, ◌-◌, cond, List, [], ◌∷◌, ◌++◌, map, ltb, length, drop, Float}
 use Rattle.common.specs.declared.Fate.{Fate}
 use Rattle.common.specs.declared.Fate.TheVariants.{Going, Refused}
-use Rattle.held_counts.specs.Counts.{count_at_value}
 use Rattle.problem.specs.declared.Momenta.{Momenta}
 use Rattle.problem.specs.declared.Problem.{Problem}
 use Rattle.planner.specs.declared.Planned.{Planned}
 use Rattle.samples.specs.Rows.{rows}
 use Rattle.mosaic.specs.Mosaics.{Planner, Flight, count_fate, nothing, tile_of, flown}
 
--- how many of the controls at each of a row's 12 places were held to their limits
-abbrev pub held : List ℕ → List ℕ
-held h =
-    count_at_value h 0 ∷ count_at_value h 1 ∷ count_at_value h 2 ∷ count_at_value h 3 ∷ count_at_value h 4 ∷ count_at_value h 5
-    ∷ count_at_value h 6 ∷ count_at_value h 7 ∷ count_at_value h 8 ∷ count_at_value h 9 ∷ count_at_value h 10 ∷ count_at_value h 11
-    ∷ []
-
--- forward runs, controls in a row, wheels, iterations; then the counts of held controls
+-- forward runs, controls in a row, wheels, iterations
 abbrev pub counts : Planned → List ℕ
-counts leg = leg.runs ∷ leg.path.controls ∷ leg.path.wheels ∷ leg.path.iterations ∷ held leg.path.held
+counts leg = leg.runs ∷ leg.path.controls ∷ leg.path.wheels ∷ leg.path.iterations ∷ []
 
 -- duration, largest defect
 abbrev pub times : Planned → List Float

@@ -5,4 +5,3 @@ pub mod Filled  -- what the code asks for, and what it answers
 -- ---- laws
 pub mod Filling  -- k legs are answered, their rows stand, and the mosaic goes on
 pub mod Rooms  -- counts of tiles and of lent rows, in the code's steps
-pub mod Wholes  -- where the rows suffice: the whole mosaic, 23, the cut at an inner tile

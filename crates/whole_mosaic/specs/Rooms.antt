@@ -10,8 +10,8 @@ use Rattle.forward.specs.StepLaws.{refused_going}
 use Rattle.planner.specs.PlanLaws.{leaves_none}
 use Rattle.mosaic.specs.Mosaics.{Planner, start, halted, count_fate, flown, tile_of}
 use Rattle.mosaic.specs.declared.Cursor.{Cursor}
-use Rattle.plan_method.specs.declared.PlanMethod.{PlanMethod}
-use Rattle.mosaic_laws.specs.Tiles.{count_least, count_most}
+use Rattle.mosaic.specs.declared.ways.Way.{Way}
+use Rattle.mosaic_laws.specs.Tiles.{count_least}
 use Rattle.whole_mosaic.specs.Filled.{Lends, Filled}
 use Rattle.whole_mosaic.specs.Layout.{room_fate, lent_fate_by, lent_fate, lent}
 
@@ -50,6 +50,14 @@ module _ (tiles a b c d : ℕ) {f : Fate} (e : f ≡ count_fate tiles) where
   unfolding lent_fate
   tiles_room g = rw (← e, g) refl
 
+count_most : (count : ℕ) → count_fate count ≡ Going → count ≤ 64
+count_most count e = by (ltb count 2) (ltb 64 count) refl e
+  where
+    by : (x y : Bool) → ltb 64 count ≡ y → cond x (Refused 23 0) (cond y (Refused 23 0) Going) ≡ Going → count ≤ 64
+    by true y h g = absurd (refused_going g)
+    by false true h g = absurd (refused_going g)
+    by false false h g = ltb-false _ _ h
+
 module _ (tiles a b c d : ℕ) where
   counted : (e : Fate) → count_fate tiles ≡ e → lent_fate_by e tiles a b c d ≡ Going → Lends (tiles - 1) tiles a b c d
   counted (Refused n k) h g = absurd (refused_going g)
@@ -71,7 +79,7 @@ module _ (tiles a b c d : ℕ) where
   lends_tile e g = let l = lends e g in omega (arith, l.enough)
 
 -- ---- the whole mosaic
-module _ (plan : Planner) (way : PlanMethod) (p : Problem) (m : Momenta) (tiles : List (List Float)) (counts : List (List ℕ)) (times decisions : List (List Float)) (nodes : List (List (List Float))) (ws : List Float)
+module _ (plan : Planner) (way : Way) (p : Problem) (m : Momenta) (tiles : List (List Float)) (counts : List (List ℕ)) (times decisions : List (List Float)) (nodes : List (List (List Float))) (ws : List Float)
     {f : Fate} (e : f ≡ lent_fate (length tiles) (length counts) (length times) (length decisions) (length nodes)) where
   pub filled_not : {n k : ℕ} {c r : Cursor} → f ≡ Refused n k → c ≡ start m → r ≡ halted c n k 0
       → Filled (lent plan p tiles m (length counts) (length times) (length decisions) (length nodes)) way p (tile_of tiles) m r counts counts times times decisions decisions nodes nodes ws ws

@@ -1,14 +1,14 @@
 // The whole mosaic into lent lists, a row for each answered leg, over a mosaic's turns.
 ghost use Rattle.std.specs.Prelude.{◌≡◌, length};
 ghost use Rattle.mosaic.specs.Mosaics as Mosaics;
-ghost use Rattle.plan_method.specs.Methods as Methods;
+ghost use Rattle.mosaic.specs.Ways as Ways;
 ghost use Rattle.whole_mosaic.specs.Filled as Filled;
 ghost use Rattle.whole_mosaic.specs.Layout as Layout;
 
 use common::{Decision, Fate, SOLVER_NODES};
 use geom::Quat;
+use mosaic::ways::Way;
 use mosaic::{Cursor, check_count, halted, next, start};
-use plan_method::PlanMethod;
 use planner::Planned;
 use problem::{Momenta, Problem};
 use samples::rows::rows;
@@ -25,30 +25,12 @@ pub fn quat_of(v: [f64; 4]) -> Quat
     }
 }
 
-// A leg's forward runs, controls in a row, wheels and iterations; then how many controls at each place of a row were held.
-fn counts_of(leg: Planned) -> [usize; 16]
+// A leg's forward runs, controls in a row, wheels and iterations.
+fn counts_of(leg: Planned) -> [usize; 4]
     ensures { result ≡ Layout.counts leg }
 {
     let path = leg.path;
-    let h = path.held;
-    [
-        leg.runs,
-        path.controls,
-        path.wheels,
-        path.iterations,
-        h[0],
-        h[1],
-        h[2],
-        h[3],
-        h[4],
-        h[5],
-        h[6],
-        h[7],
-        h[8],
-        h[9],
-        h[10],
-        h[11],
-    ]
+    [leg.runs, path.controls, path.wheels, path.iterations]
 }
 
 // A leg's duration and largest defect.
@@ -62,18 +44,18 @@ fn times_of(leg: Planned) -> [f64; 2]
 // The legs over the tiles 0 to `legs`, up to the first that is refused.
 fn put_legs(
     p: Problem,
-    way: PlanMethod,
+    way: Way,
     m: Momenta,
     tiles: &[[f64; 4]],
     legs: usize,
-    counts: &mut [[usize; 16]],
+    counts: &mut [[usize; 4]],
     times: &mut [[f64; 2]],
     decisions: &mut [Decision],
     nodes: &mut [[[f64; 22]; SOLVER_NODES]],
     ws: &mut [f64],
 ) -> Cursor
     requires { Filled.Lends legs (length tiles.now) (length counts.old) (length times.old) (length decisions.old) (length nodes.old) }
-    ensures { Filled.Filled (Mosaics.flown (Methods.planner_by way (length ws.old)) p (Mosaics.tile_of tiles.now) m legs) way p
+    ensures { Filled.Filled (Mosaics.flown (Ways.planner_by way (length ws.old)) p (Mosaics.tile_of tiles.now) m legs) way p
         (Mosaics.tile_of tiles.now) m result counts.old counts.new times.old times.new
         decisions.old decisions.new nodes.old nodes.new ws.old ws.new }
 {
@@ -139,21 +121,20 @@ fn check_tiles(tiles: usize, counts: usize, times: usize, decisions: usize, node
 }
 
 // The whole mosaic of 2 to 64 tiles from the momenta m, by a way: 23, then 99 where too few rows are lent, then the legs. A refused leg ends it, and the rows of the legs
-// before it stand. What stands behind the answered legs' rows stays as it was. `Wholes` has what follows from the contract: 23 whatever is lent (`filled_refused`), the whole
-// mosaic (`filled_whole`), its cut at an inner tile (`filled_cut`, `filled_cut_refused`).
+// before it stand. What stands behind the answered legs' rows stays as it was.
 pub fn plan_mosaic(
     p: Problem,
-    way: PlanMethod,
+    way: Way,
     m: Momenta,
     tiles: &[[f64; 4]],
-    counts: &mut [[usize; 16]],
+    counts: &mut [[usize; 4]],
     times: &mut [[f64; 2]],
     decisions: &mut [Decision],
     nodes: &mut [[[f64; 22]; SOLVER_NODES]],
     ws: &mut [f64],
 ) -> Cursor
     ensures { Filled.Filled
-        (Layout.lent (Methods.planner_by way (length ws.old)) p tiles.now m (length counts.old) (length times.old) (length decisions.old) (length nodes.old))
+        (Layout.lent (Ways.planner_by way (length ws.old)) p tiles.now m (length counts.old) (length times.old) (length decisions.old) (length nodes.old))
         way p (Mosaics.tile_of tiles.now) m result counts.old counts.new times.old times.new
         decisions.old decisions.new nodes.old nodes.new ws.old ws.new }
 {

@@ -21,7 +21,7 @@ returns c =
     let t = c.equations in
     let s = c.solve_dense in
     step_solved (length a.g-1.now) a.m _ a.v-1.now a.r.now a.lambda t.new.0 t.new.1.1.1.1.0 s.new.0 s.new.1.0 s.result
-    t.auto.1.1.1.1.0 (t.auto.0 ∙ entry.requires.2) t.ensures s.auto.0 s.ensures
+    t.auto.1.1.1.1.0 (t.auto.0 ∙ entry.requires.2) t.ensures s.ensures
 
 pub damped_step_spec : {M : Type 1} → statement M
 damped_step_spec =

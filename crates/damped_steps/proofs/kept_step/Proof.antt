@@ -6,7 +6,7 @@ use mathlib.Core.Path.{sym, ◌∙◌}
 use lib.ListN.{length}
 use lib.Seq.{length-take-le}
 use Rattle.normal_equations.specs.RowsLaws.{rows_take}
-use Rattle.damped_steps.specs.StepLaws.{matrix_fits, step_solved, told_step}
+use Rattle.damped_steps.specs.StepLaws.{matrix_fits, step_solved}
 use Rattle.damped_steps.proofs.kept_step.Statement.{statement}
 use Rattle.damped_steps.proofs.kept_step.Tie as tie
 
@@ -21,9 +21,6 @@ kept-equations-requires c κs =
     let h : n * n ≤ length a.gram.now = omega arith in
     (entry.requires.0, entry.requires.1, entry.requires.2, length-take-le (n * n) a.gram.now h, rows_take n n a.gram.now h ∙ entry.requires.3 h)
 
-returns : tie.Need-returns-then-size-gram
-returns c = let done = c.damped_step.ensures in (done.columns, told_step done)
-
 solve-dense-requires : tie.Need-solve_dense-requires
 solve-dense-requires c κs =
     let entry = c.before.before.before.before.before.before.before.before.before.before.before.before.before.before.before in
@@ -37,9 +34,8 @@ returns_2 c =
     let a = entry.args in
     let t = c.kept_equations in
     let s = c.solve_dense in
-    let done = step_solved (length a.g-1.now) a.m _ a.v-1.now a.r.now a.lambda t.new.0 t.new.1.1.1.1.1.0 s.new.0 s.new.1.0 s.result
-    t.auto.1.1.1.1.1.0 (t.auto.0 ∙ entry.requires.2) t.ensures s.auto.0 s.ensures in
-    (done.columns, told_step done)
+    step_solved (length a.g-1.now) a.m _ a.v-1.now a.r.now a.lambda t.new.0 t.new.1.1.1.1.1.0 s.new.0 s.new.1.0 s.result
+    t.auto.1.1.1.1.1.0 (t.auto.0 ∙ entry.requires.2) t.ensures s.ensures
 
 pub kept_step_spec : {M : Type 1} → statement M
 kept_step_spec =
@@ -49,7 +45,7 @@ kept_step_spec =
     (λ c κs. search rules)
     (λ c. search rules)
     (λ c. search rules)
-    returns
+    (λ c. search rules)
     (λ c. search rules)
     slice-aggregate-kept-equations
     kept-equations-requires

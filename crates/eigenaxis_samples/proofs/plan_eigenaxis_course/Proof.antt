@@ -1,6 +1,5 @@
 -- `eigenaxis_samples::plan_eigenaxis_course` meets its contract: what was read and planned is the text's plan, and the runs are the plan's. Assumes nothing.
-use Rattle.sample_laws.specs.BetweenKept.{promised_between}
-use Rattle.sample_text.specs.SampleTextLaws.{course_between, runs_of}
+use Rattle.sample_text.specs.SampleTextLaws.{runs_of}
 use Rattle.eigenaxis_samples.specs.CourseLaws.{course_planned}
 use borrow.Author.Rules.{rules}
 use Rattle.eigenaxis_samples.proofs.plan_eigenaxis_course.Statement.{statement}
@@ -11,11 +10,7 @@ returns c =
     let at-planned = c.before.before.before.before in
     let at_read = at-planned.before.before.before in
     let made = at-planned.plan_eigenaxis_read-a.ensures in
-    record {
-      is = course_planned _ _ _ at_read.read-read.ensures made.0 c.alpha_of.ensures c.course_of.ensures;
-      left = rw (c.course_of.ensures, runs_of) made.1;
-      between = course_between _ _ _ c.course_of.ensures (λ g. promised_between (made.2.given g));
-    }
+    (course_planned _ _ _ at_read.read-read.ensures made.0 c.alpha_of.ensures c.course_of.ensures, rw (c.course_of.ensures, runs_of) made.1)
 
 pub plan_eigenaxis_course_spec : {M : Type 1} → statement M
 plan_eigenaxis_course_spec = tie.close (tie.spec (search rules) (search rules) (search rules) (search rules) (search rules) returns)

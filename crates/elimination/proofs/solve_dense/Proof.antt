@@ -40,6 +40,7 @@ two_more n k m x y z e f g =
     rw t at (iter_next (Elimination.column n) m (k + 1) (iter_next (Elimination.column n) m k e refl) (sym (f ∙ g)))
 
 returns : tie.Need-returns-then-not-columns invariant_loop decreases_loop
+unfolding Elimination.solve_dense
 returns c = let a = c.args in
     let l = c.loop-k in
     let t = c.columns in
@@ -48,7 +49,7 @@ returns c = let a = c.args in
     let g : t.result ≡ false = not-true _ c.if-not-columns.true in
     let f : Elimination.column n (l.k + 1) (Elimination.column n l.k (Elimination.going (rows n n l.a-1) l.b-1)) ≡ Elimination.after t.result m t.new.1.0 =
     subst (λ w. Elimination.column w (l.k + 1) (Elimination.column w l.k (Elimination.going (rows w w l.a-1) l.b-1)) ≡ Elimination.after t.result (rows w w t.new.0) t.new.1.0) l.invariant.6 t.ensures in
-    iter_stays _ _ (l.k + 2) n (omega arith) (two_more n l.k _ _ _ _ l.invariant.7 f (ap (λ r. Elimination.after r m t.new.1.0) g)) (λ j. refl)
+    ap Elimination.solution_of (iter_stays _ _ (l.k + 2) n (omega arith) (two_more n l.k _ _ _ _ l.invariant.7 f (ap (λ r. Elimination.after r m t.new.1.0) g)) (λ j. refl))
 
 loop-again : tie.Need-loop-k-preserved invariant_loop decreases_loop
 loop-again c = let a = c.args in
@@ -70,11 +71,12 @@ loop-again c = let a = c.args in
     )
 
 returns_2 : tie.Need-returns-then-k-n invariant_loop decreases_loop
+unfolding Elimination.solve_dense
 returns_2 c =
     let entry = c.before.before.before.before.before in
     let l = c.loop-k in
     let e : l.k ≡ length entry.args.b-1.now = omega arith in
-    rw e at l.invariant.7
+    ap Elimination.solution_of (rw e at l.invariant.7)
 
 column-requires : tie.Need-column-requires invariant_loop decreases_loop
 column-requires c κs = let s = c.before.before.before.before.before.before.before.before.before.before in
@@ -91,13 +93,18 @@ last : (n k : ℕ) (m x y : Elimination.Stage) → k + 1 ≡ n → x ≡ iter (E
 last n k m x y e f g = rw e at (iter_next (Elimination.column n) m k f (sym g))
 
 returns_3 : tie.Need-returns invariant_loop decreases_loop
+unfolding Elimination.solve_dense
 returns_3 c = let a = c.args in
     let l = c.loop-k in
     let t = c.column in
     let n : ℕ = length a.b-1.now in
     let f : Elimination.column n l.k (Elimination.going (rows n n l.a-1) l.b-1) ≡ Elimination.after t.result (rows n n t.new.0) t.new.1.0 =
     subst (λ w. Elimination.column w l.k (Elimination.going (rows w w l.a-1) l.b-1) ≡ Elimination.after t.result (rows w w t.new.0) t.new.1.0) l.invariant.6 t.ensures in
-    last n l.k _ _ _ (omega arith) l.invariant.7 f
+    told t.result (rows n n t.new.0) t.new.1.0 ∙ ap Elimination.solution_of (last n l.k _ _ _ (omega arith) l.invariant.7 f)
+  where
+    told : (r : Bool) (x : List (List Float)) (y : List Float) → Elimination.told r y ≡ Elimination.solution_of (Elimination.after r x y)
+    told true x y = refl
+    told false x y = refl
 
 pub solve_dense_spec : {M : Type 1} → statement M
 solve_dense_spec =

@@ -1,5 +1,4 @@
 -- `slew_plan_eigenaxis_numbers` meets its contract, by the contracts of what it calls. Assumes nothing.
-use Rattle.plan_method.specs.MethodLaws.{eigenaxis_answers}
 use borrow.Author.Rules.{rules}
 use Rattle.export_eigenaxis.proofs.slew_plan_eigenaxis_numbers.Statement.{statement}
 use Rattle.export_eigenaxis.proofs.slew_plan_eigenaxis_numbers.Tie as tie
@@ -9,11 +8,7 @@ returns c =
     let made = c.before.before.before.before.before.before.before.before.before in
     let problem = made.before.before in
     let is = rw (problem.problem_of-p.ensures, problem.shape_of-shape.ensures) at made.plan_counted-planned.ensures.0 in
-    let answers = eigenaxis_answers _ _ _ made.plan_counted-planned.ensures.0 made.plan_counted-planned.ensures.1.1 in
-    record {
-      entry_told = record { plan_told = rw is at c.put_planned.ensures; left = rw (made.plan_counted-planned.ensures.1.0, is) };
-      promised = rw (problem.problem_of-p.ensures, problem.shape_of-shape.ensures, is) at answers;
-    }
+    record { plan_told = rw is at c.put_planned.ensures; left = rw (made.plan_counted-planned.ensures.1.0, is) }
 
 pub slew_plan_eigenaxis_numbers_spec : {M : Type 1} → statement M
 slew_plan_eigenaxis_numbers_spec =

@@ -13,9 +13,8 @@ returns c =
 
 returns_2 : tie.Need-returns-in-Unknown
 returns_2 c =
-    let start = c.before.before in
-    let told = start.before in
-    fills_not _ _ (sym told.in-Unknown.is ∙ told.asked_of-asked.ensures) start.start.ensures c.unasked.ensures c.halted.ensures
+    let told = c.before.before in
+    fills_not _ _ (sym told.in-Unknown.is ∙ told.asked_of-asked.ensures) c.start.ensures c.halted.ensures
 
 pub fill_spec : {M : Type 1} → statement M
 fill_spec =
@@ -25,7 +24,6 @@ fill_spec =
     (λ c. search rules)
     (λ c κs. search rules)
     (λ c. search rules)
-    (λ c κs. search rules)
     (λ c κs. search rules)
     (λ c κs. search rules)
     (λ c. search rules)

@@ -9,10 +9,7 @@ returns c =
     let made = put.before.before.before.before.before in
     let momenta = made.before.before in
     let is = rw (momenta.problem_of-p.ensures, momenta.momenta_of-m.ensures) at made.preview_from-made.ensures.0 in (
-      record {
-        entry_told = record { plan_told = rw is at c.put_planned.ensures; left = rw (made.preview_from-made.ensures.1.0, is) };
-        promised = rw (momenta.problem_of-p.ensures, momenta.momenta_of-m.ensures, is) at made.preview_from-made.ensures.1.1;
-      },
+      record { plan_told = rw is at c.put_planned.ensures; left = rw (made.preview_from-made.ensures.1.0, is) },
       (rw (put.put_began.ensures.0, is), rw (put.put_began.ensures.1, is)),
     )
 

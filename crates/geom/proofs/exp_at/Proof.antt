@@ -25,4 +25,4 @@ exp_at_spec =
     tie.close
     (tie.spec
     (λ c. search rules) (λ c. search rules) (λ c. search rules) returns (λ c κs. search rules) (λ c. search rules) (λ c. search rules)
-    returns_2 returns_3)
+    (λ c. search rules) (λ c. search rules) (λ c. search rules) returns_2 returns_3)

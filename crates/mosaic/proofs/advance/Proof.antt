@@ -1,5 +1,5 @@
 -- `mosaic::advance` meets its contract: `runs_most` bounds the leg's runs, as `moved` asks, and `turned` puts the callees' contracts together.
-use Rattle.plan_method.specs.MethodLaws.{runs_most}
+use Rattle.mosaic.specs.WayLaws.{runs_most}
 use Rattle.mosaic.proofs.Steps.{turned}
 use borrow.Author.Rules.{rules}
 use Rattle.mosaic.proofs.advance.Statement.{statement}

@@ -18,4 +18,4 @@ pub order_few_spec : {M : Type 1} → statement M
 order_few_spec =
     tie.close
     (tie.spec (λ c. omega (arith, few c.args.n c.requires)) array-share-prefix-times
-    (λ c. let within = array-share-prefix-times c.before in search (rules, within, length-take-le)) (search rules) (λ c. c.order.ensures.is))
+    (λ c. let within = array-share-prefix-times c.before in search (rules, within, length-take-le)) (search rules) (λ c. c.order.ensures))

@@ -5,7 +5,7 @@ use Rattle.order_text.proofs.order_read.Statement.{statement}
 use Rattle.order_text.proofs.order_read.Tie as tie
 
 returns : tie.Need-returns-then-n-gt10
-returns c = rw (lt-ltb _ _ c.if-n-gt10.true) c.order.ensures.is
+returns c = rw (lt-ltb _ _ c.if-n-gt10.true) c.order.ensures
 
 returns_2 : tie.Need-returns
 returns_2 c = rw (le-ltb _ _ c.if-n-gt10.false) c.order_few.ensures

@@ -1,19 +1,18 @@
 -- `plan_text::plan_read` meets its contract: by how the reading ended, a refusal before any run, or the planner's answer. Assumes nothing.
 use mathlib.Core.Path.{◌∙◌}
 use Rattle.planner.specs.PlanLaws.{leaves_none}
-use Rattle.plan_text.specs.PlanTextLaws.{refused_answers}
 use borrow.Author.Rules.{rules}
 use Rattle.plan_text.proofs.plan_read.Statement.{statement}
 use Rattle.plan_text.proofs.plan_read.Tie as tie
 
 returns : tie.Need-returns-in-Refused
-returns c = (c.refused.ensures ∙ rw c.in-Refused.is, rw c.refused.ensures (leaves_none _), rw c.refused.ensures (refused_answers _ _ _ _))
+returns c = (c.refused.ensures ∙ rw c.in-Refused.is, rw c.refused.ensures (leaves_none _))
 
 returns_2 : tie.Need-returns-in-Going
 returns_2 c =
     let at-plan = c.before.before in
     let made = at-plan.plan.ensures in
-    (made.0 ∙ rw at-plan.enum_told-1.given.1, made.1.0, made.1.1)
+    (made.0 ∙ rw at-plan.enum_told-1.given.1, made.1.0)
 
 pub plan_read_spec : {M : Type 1} → statement M
 plan_read_spec = tie.close (tie.spec (search rules) (search rules) (search rules) (search rules) returns (search rules) returns_2)

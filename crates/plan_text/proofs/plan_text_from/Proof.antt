@@ -1,13 +1,11 @@
 -- `plan_text::plan_text_from` meets its contract: a short buffer gets nothing; else the plan of what was read is told. Assumes nothing.
-use Rattle.plan_text.specs.PlanTextLaws.{text_planned, text_promised, tells_short, tells}
-use native.Mathlib.Omega.{arith}
-use Rattle.plan_text.specs.PlanTexts.{seed_from}
+use Rattle.plan_text.specs.PlanTextLaws.{text_planned, tells_short, tells}
 use borrow.Author.Rules.{rules}
 use Rattle.plan_text.proofs.plan_text_from.Statement.{statement}
 use Rattle.plan_text.proofs.plan_text_from.Tie as tie
 
 returns : tie.Need-returns-then-out-lt16384
-returns c = record { tells = tells_short _ _ c.no_room.ensures c.if-out-lt16384.true; promised = λ h. absurd (omega arith) }
+returns c = tells_short _ _ c.no_room.ensures c.if-out-lt16384.true
 
 returns_2 : tie.Need-returns
 returns_2 c =
@@ -15,8 +13,7 @@ returns_2 c =
     let at-plan-read-from = at-tell.before.before.before.before in
     let at_read = at-plan-read-from.before.before in
     let made = at-plan-read-from.plan_read_from-a.ensures in
-    let is = text_planned _ _ at_read.read.ensures made.0 in
-    record { tells = tells _ _ at_read.if-out-lt16384.false is made.1 at-tell.tell.ensures; promised = λ h. text_promised _ (seed_from at_read.args.seed.now) at_read.read.ensures is made.2 }
+    tells _ _ at_read.if-out-lt16384.false (text_planned _ _ at_read.read.ensures made.0) made.1 at-tell.tell.ensures
 
 pub plan_text_from_spec : {M : Type 1} → statement M
 plan_text_from_spec = tie.close (tie.spec (search rules) returns (search rules) (search rules) (search rules) (search rules) (search rules) returns_2)

@@ -1,47 +1,36 @@
--- `refusal_text::line_for` meets its contract: each arm is its definition's. Assumes nothing.
-use native.Mathlib.Omega.{arith}
+-- `refusal_text::line_for` meets its contract: the loop keeps the last line for the refusal up to here, which is `iter` of the definition's turn. Assumes nothing.
+use Prim.Native.Nat.{◌-◌, ◌≤◌}
 use mathlib.Core.Path.{◌≡◌}
-use borrow.Author.Tests.{eq-eqb, ne_eqb, le-leb, lt-leb}
-use Rattle.refusal_text.specs.Sentences.{line_for}
+use native.Mathlib.Omega.{arith}
+use lib.ListN.{length}
+use Rattle.common.specs.Iter.{iter}
+use Rattle.common.specs.IterLaws.{iter_none, iter_next}
 use borrow.Author.Rules.{rules}
+use Rattle.refusal_text.specs.Sentences.{later, line_for}
+use Rattle.refusal_text.specs.TableLaws.{later_most}
 use Rattle.refusal_text.proofs.line_for.Statement.{statement}
 use Rattle.refusal_text.proofs.line_for.Tie as tie
 
-samples : tie.Need-returns-in-20
-unfolding line_for
-samples c = let e : c.args.n ≡ 20 = c.in-20.is in rw (e, c.at_most.ensures.0)
+abbrev invariant_loop : tie.invariant-loop-k
+invariant_loop t n place when found₀ k₀ found k = (k ≤ length t) × (found ≤ k) × (found ≡ iter (later t n place when) 0 k)
 
-text : tie.Need-returns-in-21
-unfolding line_for
-text c = let e : c.args.n ≡ 21 = c.in-21.is in rw (e, c.at_most-in-21.ensures.0)
+abbrev decreases_loop : tie.decreases-loop-k
+decreases_loop t n place when found₀ k₀ found k = length t - k
 
-arguments : tie.Need-returns-in-1-to-10
-unfolding line_for
-arguments c = let n = c.args.n in rw (ne_eqb n 0 (λ z. omega arith), le-leb n 10 (omega arith)) c.argument.ensures
+loop-holds : tie.Need-loop-k-init invariant_loop decreases_loop
+loop-holds c = (omega arith, omega arith, iter_none _ 0)
 
-runs : tie.Need-returns-in-11-to-13
-unfolding line_for
-runs c = let n = c.args.n in rw (ne_eqb n 0 (λ z. omega arith), lt-leb n 10 (omega arith), le-leb n 13 (omega arith)) c.run.ensures
+loop-again : tie.Need-loop-k-preserved invariant_loop decreases_loop
+loop-again c =
+    let l = c.loop-k in
+    (omega arith, rw c.later-found.ensures (later_most _ _ _ _ _ _ (omega arith)), iter_next _ _ _ l.invariant.2 c.later-found.ensures)
 
-end-checks : tie.Need-returns-in-14-to-19
+returns : tie.Need-returns invariant_loop decreases_loop
 unfolding line_for
-end-checks c = let n = c.args.n in rw (ne_eqb n 0 (λ z. omega arith), lt-leb n 10 (omega arith), lt-leb n 13 (omega arith), le-leb n 19 (omega arith))
-
-requests : tie.Need-returns-in-22-to-30
-unfolding line_for
-requests c =
-    let m = c.in-22-to-30.in_default-own.rest in
-    let n = c.args.n in rw (ne_eqb n 0 (λ z. omega arith), lt-leb n 10 (omega arith), lt-leb n 13 (omega arith), lt-leb n 19 (omega arith), ne_eqb n 20 m.0.1, ne_eqb n 21 m.1, le-leb n 30 (omega arith))
-
-none : tie.Need-returns-in_default
-unfolding line_for
-none c = rw (eq-eqb c.args.n 0 (omega arith))
-
-past : tie.Need-returns-in_default-2
-unfolding line_for
-past c =
-    let m = c.in_default.in_default-own.rest in
-    let n = c.args.n in rw (ne_eqb n 0 (λ z. omega arith), lt-leb n 10 (omega arith), lt-leb n 13 (omega arith), lt-leb n 19 (omega arith), ne_eqb n 20 m.0.1, ne_eqb n 21 m.1, lt-leb n 30 (omega arith))
+returns c =
+    let l = c.loop-k in
+    let e : l.k ≡ length c.args.t.now = omega arith in
+    (rw e at l.invariant.2, omega arith)
 
 pub line_for_spec : {M : Type 1} → statement M
-line_for_spec = tie.close (tie.spec (search rules) (search rules) (search rules) (search rules) (search rules) (search rules) (search rules) (search rules) samples text arguments runs end-checks requests none past)
+line_for_spec = tie.close (tie.spec invariant_loop decreases_loop loop-holds (search rules) (search rules) (search rules) loop-again returns)

@@ -12,7 +12,7 @@ returns_2 c =
     let put = c.put_dense.ensures in
     let sampled = c.before.before.before.before in
     let made = sampled.plan_course-c.ensures in
-    gives _ _ _ _ _ sampled.if-out-lt14.false made sampled.sample_course-d.ensures put.0 put.1
+    gives _ _ _ _ _ sampled.if-out-lt14.false made.0 sampled.sample_course-d.ensures put.0 made.1 put.1
 
 pub sample_text_spec : {M : Type 1} → statement M
 sample_text_spec = tie.close (tie.spec returns (search rules) (search rules) (search rules) (search rules) (search rules) returns_2)

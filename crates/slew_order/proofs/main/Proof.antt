@@ -6,7 +6,7 @@ use Rattle.slew_order.proofs.main.Statement.{statement}
 use Rattle.slew_order.proofs.main.Tie as tie
 
 array-share-prefix-out : tie.Need-slice_bounds-out-end
-array-share-prefix-out c = omega (arith, c.answer-told.ensures.within)
+array-share-prefix-out c = omega (arith, c.order_text-told.ensures.within)
 
 slice-aggregate-write-all : tie.Need-slice_bounds-write_all-end
 slice-aggregate-write-all c = let within = array-share-prefix-out c.before in search (rules, within, length-take-le)

@@ -3,7 +3,6 @@ use Rattle.tile_order.specs.Answers.{answer, found}
 use Rattle.tile_order.specs.Tables.{Table}
 use Rattle.tile_order.specs.TableLaws.{table}
 use Rattle.tile_order.specs.OrderLaws.{straight_part, zeros}
-use Rattle.tile_order.specs.PromisesKept.{carries}
 use Rattle.tile_order.specs.LinkLaws.{fresh_links}
 use mathlib.Core.Path.{refl, sym, ap₂, ◌∙◌}
 use native.Mathlib.Omega.{arith}
@@ -16,7 +15,7 @@ taken c = table _ _ (sym c.refused.ensures ∙ c.if-refused.false)
 
 returns : tie.Need-returns-then-refused
 unfolding answer
-returns c = carries _ _ _ (rw (sym c.refused.ensures ∙ c.if-refused.true) c.refusal.ensures)
+returns c = rw (sym c.refused.ensures ∙ c.if-refused.true) c.refusal.ensures
 
 returns_2 : tie.Need-returns
 unfolding answer
@@ -24,9 +23,8 @@ returns_2 c =
     let f = c.before.before.before.before.before.before in
     let k = f.before in
     let s = k.before.before in
-    carries _ _ _
-    (rw (sym s.refused.ensures ∙ s.if-refused.false)
-    (ap₂ found (rw (k.cost_of-bound.ensures, s.straight-best.ensures) at c.visit-exhausted.ensures.0) f.floor-lowest.ensures))
+    rw (sym s.refused.ensures ∙ s.if-refused.false)
+    (ap₂ found (rw (k.cost_of-bound.ensures, s.straight-best.ensures) at c.visit-exhausted.ensures.0) f.floor-lowest.ensures)
 
 pub order_spec : {M : Type 1} → statement M
 order_spec =

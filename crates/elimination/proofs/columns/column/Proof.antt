@@ -1,6 +1,6 @@
 -- `elimination::columns::column` meets its contract: `begin` leaves only the elimination in a, which `eliminate` does; a refused pivot ends it.
 use borrow.Author.Tests.{not-true, not-false}
-use mathlib.Core.Bool.{true, false, cond}
+use mathlib.Core.Bool.{true, false}
 use Rattle.elimination.specs.Elimination as Elimination
 use Rattle.normal_equations.specs.Rows.{row, rows}
 use lib.Ieee.{Float}
@@ -18,7 +18,7 @@ returns c = let a = c.args in
     let n : ℕ = length a.b-1.now in
     let f = c.begin in
     let g : f.result ≡ false = not-true _ c.if-not-begin.true in
-    f.ensures.stage ∙ ap (λ r. Elimination.after r (cond r (Elimination.eliminate n a.k (rows n n f.new.0)) (rows n n f.new.0)) f.new.1.0) g
+    f.ensures.stage ∙ ap (λ r. Elimination.after r (Elimination.eliminate n a.k (rows n n f.new.0)) f.new.1.0) g
 
 eliminate-requires : tie.Need-eliminate-requires
 eliminate-requires c κs = let s = c.before.before.before.before.before.before.before.before.before.before.before.before.before.before.before.before.before.before.before.before.before.before.before.before in
@@ -38,7 +38,7 @@ returns_2 c =
     let g : f.result ≡ true = not-false _ if1.false in
     let done : rows n n e.new.0 ≡ Elimination.eliminate n k (rows n n f.new.0) =
     subst (λ w. rows w w e.new.0 ≡ Elimination.eliminate w k (rows w w f.new.0)) (f.auto.1.1.0 ∙ s.requires.0.tops) e.ensures in
-    f.ensures.stage ∙ ap (λ r. Elimination.after r (cond r (Elimination.eliminate n k (rows n n f.new.0)) (rows n n f.new.0)) f.new.1.0) g
+    f.ensures.stage ∙ ap (λ r. Elimination.after r (Elimination.eliminate n k (rows n n f.new.0)) f.new.1.0) g
     ∙ ap (λ x. Elimination.going x f.new.1.0) (sym done)
 
 pub column_spec : {M : Type 1} → statement M

@@ -1,6 +1,6 @@
 -- `elimination::columns::columns` meets its contract: `begin` does column k but for the elimination in a, `finish` that and column k + 1.
 use borrow.Author.Tests.{not-true, not-false}
-use mathlib.Core.Bool.{true, false, cond}
+use mathlib.Core.Bool.{true, false}
 use Rattle.elimination.specs.Elimination as Elimination
 use Rattle.normal_equations.specs.Rows.{row, rows}
 use lib.Ieee.{Float}
@@ -18,7 +18,7 @@ returns c = let a = c.args in
     let n : ℕ = length a.b-1.now in
     let f = c.begin in
     let g : f.result ≡ false = not-true _ c.if-not-begin.true in
-    ap (Elimination.column n (a.k + 1)) (f.ensures.stage ∙ ap (λ r. Elimination.after r (cond r (Elimination.eliminate n a.k (rows n n f.new.0)) (rows n n f.new.0)) f.new.1.0) g)
+    ap (Elimination.column n (a.k + 1)) (f.ensures.stage ∙ ap (λ r. Elimination.after r (Elimination.eliminate n a.k (rows n n f.new.0)) f.new.1.0) g)
 
 finish-requires : tie.Need-finish-requires
 finish-requires c κs =
@@ -43,7 +43,7 @@ returns_2 c =
     let f = c.begin in
     let h = c.finish in
     let g : f.result ≡ true = not-false _ if1.false in
-    ap (Elimination.column n (k + 1)) (f.ensures.stage ∙ ap (λ r. Elimination.after r (cond r (Elimination.eliminate n k (rows n n f.new.0)) (rows n n f.new.0)) f.new.1.0) g)
+    ap (Elimination.column n (k + 1)) (f.ensures.stage ∙ ap (λ r. Elimination.after r (Elimination.eliminate n k (rows n n f.new.0)) f.new.1.0) g)
     ∙ subst (λ w. Elimination.column w (k + 1) (Elimination.going (Elimination.eliminate w k (rows w w f.new.0)) f.new.1.0) ≡ Elimination.after h.result (rows w w h.new.0) h.new.1.0) f.auto.1.0 h.ensures
 
 pub columns_spec : {M : Type 1} → statement M

@@ -25,25 +25,14 @@ column-after-requires c κs = let s = c.before.before.before.before.before.befor
     let e : length a.b-1.now ≡ length a.col-1.now = sym s.requires.1 in
     (omega arith, s.requires.3 ∙ e, s.requires.0.matrix ∙ ap (λ k. k * k) e, s.requires.4 ∙ ap (λ w. row w a.a-1.now a.k) e)
 
-eliminate-requires : tie.Need-eliminate-requires
-eliminate-requires c κs = let s = c.before.before.before.before.before.before.before.before.before.before.before.before.before.before.before.before in
-    let a = s.args in
-    let e : length a.b-1.now ≡ length a.top.now = sym s.requires.3 in
-    (omega arith, s.requires.0.matrix ∙ ap (λ k. k * k) e, s.requires.4 ∙ ap (λ w. row w a.a-1.now a.k) e)
-
 returns : tie.Need-returns-then-next_best
-returns c = let s = c.before.before.before.before.before.before.before.before.before.before.before.before.before.before.before.before.before.before.before in
+returns c = let s = c.before.before.before.before.before.before.before.before.before.before.before.before.before.before.before in
     let a = s.args in
     let n : ℕ = length a.b-1.now in
-    let k : ℕ = a.k in
     let f = c.column_after in
     let g = c.pivot-next_best in
-    let if1 = c.if-next_best in
-    let t = c.eliminate in
-    let m : List (List Float) = Elimination.eliminate n k (rows n n a.a-1.now) in
-    let p = pivot_found n (length a.col-1.now) _ (k + 1) (λ w. Elimination.eliminate w k (rows w w a.a-1.now)) f.new.0 _ _ s.requires.1 f.auto.0 f.ensures g.ensures in
-    let done : rows n n t.new.0 ≡ m = subst (λ w. rows w w t.new.0 ≡ Elimination.eliminate w k (rows w w a.a-1.now)) s.requires.3 t.ensures in
-    pivot_small n (k + 1) m a.b-1.now _ _ p true if1.true ∙ ap (λ x. Elimination.stopped x a.b-1.now) (sym done)
+    let p = pivot_found n (length a.col-1.now) _ (a.k + 1) (λ w. Elimination.eliminate w a.k (rows w w a.a-1.now)) f.new.0 _ _ s.requires.1 f.auto.0 f.ensures g.ensures in
+    pivot_small n (a.k + 1) (Elimination.eliminate n a.k (rows n n a.a-1.now)) a.b-1.now _ _ p true c.if-next_best.true
 
 elim-row-requires : tie.Need-elim_row-requires
 elim-row-requires c κs = let s = c.before.before.before.before.before.before.before.before.before.before.before.before.before.before.before.before in
@@ -113,7 +102,6 @@ finish_spec =
     (λ c. search rules)
     column-after-requires
     (λ c κs. search rules)
-    eliminate-requires
     (λ c. search rules)
     (λ c. search rules)
     returns

@@ -7,10 +7,7 @@ returns : tie.Need-returns
 returns c =
     let made = c.before.before.before.before.before.before.before.before.before in
     let is = rw made.problem_of-p.ensures at made.plan_from-planned.ensures.0 in
-    record {
-      entry_told = record { plan_told = rw is at c.put_planned.ensures; left = rw (made.plan_from-planned.ensures.1.0, is) };
-      promised = rw (made.problem_of-p.ensures, is) at made.plan_from-planned.ensures.1.1;
-    }
+    record { plan_told = rw is at c.put_planned.ensures; left = rw (made.plan_from-planned.ensures.1.0, is) }
 
 pub slew_plan_from_numbers_spec : {M : Type 1} → statement M
 slew_plan_from_numbers_spec =

@@ -6,8 +6,8 @@ use Rattle.export.proofs.texts.slew_plan_from.Tie as tie
 returns : tie.Need-returns
 returns c =
     let plan-text-from = c.plan_text_from-told in
-    let told = plan-text-from.ensures.tells in
-    record { bytes_are = rw told.is; text_is = told.bytes; left = told.left; promised = plan-text-from.ensures.promised }
+    let told = plan-text-from.ensures in
+    record { bytes_are = rw told.is; text_is = told.bytes; left = told.left }
 
 pub slew_plan_from_spec : {M : Type 1} → statement M
 slew_plan_from_spec = tie.close (tie.spec (λ c κs. search rules) (λ c. search rules) (λ c. search rules) returns)

@@ -4,7 +4,10 @@ use Rattle.export_leaves.proofs.turns.slew_sin.Statement.{statement}
 use Rattle.export_leaves.proofs.turns.slew_sin.Tie as tie
 
 returns : tie.Need-returns
-returns c = rw c.sin.ensures at c.put_angle.ensures
+returns c = (
+  rw (c.put_angle.ensures.number_is, c.sin.ensures),
+  rw (c.put_angle.ensures.value_is, c.sin.ensures),
+)
 
 pub slew_sin_spec : {M : Type 1} → statement M
 slew_sin_spec = tie.close (tie.spec (λ c κs. search rules) (λ c κs. search rules) returns)

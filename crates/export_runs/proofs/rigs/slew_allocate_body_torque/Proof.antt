@@ -1,17 +1,24 @@
--- `export_runs::rigs::slew_allocate_body_torque` meets its contract: the first refusal of both stages is told. Assumes nothing.
-use Rattle.export_runs.specs.Told.{first_refused}
+-- `export_runs::rigs::slew_allocate_body_torque` meets its contract: what it reads from the row's fate is the row's answer. Assumes nothing.
+use lib.ListN.{take}
+use Rattle.actuators.specs.Maps.{control_dim}
+use Rattle.export_leaves.specs.OutcomeLaws.{of_fate_law, placed}
 use borrow.Author.Rules.{rules}
 use Rattle.export_runs.proofs.rigs.slew_allocate_body_torque.Statement.{statement}
 use Rattle.export_runs.proofs.rigs.slew_allocate_body_torque.Tie as tie
 
 returns : tie.Need-returns
 returns c =
-    let first = c.before.before.before in
-    let made = first.before.before in
-    let prepared = made.prepared_of-prepared in
-    let x = made.allocate_body_torque-row.result in
-    let told = rw (first.first_refusal.ensures, first_refused x.u-1 prepared.result.fate x.fate) at c.put_row.ensures in
-    rw (made.allocate_body_torque-row.ensures, prepared.ensures) at told
+    let made = c.before.before.before in
+    let map = made.map_of-map in
+    let row = made.allocate_body_torque-row.result in
+    let told = placed (of_fate_law (take (control_dim map.result) row.u-1) row.fate) c.place_of.ensures c.number_of_lem.ensures in
+    record {
+      placed = rw (made.allocate_body_torque-row.ensures, map.ensures) at told;
+      out_is = rw (made.allocate_body_torque-row.ensures, map.ensures);
+    }
 
 pub slew_allocate_body_torque_spec : {M : Type 1} → statement M
-slew_allocate_body_torque_spec = tie.close (tie.spec (λ c κs. search rules) (λ c κs. search rules) (λ c κs. search rules) (λ c κs. search rules) returns)
+slew_allocate_body_torque_spec =
+    tie.close
+    (tie.spec
+    (λ c κs. search rules) (λ c κs. search rules) (λ c κs. search rules) (λ c κs. search rules) returns)

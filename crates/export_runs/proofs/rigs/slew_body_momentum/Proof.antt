@@ -4,9 +4,7 @@ use Rattle.export_runs.proofs.rigs.slew_body_momentum.Statement.{statement}
 use Rattle.export_runs.proofs.rigs.slew_body_momentum.Tie as tie
 
 returns : tie.Need-returns
-returns c =
-    let made = c.before.before.before in
-    rw (made.body_momentum.ensures, made.prepared_of-prepared.ensures) at c.put_three.ensures
+returns c = rw (c.body_momentum.ensures, c.map_of-map.ensures)
 
 pub slew_body_momentum_spec : {M : Type 1} → statement M
-slew_body_momentum_spec = tie.close (tie.spec (λ c κs. search rules) (λ c κs. search rules) (λ c κs. search rules) returns)
+slew_body_momentum_spec = tie.close (tie.spec (λ c κs. search rules) (λ c κs. search rules) returns)

@@ -4,9 +4,7 @@ use Rattle.export_runs.proofs.rigs.slew_control_dim.Statement.{statement}
 use Rattle.export_runs.proofs.rigs.slew_control_dim.Tie as tie
 
 returns : tie.Need-returns
-returns c =
-    let made = c.before.before.before in
-    rw (made.control_dim.ensures, made.prepared_of-prepared.ensures) at c.put_count.ensures
+returns c = rw (c.control_dim.ensures, c.map_of-map.ensures)
 
 pub slew_control_dim_spec : {M : Type 1} → statement M
-slew_control_dim_spec = tie.close (tie.spec (λ c κs. search rules) (λ c κs. search rules) (λ c κs. search rules) returns)
+slew_control_dim_spec = tie.close (tie.spec (λ c κs. search rules) (λ c κs. search rules) returns)

@@ -4,9 +4,7 @@ use Rattle.export_runs.proofs.rigs.slew_power_excess.Statement.{statement}
 use Rattle.export_runs.proofs.rigs.slew_power_excess.Tie as tie
 
 returns : tie.Need-returns
-returns c =
-    let made = c.before.before.before in
-    rw (made.power_excess.ensures, made.prepared_of-prepared.ensures) at c.put_number.ensures
+returns c = rw (c.power_excess.ensures, c.map_of-map.ensures)
 
 pub slew_power_excess_spec : {M : Type 1} → statement M
-slew_power_excess_spec = tie.close (tie.spec (λ c κs. search rules) (λ c κs. search rules) (λ c κs. search rules) returns)
+slew_power_excess_spec = tie.close (tie.spec (λ c κs. search rules) (λ c κs. search rules) returns)

@@ -7,12 +7,13 @@ use Rattle.export_runs.proofs.rigs.slew_prepare.Tie as tie
 returns : tie.Need-returns
 returns c =
     let made = c.before.before.before.before.before in
-    let is = made.prepared_of-prepared.ensures in
-    let told = placed (of_fate_law made.prepared_of-prepared.result.map-1 made.prepared_of-prepared.result.fate) c.place_of.ensures c.number_of_lem.ensures in
+    let declared = made.actuators_of.ensures in
+    let is = rw declared at made.prepare-prepared.ensures in
+    let told = placed (of_fate_law made.prepare-prepared.result.map-1 made.prepare-prepared.result.fate) c.place_of.ensures c.number_of_lem.ensures in
     (rw is at told, (rw is, rw is))
 
 pub slew_prepare_spec : {M : Type 1} → statement M
 slew_prepare_spec =
     tie.close
     (tie.spec
-    (λ c κs. search rules) (λ c κs. search rules) (λ c κs. search rules) returns)
+    (λ c κs. search rules) (λ c κs. search rules) (λ c κs. search rules) (λ c κs. search rules) returns)

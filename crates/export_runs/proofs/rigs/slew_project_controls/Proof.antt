@@ -5,8 +5,8 @@ use Rattle.export_runs.proofs.rigs.slew_project_controls.Tie as tie
 
 returns : tie.Need-returns
 returns c =
-    let prepared = c.before.before.before.before.before.before.before in
-    rw prepared.prepared_of-prepared.ensures at c.put_projected.ensures
+    let map_of = c.map_of-map in
+    rw (c.project_controls.ensures, map_of.ensures)
 
 pub slew_project_controls_spec : {M : Type 1} → statement M
 slew_project_controls_spec = tie.close (tie.spec (λ c κs. search rules) (λ c κs. search rules) (λ c. search rules) returns)

@@ -4,9 +4,7 @@ use Rattle.export_runs.proofs.rigs.slew_wheel_momentum_rates.Statement.{statemen
 use Rattle.export_runs.proofs.rigs.slew_wheel_momentum_rates.Tie as tie
 
 returns : tie.Need-returns
-returns c =
-    let made = c.before.before.before in
-    rw (made.wheel_momentum_rates.ensures, made.prepared_of-prepared.ensures) at c.put_eight.ensures
+returns c = rw (c.wheel_momentum_rates.ensures, c.map_of-map.ensures)
 
 pub slew_wheel_momentum_rates_spec : {M : Type 1} → statement M
-slew_wheel_momentum_rates_spec = tie.close (tie.spec (λ c κs. search rules) (λ c κs. search rules) (λ c κs. search rules) returns)
+slew_wheel_momentum_rates_spec = tie.close (tie.spec (λ c κs. search rules) (λ c κs. search rules) returns)

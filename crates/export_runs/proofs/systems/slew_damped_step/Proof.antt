@@ -1,6 +1,4 @@
 -- `export_runs::systems::slew_damped_step` meets its contract: the tests are the definition's. Assumes nothing.
-use mathlib.Core.Path.{refl}
-use Rattle.damped_steps.specs.StepLaws.{told_step}
 use borrow.Author.Rules.{rules}
 use borrow.Author.Tests.{lt-ltb, le-ltb, eq-eqb, ne_eqb}
 use native.Mathlib.Nat.{mul-le-mul}
@@ -9,19 +7,13 @@ use Rattle.export_runs.proofs.systems.slew_damped_step.Statement.{statement}
 use Rattle.export_runs.proofs.systems.slew_damped_step.Tie as tie
 
 returns : tie.Need-returns-then-n-gt193
-returns c = record { answer = rw (lt-ltb 193 _ c.if-n-gt193.true); left = rw (lt-ltb 193 _ c.if-n-gt193.true) (refl, refl) }
+returns c = rw (lt-ltb 193 _ c.if-n-gt193.true)
 
 returns_2 : tie.Need-returns-then-m-gt193
-returns_2 c = record {
-  answer = rw (le-ltb 193 _ c.if-n-gt193.false, lt-ltb 193 _ c.if-m-gt193.true);
-  left = rw (le-ltb 193 _ c.if-n-gt193.false, lt-ltb 193 _ c.if-m-gt193.true) (refl, refl);
-}
+returns_2 c = rw (le-ltb 193 _ c.if-n-gt193.false, lt-ltb 193 _ c.if-m-gt193.true)
 
 returns_3 : tie.Need-returns-then-r-m
-returns_3 c = record {
-  answer = rw (le-ltb 193 _ c.if-n-gt193.false, le-ltb 193 _ c.if-m-gt193.false, lt-ltb _ _ c.if-r-m.true);
-  left = rw (le-ltb 193 _ c.if-n-gt193.false, le-ltb 193 _ c.if-m-gt193.false, lt-ltb _ _ c.if-r-m.true) (refl, refl);
-}
+returns_3 c = rw (le-ltb 193 _ c.if-n-gt193.false, le-ltb 193 _ c.if-m-gt193.false, lt-ltb _ _ c.if-r-m.true)
 
 -- at most 193 rows of at most 193
 mul-if4 : tie.Need-overflow_mul-n
@@ -36,10 +28,7 @@ add-if4 c = let few = c.before in let n = few.if-n-gt193.false in omega (arith, 
 returns-4 : tie.Need-returns-then-v-n
 returns-4 c =
     let few = c.before.before in
-    record {
-      answer = rw (le-ltb 193 _ few.if-n-gt193.false, le-ltb 193 _ few.if-m-gt193.false, le-ltb _ _ c.if-r-m.false, ne_eqb _ _ c.if-v-n.true);
-      left = rw (le-ltb 193 _ few.if-n-gt193.false, le-ltb 193 _ few.if-m-gt193.false, le-ltb _ _ c.if-r-m.false, ne_eqb _ _ c.if-v-n.true) (refl, refl);
-    }
+    rw (le-ltb 193 _ few.if-n-gt193.false, le-ltb 193 _ few.if-m-gt193.false, le-ltb _ _ c.if-r-m.false, ne_eqb _ _ c.if-v-n.true)
 
 returns-5 : tie.Need-returns
 returns-5 c =
@@ -47,11 +36,8 @@ returns-5 c =
     let fits = stepped.before.before.before in
     let enough = fits.before in
     let few = enough.before in
-    let done = stepped.damped_step.ensures in
-    record {
-      answer = rw (le-ltb 193 _ few.if-n-gt193.false, le-ltb 193 _ few.if-m-gt193.false, le-ltb _ _ enough.if-r-m.false, eq-eqb _ _ fits.if-v-n.false) (told_step done);
-      left = rw (le-ltb 193 _ few.if-n-gt193.false, le-ltb 193 _ few.if-m-gt193.false, le-ltb _ _ enough.if-r-m.false, eq-eqb _ _ fits.if-v-n.false) done;
-    }
+    rw (le-ltb 193 _ few.if-n-gt193.false, le-ltb 193 _ few.if-m-gt193.false, le-ltb _ _ enough.if-r-m.false, eq-eqb _ _ fits.if-v-n.false)
+    stepped.damped_step.ensures.1
 
 pub slew_damped_step_spec : {M : Type 1} → statement M
 slew_damped_step_spec =

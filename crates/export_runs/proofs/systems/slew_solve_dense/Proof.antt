@@ -1,9 +1,4 @@
 -- `export_runs::systems::slew_solve_dense` meets its contract: the tests are the definition's. Assumes nothing.
-use Prim.Native.Nat.{ℕ}
-use mathlib.Core.Path.{refl}
-use lib.ListN.{length}
-use Rattle.normal_equations.specs.Rows.{rows}
-use Rattle.export_runs.specs.Told.{solved_told}
 use borrow.Author.Rules.{rules}
 use borrow.Author.Tests.{lt-ltb, le-ltb, eq-eqb, ne_eqb}
 use native.Mathlib.Nat.{mul-le-mul}
@@ -12,29 +7,19 @@ use Rattle.export_runs.proofs.systems.slew_solve_dense.Statement.{statement}
 use Rattle.export_runs.proofs.systems.slew_solve_dense.Tie as tie
 
 returns : tie.Need-returns-then-n-gt193
-returns c = record { answer = rw (lt-ltb 193 _ c.if-n-gt193.true); left = rw (lt-ltb 193 _ c.if-n-gt193.true) (refl, refl) }
+returns c = rw (lt-ltb 193 _ c.if-n-gt193.true)
 
 mul-if2 : tie.Need-overflow_mul-n
 mul-if2 c = omega (arith, mul-le-mul c.if-n-gt193.false c.if-n-gt193.false)
 
 returns_2 : tie.Need-returns-then-a-n
-returns_2 c = record {
-  answer = rw (le-ltb 193 _ c.if-n-gt193.false, ne_eqb _ _ c.if-a-n.true);
-  left = rw (le-ltb 193 _ c.if-n-gt193.false, ne_eqb _ _ c.if-a-n.true) (refl, refl);
-}
+returns_2 c = rw (le-ltb 193 _ c.if-n-gt193.false, ne_eqb _ _ c.if-a-n.true)
 
 returns_3 : tie.Need-returns
 returns_3 c =
     let solved = c.before.before.before.before in
     let fits = solved.before.before.before in
-    let entry = fits.before.before.before.before in
-    let n : ℕ = length entry.args.b-1.now in
-    let t = solved.solve_dense in
-    let answer = solved_told n _ _ t.result (rows n n t.new.0) t.new.1.0 t.ensures in
-    record {
-      answer = rw (le-ltb 193 _ fits.if-n-gt193.false, eq-eqb _ _ fits.if-a-n.false) answer;
-      left = rw (le-ltb 193 _ fits.if-n-gt193.false, eq-eqb _ _ fits.if-a-n.false) t.ensures;
-    }
+    rw (le-ltb 193 _ fits.if-n-gt193.false, eq-eqb _ _ fits.if-a-n.false) solved.solve_dense.ensures
 
 pub slew_solve_dense_spec : {M : Type 1} → statement M
 slew_solve_dense_spec =

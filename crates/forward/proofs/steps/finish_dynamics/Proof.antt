@@ -1,50 +1,66 @@
--- `forward::steps::finish_dynamics` meets its contract: gimbals that refuse the step are `finished_refused`, else the power decides.
-use Prim.Native.Nat.{◌≤◌}
-use lib.ListN.{length}
-use Rattle.forward.specs.StepLaws.{row_room, ends_gimbals}
-use Rattle.forward.specs.StepPartInner.{with_attitude, finished_refused}
-use Rattle.forward.specs.PowerInner.{wheel_row, wheel_room, finished_powered}
+-- `forward::steps::finish_dynamics` meets its contract: gimbals, power, momenta in turn; a refusal is `finished_refused`, none is `finished_going`.
+use mathlib.Core.Path.{refl, sym, ◌∙◌}
+use lib.Ieee as Ieee
+use Rattle.forward.specs.StepLaws.{row_room, ends_gimbals, ends_powered, ends_finished, hands_on}
+use Rattle.forward.specs.StepPartInner.{with_attitude, finished_refused, finished_going}
 use native.Mathlib.Omega.{arith}
 use borrow.Author.Rules.{rules}
 use Rattle.forward.proofs.steps.finish_dynamics.Statement.{statement}
 use Rattle.forward.proofs.steps.finish_dynamics.Tie as tie
 
-abbrev entry : tie.After-step_gimbals-g → tie.Start
-entry c = c.before.before.before.before.before.before
-
--- the wheels' part stands in the row
-room : (s : tie.Start) → s.args.r.wheel_count ≤ length s.args.u.now
-room s = omega (arith, row_room _ _ s.requires.0)
-
 sub-step-gimbals : tie.Need-slice_bounds-step_gimbals-count
-sub-step-gimbals c = omega (arith, row_room _ _ c.requires.0)
+sub-step-gimbals c =
+    let entry = c.before.before.before.before.before.before in
+    omega (arith, row_room _ _ entry.requires.0)
 
 part-step-gimbals-start : tie.Need-slice_bounds-step_gimbals-start
-part-step-gimbals-start c = omega (arith, row_room _ _ c.requires.0)
+part-step-gimbals-start c =
+    let entry = c.before.before.before.before.before.before in
+    omega (arith, row_room _ _ entry.requires.0)
 
 step-gimbals-requires : tie.Need-step_gimbals-g-requires
 step-gimbals-requires c κs =
-    let start = c.before.before.before.before.before in
-    (omega (arith, row_room _ _ start.requires.0), start.requires.1)
+    let entry = c.before.before.before.before.before.before.before in
+    (omega (arith, row_room _ _ entry.requires.0), entry.requires.1)
 
 returns : tie.Need-returns-in-Refused
 returns c =
-    let g = c.before.before in
-    finished_refused _ _ _ _ _ c.refuse_dynamics.ensures (λ q q2. ends_gimbals _ _ _ (with_attitude q (entry g).args.s) _ _ _ q2 g.step_gimbals-g.ensures c.in-Refused.is)
+    let entry = c.before.before.before.before.before.before.before.before.before.before in
+    let step-gimbals = c.step_gimbals-g in
+    finished_refused _ _ _ _ _ c.refuse_dynamics.ensures (λ q q2. ends_gimbals _ _ _ (with_attitude q entry.args.s) _ _ _ q2 step-gimbals.ensures c.in-Refused.is)
 
-part-power-dynamics-end : tie.Need-slice_bounds-power_dynamics-end
-part-power-dynamics-end c = room (entry c.before)
+enum_told : tie.Need-enum_told-1
+enum_told c = search rules
 
-power-dynamics-requires : tie.Need-power_dynamics-requires
-power-dynamics-requires c κs =
-    let s = entry c.before.before in
-    wheel_room _ _ (room s) s.pre.0.wheels
+part-over-power-end : tie.Need-slice_bounds-over_power-end
+part-over-power-end c =
+    let entry = c.before.before.before.before.before.before.before.before.before in
+    omega (arith, row_room _ _ entry.requires.0)
 
-returns_2 : tie.Need-returns-in-Going
+returns_2 : tie.Need-returns-then-over_power
+unfolding Ieee.of_bits
 returns_2 c =
-    let told = c.before.before in
-    let g = told.before in
-    finished_powered _ _ _ _ _ g.step_gimbals-g.ensures told.in-Going.is (wheel_row _ _ (room (entry g))) c.power_dynamics.ensures
+    let entry = c.before.before.before.before.before.before.before.before.before.before.before.before.before in
+    let step-gimbals = c.step_gimbals-g in
+    let enum_told = c.enum_told-1 in
+    finished_refused _ _ _ _ _ c.refuse_dynamics-then-over_power.ensures (λ q q2. ends_powered _ _ _ (with_attitude q entry.args.s) _ _ _ q2 step-gimbals.ensures enum_told.given.1 refl (sym c.over_power.ensures ∙ c.if-over_power.true))
+
+part-momenta-next-end : tie.Need-slice_bounds-momenta_next-end
+part-momenta-next-end c =
+    let entry = c.before.before.before.before.before.before.before.before.before.before.before.before in
+    omega (arith, row_room _ _ entry.requires.0)
+
+returns_3 : tie.Need-returns
+unfolding Ieee.of_bits
+returns_3 c =
+    let entry = c.before.before.before.before.before.before.before.before.before.before.before.before.before.before.before.before.before.before.before.before.before.before.before.before in
+    let step-gimbals = c.step_gimbals-g in
+    let enum_told = c.enum_told-1 in
+    let over-power = c.over_power in
+    let if1 = c.if-over_power in
+    let momenta_next_law = c.momenta_next-hw2 in
+    let body-momentum = c.body_momentum-h2 in
+    finished_going _ _ _ _ _ c.dynamics_from.ensures (λ q q2. ends_finished _ _ _ (with_attitude q entry.args.s) _ _ _ q2 step-gimbals.ensures enum_told.given.1 refl (sym over-power.ensures ∙ if1.false) momenta_next_law.ensures body-momentum.ensures) (hands_on _ _ _ _ _ step-gimbals.ensures enum_told.given.1)
 
 pub finish_dynamics_spec : {M : Type 1} → statement M
 finish_dynamics_spec =
@@ -58,10 +74,19 @@ finish_dynamics_spec =
     step-gimbals-requires
     (λ c. search rules)
     (λ c κs. search rules)
-    (λ c. search rules)
-    (λ c. search rules)
-    (λ c. search rules)
-    part-power-dynamics-end
-    power-dynamics-requires
     returns
-    returns_2)
+    enum_told
+    (λ c. search rules)
+    (λ c. search rules)
+    part-over-power-end
+    (λ c κs. search rules)
+    (λ c κs. search rules)
+    returns_2
+    (λ c. search rules)
+    (λ c. search rules)
+    part-momenta-next-end
+    (λ c κs. search rules)
+    (λ c. search rules)
+    (λ c κs. search rules)
+    (λ c κs. search rules)
+    returns_3)

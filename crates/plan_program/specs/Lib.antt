@@ -1,3 +1,0 @@
--- What the program `slew` answers.
--- ---- meaning
-pub mod PlanAnswers  -- the answer to a text, and the sentence of a refusal

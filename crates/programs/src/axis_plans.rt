@@ -1,0 +1,52 @@
+// Program `slew_eigenaxis`: plans the problem whose text stands on standard input about one axis. The answer goes to standard output and, where it is refused,
+// a sentence to standard error. The word `gentle` as its argument asks for the gentle shape. A program of this language has no exit status: another argument
+// shows by its sentence, and by nothing on standard output.
+ghost use Rattle.programs.specs.Programs.{AnswersBy, slew_eigenaxis};
+
+use super::output::show;
+use super::plans::Answered;
+use super::words::asks;
+use eigenaxis_seed::Shape;
+use eigenaxis_text::plan_eigenaxis_text;
+use libc::{STDERR_FILENO, STDIN_FILENO};
+use refusal_text::explain_plan;
+
+// The answer to a text: its eigenaxis plan in 8,000 numbers, printed, and the sentence of a refusal.
+pub fn answer(text: &[u8], shape: Shape, out: &mut [u8], said: &mut [u8]) -> Answered
+    ensures { AnswersBy (slew_eigenaxis text.now shape) out.old said.old result out.new said.new }
+{
+    let mut ws = [0.0; 8000];
+    let told = plan_eigenaxis_text(text, shape, &mut ws, out);
+    let fate = told.fate;
+    let sentence = explain_plan(fate, told.runs, said);
+    Answered {
+        bytes: told.bytes,
+        said: sentence,
+    }
+}
+
+// A text longer than 4,096 bytes is refused, so one byte more is all that is looked at.
+fn print_plan(shape: Shape) {
+    let mut text = [0u8; 4097];
+    let length = io::read_full(STDIN_FILENO, &mut text);
+    let mut out = [0u8; 16384];
+    let mut said = [0u8; 256];
+    let answered = answer(&text[..length], shape, &mut out, &mut said);
+    show(&out, answered.bytes, &said, answered.said);
+}
+
+pub fn run() {
+    let given = os::arg_count();
+    if given < 2 {
+        print_plan(Shape::Fastest);
+        return;
+    }
+    if given == 2 && asks(1, b"gentle") {
+        print_plan(Shape::Gentle);
+        return;
+    }
+    io::write_all(
+        STDERR_FILENO,
+        b"slew_eigenaxis takes no argument, or the word gentle for the gentle shape.\n",
+    );
+}

@@ -1,0 +1,164 @@
+// Program `slew_samples`: prints the dense samples of the problem whose text stands on standard input, one a line. The first argument is the number of samples
+// asked for, 17 where there is none; a path has more where its rate asks for more. Behind it the word `board` asks for the drive board's whole numbers, then
+// `eigenaxis` for a slew about one axis, then `gentle` for the gentle shape. A refusal is printed in the place of the samples that are left, with a sentence on
+// standard error. A program of this language has no exit status: bad arguments show by their sentence, and by nothing on standard output.
+ghost use Rattle.std.specs.Prelude.{◌≡◌, ◌≤◌};
+ghost use Rattle.sample_text.specs.SampleTexts.{plan_course};
+ghost use Rattle.eigenaxis_samples.specs.Courses.{eigenaxis_course};
+ghost use Rattle.programs.specs.Programs as Programs;
+
+use crate::output::show;
+use crate::words::asks;
+use arguments::{Requested, read_requested};
+use board_text::write_numbers;
+use eigenaxis_samples::plan_eigenaxis_course;
+use eigenaxis_seed::Shape;
+use libc::{STDERR_FILENO, STDIN_FILENO};
+use mosaic::ways::Way;
+use sample_text::lines::write_step;
+use sample_text::{Course, plan_course};
+
+// What is asked for behind the number of samples: the drive board's numbers or not, the way that the slew is planned by, and the number of the argument behind
+// these words.
+#[derive(Clone, Copy)]
+pub struct Wanted {
+    pub board: bool,
+    pub way: Way,
+    pub end: usize,
+}
+
+// The search's plan of a text in 8,000 numbers, to take samples of.
+fn search_course(text: &[u8]) -> Course
+    ensures { result ≡ plan_course text.now 8000 }
+{
+    let mut ws = [0.0; 8000];
+    plan_course(text, &mut ws)
+}
+
+// The plan about one axis.
+fn eigenaxis_course(text: &[u8], shape: Shape) -> Course
+    ensures { result ≡ eigenaxis_course text.now shape 8000 }
+{
+    let mut ws = [0.0; 8000];
+    plan_eigenaxis_course(text, shape, &mut ws)
+}
+
+// The plan by a way.
+pub fn course(text: &[u8], way: Way) -> Course
+    ensures { result ≡ Programs.course_by way text.now }
+{
+    match way {
+        Way::Search => search_course(text),
+        Way::Eigenaxis(shape) => eigenaxis_course(text, shape),
+    }
+}
+
+// Prints one sample, and answers whether another follows.
+fn print_sample(c: Course, requested: usize, index: usize) -> bool {
+    let mut out = [0u8; 272];
+    let mut said = [0u8; 212];
+    let line = write_step(c, requested, c.alpha, index, &mut out, &mut said);
+    show(&out, line.bytes, &said, line.said);
+    line.more
+}
+
+// The same in the drive board's numbers.
+fn print_numbers(c: Course, requested: usize, index: usize) -> bool {
+    let mut out = [0u8; 320];
+    let mut said = [0u8; 212];
+    let line = write_numbers(c, requested, c.alpha, index, &mut out, &mut said);
+    show(&out, line.bytes, &said, line.said);
+    line.more
+}
+
+fn print_step(board: bool, c: Course, requested: usize, index: usize) -> bool {
+    if board {
+        return print_numbers(c, requested, index);
+    }
+    print_sample(c, requested, index)
+}
+
+// No path has more than 100,000 samples.
+fn print_steps(board: bool, c: Course, requested: usize) {
+    let mut index: usize = 0;
+    while index < 100_000 {
+        if !print_step(board, c, requested, index) {
+            return;
+        }
+        index += 1;
+    }
+}
+
+// Prints the dense samples of a text's plan.
+pub fn print_text(text: &[u8], requested: usize, wanted: Wanted) {
+    let way = wanted.way;
+    let c = course(text, way);
+    print_steps(wanted.board, c, requested);
+}
+
+// A text longer than 4,096 bytes is refused, so one byte more is all that is looked at.
+fn print_samples(requested: usize, wanted: Wanted) {
+    let mut text = [0u8; 4097];
+    let length = io::read_full(STDIN_FILENO, &mut text);
+    print_text(&text[..length], requested, wanted);
+}
+
+// The way that the words from argument number k on ask for.
+fn way_at(k: usize, board: bool) -> Wanted
+    requires { k ≤ 3 }
+{
+    if !asks(k, b"eigenaxis") {
+        return Wanted {
+            board: board,
+            way: Way::Search,
+            end: k,
+        };
+    }
+    if !asks(k + 1, b"gentle") {
+        return Wanted {
+            board: board,
+            way: Way::Eigenaxis(Shape::Fastest),
+            end: k + 1,
+        };
+    }
+    Wanted {
+        board: board,
+        way: Way::Eigenaxis(Shape::Gentle),
+        end: k + 2,
+    }
+}
+
+// What the words behind the number of samples ask for.
+fn read_words() -> Wanted {
+    if asks(2, b"board") {
+        return way_at(3, true);
+    }
+    way_at(2, false)
+}
+
+// The number of samples asked for; none where a word stands behind those that are known.
+fn asked(given: usize, end: usize) -> Requested {
+    if given < 2 {
+        return Requested::Of(17);
+    }
+    if end < given {
+        return Requested::Not;
+    }
+    let mut word = [0u8; 64];
+    let length = os::arg(1, &mut word);
+    read_requested(&word[..length])
+}
+
+pub fn run() {
+    let w = read_words();
+    let request = asked(os::arg_count(), w.end);
+    match request {
+        Requested::Of(requested) => print_samples(requested, w),
+        Requested::Not => {
+            io::write_all(
+                STDERR_FILENO,
+                b"slew_samples takes the number of samples in decimal digits, behind it the word board for the drive board's numbers, eigenaxis for a slew about one axis, and gentle for its gentle shape.\n",
+            );
+        }
+    }
+}
