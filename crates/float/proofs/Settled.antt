@@ -1,5 +1,5 @@
 -- When a guess at a rounded root is right, or beside it. Assumes nothing.
-use Rattle.std.proofs.Common.{◌≡◌, ℕ, suc, ◌+◌, ◌-◌, ◌*◌, ◌/◌, ◌%◌, ◌^◌, ◌<◌, ◌≤◌, sym, ap, ◌∙◌, subst, lt_of_lt_of_le, mul-le-mul, mul-le-mul_left, lt_of_not-le, add-one, arith, lit≤}
+use Rattle.std.proofs.Common.{◌≡◌, ℕ, zero, suc, ◌+◌, ◌-◌, ◌*◌, ◌/◌, ◌%◌, ◌^◌, ◌<◌, ◌≤◌, sym, ap, ◌∙◌, subst, lt_of_lt_of_le, mul-le-mul, mul-le-mul_left, lt_of_not-le, add-one, arith, lit≤}
 use native.Mathlib.Decide.{dec_le}
 use Rattle.wide.specs.Isqrt.{isqrt}
 use Rattle.float.specs.RootInner.{rounded, radicand}
@@ -18,6 +18,7 @@ rest_law s e R nh nl ph pl d qh ql l e1 e2 e3 e4 e5 e6 = omega arith
 
 -- between the squares of the odd numbers beside 2 r
 pub settled_root : (n r : ℕ) → 1 ≤ r → r * r + 1 ≤ n + r → n ≤ r * r + r → r ≡ rounded n
+settled_root n zero l h k = elim l [ ]
 settled_root n (suc p) l h k = pinned n p (omega (arith, half_square_law p, square_next p)) (omega (arith, half_square_law (suc p)))
 
 module _ (s d n : ℕ) (l : 2 ≤ s) (h : s * s + d + 3 ≡ n + 3 * s) where

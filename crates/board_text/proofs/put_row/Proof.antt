@@ -24,7 +24,7 @@ loop-again c =
     let l = put.loop-k in
     let a = put.args in
     let e : to_z w32 (of_z w32 (get_or a.v.now l.k (pos 0))) ≡ get_or a.v.now l.k (pos 0) = search rules in
-    first_next l.invariant (omega arith) (rw e at put.put_number-i.ensures) put.put-number.auto.0
+    first_next l.invariant (omega arith) (rw e at put.put_number-i.ensures) put.put_number-i.auto.b
 
 returns : tie.Need-returns invariant_loop decreases_loop
 unfolding row

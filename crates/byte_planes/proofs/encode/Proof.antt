@@ -21,13 +21,13 @@ decreases_loop column out₀ n count j₀ out j = 8 - j
 returns : tie.Need-returns-then-column-gt4096 invariant_loop decreases_loop
 returns c =
     let a = c.args in
-    let e = encode_none a.column.now a.out-1.now (long a.column.now a.out-1.now (omega arith)) in
+    let e = encode_none a.column.now a.out.now (long a.column.now a.out.now (omega arith)) in
     (sym e.0, sym e.1)
 
 returns_2 : tie.Need-returns-then-out-count invariant_loop decreases_loop
 returns_2 c =
     let a = c.args in
-    let e = encode_none a.column.now a.out-1.now (short a.column.now a.out-1.now (omega arith)) in
+    let e = encode_none a.column.now a.out.now (short a.column.now a.out.now (omega arith)) in
     (sym e.0, sym e.1)
 
 loop-holds : tie.Need-loop-j-init invariant_loop decreases_loop
@@ -56,8 +56,8 @@ loop-again c =
     let h = row_end l.j 8 (length w) loop-test.true in
     let e = c.put_plane.ensures in (
       omega arith,
-      plane_next w a.out-1.now l.out-1 _ l.j l.invariant.1 e,
-      plane_length w l.out-1 l.j (omega arith) e ∙ l.invariant.2,
+      plane_next w a.out.now l.out _ l.j l.invariant.1 e,
+      plane_length w l.out l.j (omega arith) e ∙ l.invariant.2,
     )
 
 returns_3 : tie.Need-returns invariant_loop decreases_loop
@@ -66,7 +66,7 @@ returns_3 c =
     let l = c.loop-j in
     let a = c.args in
     let k : l.j ≡ 8 = omega arith in
-    let e = encode_all a.column.now a.out-1.now (fits a.column.now a.out-1.now (omega arith) (omega arith)) in
+    let e = encode_all a.column.now a.out.now (fits a.column.now a.out.now (omega arith) (omega arith)) in
     (sym e.0, (rw k at l.invariant.1) ∙ sym e.1)
 
 pub encode_spec : {M : Type 1} → statement M

@@ -9,7 +9,7 @@ use Rattle.control_limits.proofs.power_excess.Statement.{statement}
 use Rattle.control_limits.proofs.power_excess.Tie as tie
 
 abbrev invariant_loop : tie.invariant-loop-i
-invariant_loop axes n u powers omega e₀ i₀ e i = (i ≤ n) × (e ≡ Limits.excess (Limits.power_limit powers) (Limits.power-1 axes u omega) i)
+invariant_loop axes n u powers omega e₀ i₀ e i = (i ≤ n) × (e ≡ Limits.excess (Limits.power_limit powers) (Limits.power axes u omega) i)
 
 abbrev decreases_loop : tie.decreases-loop-i
 decreases_loop axes n u powers omega e₀ i₀ e i = n - i

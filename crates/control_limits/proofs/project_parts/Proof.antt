@@ -15,7 +15,7 @@ hold-part-requires-3 c κs =
     let after-gimbals = after_fewer.before in
     let start = after-gimbals.before.before.before in
     let f = after_fewer.fewer-n.ensures in
-    let m = fewer_most after-gimbals.gimbals.result (length start.args.u-1.now - (start.args.r.wheel_count + start.args.r.thruster_count)) in
+    let m = fewer_most after-gimbals.gimbals.result (length start.args.u.now - (start.args.r.wheel_count + start.args.r.thruster_count)) in
     let g = gimbals_most start.args.r.cmgs in
     (omega (arith, after-gimbals.gimbals.ensures), omega arith)
 
@@ -28,7 +28,7 @@ returns c =
     let after-gimbal-rate = after-gimbals.before in
     let start = after-gimbal-rate.before.before in
     rw (c.hold_part-3.ensures, after-hold-part2.hold_part-2.ensures, after-hold-part.hold_part.ensures, after_fewer.fewer-n.ensures, after-gimbals.gimbals.ensures, after-gimbal-rate.gimbal_rate-rates.ensures)
-    (parts_held start.args.r start.args.wheels.now start.args.thrusters.now start.args.u-1.now (omega arith))
+    (parts_held start.args.r start.args.wheels.now start.args.thrusters.now start.args.u.now (omega arith))
 
 pub project_parts_spec : {M : Type 1} → statement M
 project_parts_spec =

@@ -11,8 +11,8 @@ solve-dense-requires : tie.Need-solve_dense-requires
 solve-dense-requires c κs =
     let entry = c.before.before.before.before.before.before.before.before.before.before.before.before in
     let t = c.equations in
-    let e = t.auto.1.1.1.1.0 in
-    (omega (arith, e, entry.requires.0), matrix_fits (length entry.args.g-1.now) entry.args.m _ t.new.0 e (t.auto.0 ∙ entry.requires.2))
+    let e = t.auto.g in
+    (omega (arith, e, entry.requires.0), matrix_fits (length entry.args.g.now) entry.args.m _ t.new.v e (t.auto.v ∙ entry.requires.2))
 
 returns : tie.Need-returns
 returns c =
@@ -20,8 +20,8 @@ returns c =
     let a = entry.args in
     let t = c.equations in
     let s = c.solve_dense in
-    step_solved (length a.g-1.now) a.m _ a.v-1.now a.r.now a.lambda t.new.0 t.new.1.1.1.1.0 s.new.0 s.new.1.0 s.result
-    t.auto.1.1.1.1.0 (t.auto.0 ∙ entry.requires.2) t.ensures s.ensures
+    step_solved (length a.g.now) a.m _ a.v.now a.r.now a.lambda t.new.v t.new.g s.new.a s.new.b s.result
+    t.auto.g (t.auto.v ∙ entry.requires.2) t.ensures s.ensures
 
 pub damped_step_spec : {M : Type 1} → statement M
 damped_step_spec =

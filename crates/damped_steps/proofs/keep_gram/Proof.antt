@@ -16,17 +16,17 @@ slice-aggregate-copy c = sym (length-take-le _ _ (omega arith))
 
 copy-requires : tie.Need-copy-requires
 copy-requires c κs =
-    let entry = c.before.before.before.before.before.before.before.before.before.before in
+    let entry = c.before.before.before.before.before.before.before.before.before in
     let a = entry.args in
     let t = c.gram_matrix in
-    matrix_fits a.n a.m a.n t.new.0 refl (t.auto.0 ∙ entry.requires.1) ∙ sym (length-take-le (a.n * a.n) a.gram-1.now (omega arith))
+    matrix_fits a.n a.m a.n t.new.v refl (t.auto.v ∙ entry.requires.1) ∙ sym (length-take-le (a.n * a.n) a.gram.now (omega arith))
 
 returns_2 : tie.Need-returns
 returns_2 c =
     let a = c.args in
     let t = c.gram_matrix in
     let s = c.copy in
-    (t.ensures.0, gram_copied a.n a.m _ t.new.0 s.new.0 _ (s.auto.0 ∙ length-take-le (a.n * a.n) a.gram-1.now (omega arith)) s.ensures t.ensures.1)
+    (t.ensures.0, gram_copied a.n a.m _ t.new.v s.new.to _ (s.auto.to ∙ length-take-le (a.n * a.n) a.gram.now (omega arith)) s.ensures t.ensures.1)
 
 pub keep_gram_spec : {M : Type 1} → statement M
 keep_gram_spec =

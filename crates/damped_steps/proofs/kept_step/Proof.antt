@@ -15,27 +15,27 @@ slice-aggregate-kept-equations c = sym (length-take-le _ _ (omega arith))
 
 kept-equations-requires : tie.Need-kept_equations-requires
 kept-equations-requires c κs =
-    let entry = c.before.before.before.before.before.before.before.before in
+    let entry = c.before.before.before.before.before.before.before in
     let a = entry.args in
-    let n : ℕ = length a.g-1.now in
+    let n : ℕ = length a.g.now in
     let h : n * n ≤ length a.gram.now = omega arith in
     (entry.requires.0, entry.requires.1, entry.requires.2, length-take-le (n * n) a.gram.now h, rows_take n n a.gram.now h ∙ entry.requires.3 h)
 
 solve-dense-requires : tie.Need-solve_dense-requires
 solve-dense-requires c κs =
-    let entry = c.before.before.before.before.before.before.before.before.before.before.before.before.before.before.before in
+    let entry = c.before.before.before.before.before.before.before.before.before.before.before.before.before.before in
     let t = c.kept_equations in
-    let e = t.auto.1.1.1.1.1.0 in
-    (omega (arith, e, entry.requires.0), matrix_fits (length entry.args.g-1.now) entry.args.m _ t.new.0 e (t.auto.0 ∙ entry.requires.2))
+    let e = t.auto.g in
+    (omega (arith, e, entry.requires.0), matrix_fits (length entry.args.g.now) entry.args.m _ t.new.v e (t.auto.v ∙ entry.requires.2))
 
 returns_2 : tie.Need-returns
 returns_2 c =
-    let entry = c.before.before.before.before.before.before.before.before.before.before.before.before.before.before.before.before.before.before.before.before in
+    let entry = c.before.before.before.before.before.before.before.before.before.before.before.before.before.before.before.before.before.before.before in
     let a = entry.args in
     let t = c.kept_equations in
     let s = c.solve_dense in
-    step_solved (length a.g-1.now) a.m _ a.v-1.now a.r.now a.lambda t.new.0 t.new.1.1.1.1.1.0 s.new.0 s.new.1.0 s.result
-    t.auto.1.1.1.1.1.0 (t.auto.0 ∙ entry.requires.2) t.ensures s.ensures
+    step_solved (length a.g.now) a.m _ a.v.now a.r.now a.lambda t.new.v t.new.g s.new.a s.new.b s.result
+    t.auto.g (t.auto.v ∙ entry.requires.2) t.ensures s.ensures
 
 pub kept_step_spec : {M : Type 1} → statement M
 kept_step_spec =

@@ -15,7 +15,7 @@ use Rattle.eigenaxis.proofs.narrow.Tie as tie
 
 abbrev invariant_loop : tie.invariant-loop-k
 invariant_loop q shape ws₀ s₀ k₀ ws s k =
-    (k ≤ 8) × ((length ws ≡ length ws₀) × ((s ≡ iter (Ladders.narrow_turn-s q shape (length ws₀)) s₀ k) × ((s.runs ≤ s₀.runs + k * 7802) × Keeps q shape s₀ s ws₀ ws)))
+    (k ≤ 8) × ((length ws ≡ length ws₀) × ((s ≡ iter (Ladders.narrow_turn q shape (length ws₀)) s₀ k) × ((s.runs ≤ s₀.runs + k * 7802) × Keeps q shape s₀ s ws₀ ws)))
 
 abbrev decreases_loop : tie.decreases-loop-k
 decreases_loop q shape ws₀ s₀ k₀ ws s k = 8 - k
@@ -29,7 +29,7 @@ loop-again c =
     let i = loop.invariant in
     let t = c.narrow_turn-s in
     let h : t.result.runs ≤ loop.s.runs + 7802 = rw t.ensures.0 (narrow_turn_most _ _ _ 0 _) in
-    (omega arith, (t.auto.1.1.1.0 ∙ i.1.0, (iter_next _ _ _ i.1.1.0 ((rw i.1.0 at t.ensures.0) ∙ narrow_any _ _ _ _ _), (omega (arith, h, i.1.1.1.0), keeps_then i.1.1.1.1 t.ensures.1))))
+    (omega arith, (t.auto.ws ∙ i.1.0, (iter_next _ _ _ i.1.1.0 ((rw i.1.0 at t.ensures.0) ∙ narrow_any _ _ _ _ _), (omega (arith, h, i.1.1.1.0), keeps_then i.1.1.1.1 t.ensures.1))))
 
 returns : tie.Need-returns invariant_loop decreases_loop
 returns c =

@@ -19,7 +19,7 @@ returns c =
     let f = c.start-first in
     let q = unweighted.ensures in
     let all = keeps_begin (keeps_begin f.ensures.1.1 m.ensures.1) n.ensures.1 in
-    (ladder_as _ _ q f.ensures.0 f.auto.1.1.0 m.ensures.0 (m.auto.1.1.1.0 ∙ f.auto.1.1.0) n.ensures.0, (all.left, rw q at all.stands))
+    (ladder_as _ _ q f.ensures.0 f.auto.ws m.ensures.0 (m.auto.ws ∙ f.auto.ws) n.ensures.0, (all.left, rw q at all.stands))
 
 pub plan_eigenaxis_spec : {M : Type 1} → statement M
 plan_eigenaxis_spec = tie.close (tie.spec (λ c κs. search rules) (λ c κs. search rules) (λ c κs. search rules) narrow-requires (λ c. search rules) returns)

@@ -10,7 +10,7 @@ use Rattle.eigenaxis_seed.proofs.seed.Statement.{statement}
 use Rattle.eigenaxis_seed.proofs.seed.Tie as tie
 
 abbrev invariant_loop : tie.invariant-loop-i
-invariant_loop p shape phi duration k s₀ i₀ s i = (i ≤ 16) × ((k ≤ 8) × (s ≡ iter (Seeds.turn-s p shape k duration phi) s₀ i))
+invariant_loop p shape phi duration k s₀ i₀ s i = (i ≤ 16) × ((k ≤ 8) × (s ≡ iter (Seeds.turn p shape k duration phi) s₀ i))
 
 abbrev decreases_loop : tie.decreases-loop-i
 decreases_loop p shape phi duration k s₀ i₀ s i = 16 - i

@@ -24,11 +24,11 @@ decreases_loop a₀ b₀ n top₀ next₀ spare₀ col₀ k₀ a b top next spar
 columns-requires : tie.Need-columns-requires invariant_loop decreases_loop
 columns-requires c κs = let s = c.before.before.before.before.before.before.before.before.before.before in
     let l = c.loop-k in
-    let n : ℕ = length s.args.b-1.now in
-    let e : n ≡ length l.b-1 = sym l.invariant.6 in (
-      record { matrix = l.invariant.5 ∙ s.requires.1 ∙ ap (λ k. k * k) e; tops = length-take-le n l.top-1 (omega arith) ∙ e; spares = length-take-le n l.spare-1 (omega arith) ∙ e },
-      length-take-le n l.next-1 (omega arith) ∙ e,
-      length-take-le n l.col-1 (omega arith) ∙ e,
+    let n : ℕ = length s.args.b.now in
+    let e : n ≡ length l.b = sym l.invariant.6 in (
+      record { matrix = l.invariant.5 ∙ s.requires.1 ∙ ap (λ k. k * k) e; tops = length-take-le n l.top (omega arith) ∙ e; spares = length-take-le n l.spare (omega arith) ∙ e },
+      length-take-le n l.next (omega arith) ∙ e,
+      length-take-le n l.col (omega arith) ∙ e,
       omega arith,
     )
 
@@ -44,30 +44,30 @@ unfolding Elimination.solve_dense
 returns c = let a = c.args in
     let l = c.loop-k in
     let t = c.columns in
-    let n : ℕ = length a.b-1.now in
-    let m : List (List Float) = rows n n t.new.0 in
+    let n : ℕ = length a.b.now in
+    let m : List (List Float) = rows n n t.new.a in
     let g : t.result ≡ false = not-true _ c.if-not-columns.true in
-    let f : Elimination.column n (l.k + 1) (Elimination.column n l.k (Elimination.going (rows n n l.a-1) l.b-1)) ≡ Elimination.after t.result m t.new.1.0 =
-    subst (λ w. Elimination.column w (l.k + 1) (Elimination.column w l.k (Elimination.going (rows w w l.a-1) l.b-1)) ≡ Elimination.after t.result (rows w w t.new.0) t.new.1.0) l.invariant.6 t.ensures in
-    ap Elimination.solution_of (iter_stays _ _ (l.k + 2) n (omega arith) (two_more n l.k _ _ _ _ l.invariant.7 f (ap (λ r. Elimination.after r m t.new.1.0) g)) (λ j. refl))
+    let f : Elimination.column n (l.k + 1) (Elimination.column n l.k (Elimination.going (rows n n l.a) l.b)) ≡ Elimination.after t.result m t.new.b =
+    subst (λ w. Elimination.column w (l.k + 1) (Elimination.column w l.k (Elimination.going (rows w w l.a) l.b)) ≡ Elimination.after t.result (rows w w t.new.a) t.new.b) l.invariant.6 t.ensures in
+    ap Elimination.solution_of (iter_stays _ _ (l.k + 2) n (omega arith) (two_more n l.k _ _ _ _ l.invariant.7 f (ap (λ r. Elimination.after r m t.new.b) g)) (λ j. refl))
 
 loop-again : tie.Need-loop-k-preserved invariant_loop decreases_loop
 loop-again c = let a = c.args in
     let l = c.loop-k in
     let t = c.columns in
-    let n : ℕ = length a.b-1.now in
-    let m : List (List Float) = rows n n t.new.0 in
+    let n : ℕ = length a.b.now in
+    let m : List (List Float) = rows n n t.new.a in
     let g : t.result ≡ true = not-false _ c.if-not-columns.false in
-    let f : Elimination.column n (l.k + 1) (Elimination.column n l.k (Elimination.going (rows n n l.a-1) l.b-1)) ≡ Elimination.after t.result m t.new.1.0 =
-    subst (λ w. Elimination.column w (l.k + 1) (Elimination.column w l.k (Elimination.going (rows w w l.a-1) l.b-1)) ≡ Elimination.after t.result (rows w w t.new.0) t.new.1.0) l.invariant.6 t.ensures in (
+    let f : Elimination.column n (l.k + 1) (Elimination.column n l.k (Elimination.going (rows n n l.a) l.b)) ≡ Elimination.after t.result m t.new.b =
+    subst (λ w. Elimination.column w (l.k + 1) (Elimination.column w l.k (Elimination.going (rows w w l.a) l.b)) ≡ Elimination.after t.result (rows w w t.new.a) t.new.b) l.invariant.6 t.ensures in (
       omega arith,
-      length_front l.top-1 t.new.1.1.0 n t.auto.1.1.0 ∙ l.invariant.1,
-      length_front l.next-1 t.new.1.1.1.0 n t.auto.1.1.1.0 ∙ l.invariant.2,
-      length_front l.spare-1 t.new.1.1.1.1.0 n t.auto.1.1.1.1.0 ∙ l.invariant.3,
-      length_front l.col-1 t.new.1.1.1.1.1.0 n t.auto.1.1.1.1.1.0 ∙ l.invariant.4,
-      t.auto.0 ∙ l.invariant.5,
-      t.auto.1.0 ∙ l.invariant.6,
-      two_more n l.k _ _ _ _ l.invariant.7 f (ap (λ r. Elimination.after r m t.new.1.0) g),
+      length_front l.top t.new.top n t.auto.top ∙ l.invariant.1,
+      length_front l.next t.new.next n t.auto.next ∙ l.invariant.2,
+      length_front l.spare t.new.spare n t.auto.spare ∙ l.invariant.3,
+      length_front l.col t.new.col n t.auto.col ∙ l.invariant.4,
+      t.auto.a ∙ l.invariant.5,
+      t.auto.b ∙ l.invariant.6,
+      two_more n l.k _ _ _ _ l.invariant.7 f (ap (λ r. Elimination.after r m t.new.b) g),
     )
 
 returns_2 : tie.Need-returns-then-k-n invariant_loop decreases_loop
@@ -75,16 +75,16 @@ unfolding Elimination.solve_dense
 returns_2 c =
     let entry = c.before.before.before.before.before in
     let l = c.loop-k in
-    let e : l.k ≡ length entry.args.b-1.now = omega arith in
+    let e : l.k ≡ length entry.args.b.now = omega arith in
     ap Elimination.solution_of (rw e at l.invariant.7)
 
 column-requires : tie.Need-column-requires invariant_loop decreases_loop
 column-requires c κs = let s = c.before.before.before.before.before.before.before.before.before.before in
     let l = c.loop-k in
-    let n : ℕ = length s.args.b-1.now in
-    let e : n ≡ length l.b-1 = sym l.invariant.6 in (
-      record { matrix = l.invariant.5 ∙ s.requires.1 ∙ ap (λ k. k * k) e; tops = length-take-le n l.top-1 (omega arith) ∙ e; spares = length-take-le n l.spare-1 (omega arith) ∙ e },
-      length-take-le n l.col-1 (omega arith) ∙ e,
+    let n : ℕ = length s.args.b.now in
+    let e : n ≡ length l.b = sym l.invariant.6 in (
+      record { matrix = l.invariant.5 ∙ s.requires.1 ∙ ap (λ k. k * k) e; tops = length-take-le n l.top (omega arith) ∙ e; spares = length-take-le n l.spare (omega arith) ∙ e },
+      length-take-le n l.col (omega arith) ∙ e,
       omega arith,
     )
 
@@ -97,10 +97,10 @@ unfolding Elimination.solve_dense
 returns_3 c = let a = c.args in
     let l = c.loop-k in
     let t = c.column in
-    let n : ℕ = length a.b-1.now in
-    let f : Elimination.column n l.k (Elimination.going (rows n n l.a-1) l.b-1) ≡ Elimination.after t.result (rows n n t.new.0) t.new.1.0 =
-    subst (λ w. Elimination.column w l.k (Elimination.going (rows w w l.a-1) l.b-1) ≡ Elimination.after t.result (rows w w t.new.0) t.new.1.0) l.invariant.6 t.ensures in
-    told t.result (rows n n t.new.0) t.new.1.0 ∙ ap Elimination.solution_of (last n l.k _ _ _ (omega arith) l.invariant.7 f)
+    let n : ℕ = length a.b.now in
+    let f : Elimination.column n l.k (Elimination.going (rows n n l.a) l.b) ≡ Elimination.after t.result (rows n n t.new.a) t.new.b =
+    subst (λ w. Elimination.column w l.k (Elimination.going (rows w w l.a) l.b) ≡ Elimination.after t.result (rows w w t.new.a) t.new.b) l.invariant.6 t.ensures in
+    told t.result (rows n n t.new.a) t.new.b ∙ ap Elimination.solution_of (last n l.k _ _ _ (omega arith) l.invariant.7 f)
   where
     told : (r : Bool) (x : List (List Float)) (y : List Float) → Elimination.told r y ≡ Elimination.solution_of (Elimination.after r x y)
     told true x y = refl

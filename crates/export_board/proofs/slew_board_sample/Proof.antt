@@ -9,7 +9,7 @@ returns c =
     let made = c.before.before.before in
     let e = rw made.tensor-inertia.ensures at made.drive_sample-made.ensures in
     let driven = made.drive_sample-made.result in
-    let told = placed (of_fate_law driven.numbers-1 driven.fate) c.place_of.ensures c.number_of_lem.ensures in
+    let told = placed (of_fate_law driven.numbers driven.fate) c.place_of.ensures c.number_of_lem.ensures in
     record { placed = rw e at told; numbers_are = rw e }
 
 pub slew_board_sample_spec : {M : Type 1} → statement M

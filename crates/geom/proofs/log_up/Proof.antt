@@ -19,7 +19,7 @@ returns_2 c =
     let after-clamp = after-acos.before in
     let branch1 = after-clamp.before in
     let after-norm3 = branch1.before in
-    rw (← after-norm3.norm3-n.ensures, branch1.if-n.false, ← after-clamp.clamp.ensures, ← after-acos.acos-half.ensures, after-half.half-1.given.1)
+    rw (← after-norm3.norm3-n.ensures, branch1.if-n.false, ← after-clamp.clamp.ensures, ← after-acos.acos-half.ensures, after-half.half.given.1)
 
 returns_3 : tie.Need-returns-in-Outside
 unfolding log_at of_bits neg

@@ -25,7 +25,7 @@ loop-again : tie.Need-loop-k-preserved invariant_loop decreases_loop
 loop-again c =
     let l = c.loop-k in
     let start = c.before.before.before.before.before.before.before in
-    (omega arith, rw c.move_rows.ensures (upto_node start.args.r-1.now l.k l.r-1 (omega arith) start.requires l.invariant.1))
+    (omega arith, rw c.move_rows.ensures (upto_node start.args.r.now l.k l.r (omega arith) start.requires l.invariant.1))
 
 returns : tie.Need-returns invariant_loop decreases_loop
 returns c = let e : c.loop-k.k ≡ 17 = omega arith in rw e at c.loop-k.invariant.1

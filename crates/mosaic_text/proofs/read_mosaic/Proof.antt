@@ -14,7 +14,7 @@ returns_2 : tie.Need-read_parts-requires
 unfolding read_mosaic
 returns_2 c =
     let i = c.before.before in
-    simp (le-ltb _ _ i.if-s-gt16384.false, unmet i.is_at.ensures.is c.if-not-is_at.true) c.wrong-then-not-is_at.ensures
+    simp (le-ltb _ _ i.if-s-gt16384.false, unmet c.is_at.ensures.is c.if-not-is_at.true) c.wrong-then-not-is_at.ensures
 
 read-parts-requires : tie.Need-returns
 read-parts-requires c κs =

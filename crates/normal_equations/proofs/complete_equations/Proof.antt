@@ -15,24 +15,24 @@ use Rattle.normal_equations.proofs.complete_equations.Tie as tie
 
 damp-requires : tie.Need-damp-requires
 damp-requires c κs =
-    let entry = c.before.before.before.before.before.before.before.before.before in
-    let v : List Float = entry.args.v-1.now in
-    let o : ℕ = length entry.args.g-1.now * entry.args.m in
+    let entry = c.before.before.before.before.before.before.before.before in
+    let v : List Float = entry.args.v.now in
+    let o : ℕ = length entry.args.g.now * entry.args.m in
     (entry.requires.0, omega (arith, ap length (tail_part v o), length-drop o v, entry.requires.2))
 
 returns : tie.Need-returns
 returns c =
-    let entry = c.before.before.before.before.before.before.before.before.before.before.before.before in
+    let entry = c.before.before.before.before.before.before.before.before.before.before.before in
     let a = entry.args in
-    let n : ℕ = length a.g-1.now in
-    let v : List Float = a.v-1.now in
+    let n : ℕ = length a.g.now in
+    let v : List Float = a.v.now in
     let o : ℕ = n * a.m in
     let t = c.damp in
-    let p : List Float = t.new.0 in
+    let p : List Float = t.new.a in
     let h : o ≤ length v = omega (arith, entry.requires.2) in
     record {
       columns = take_at (take o v) (p ++ drop (length v - o) (drop o v)) o (length-take-le o v h);
-      matrix = ap (λ x. rows n n x) (tail_back v p o h (t.auto.0 ∙ ap length (tail_part v o) ∙ length-drop o v)) ∙ t.ensures ∙ ap (λ x. damped n a.lambda (rows n n x)) (tail_part v o);
+      matrix = ap (λ x. rows n n x) (tail_back v p o h (t.auto.a ∙ ap length (tail_part v o) ∙ length-drop o v)) ∙ t.ensures ∙ ap (λ x. damped n a.lambda (rows n n x)) (tail_part v o);
       right = c.right_side.ensures;
     }
 

@@ -10,7 +10,7 @@ returns c =
     let a = c.args in
     let t = c.complete_equations in
     let s = c.gram_matrix in
-    gram_equations (length a.g-1.now) a.m a.v-1.now s.new.0 a.r.now a.lambda t.new.0 t.new.1.1.1.1.0 s.ensures.0 s.ensures.1 t.ensures
+    gram_equations (length a.g.now) a.m a.v.now s.new.v a.r.now a.lambda t.new.v t.new.g s.ensures.0 s.ensures.1 t.ensures
 
 pub equations_spec : {M : Type 1} → statement M
 equations_spec =

@@ -18,7 +18,7 @@ use Rattle.normal_equations.proofs.gram_matrix.Tie as tie
 
 -- of the matrix in v, which was v₀, the rows below c are right
 abbrev Right : ℕ → ℕ → List Float → ℕ → List Float → Type 0
-Right n m v₀ c v = Filled (λ x. tab n (Inner.sums_of m (take (n * m) v₀) x)) 0 c (R.row-1 n (drop (n * m) v₀)) (R.row-1 n (drop (n * m) v))
+Right n m v₀ c v = Filled (λ x. tab n (Inner.sums_of m (take (n * m) v₀) x)) 0 c (R.row n (drop (n * m) v₀)) (R.row n (drop (n * m) v))
 
 more : (n m : ℕ) (v₀ v u : List Float) (c : ℕ) → c < n → take (n * m) v ≡ take (n * m) v₀ → Right n m v₀ c v → Inner.RowFilled n m v c u
     → Right n m v₀ (c + 1) u
@@ -39,39 +39,39 @@ matrix-rows-requires : tie.Need-matrix_rows-requires invariant_loop decreases_lo
 matrix-rows-requires c κs = let s = c.before.before.before.before.before.before in
     let a = s.args in
     let l = c.loop-c in
-    let e : a.n ≡ length (take a.n l.row-1) = sym (length-take-le a.n l.row-1 (omega arith)) in
-    (omega arith, length-take-le a.n l.next-1 (omega arith) ∙ e, l.invariant.3 ∙ s.requires.1 ∙ ap (λ k. k * a.m + k * k) e)
+    let e : a.n ≡ length (take a.n l.row) = sym (length-take-le a.n l.row (omega arith)) in
+    (omega arith, length-take-le a.n l.next (omega arith) ∙ e, l.invariant.3 ∙ s.requires.1 ∙ ap (λ k. k * a.m + k * k) e)
 
 loop-again : tie.Need-loop-c-preserved invariant_loop decreases_loop
 loop-again c = let a = c.args in
     let l = c.loop-c in
     let t = c.matrix_rows in
     let n : ℕ = a.n in
-    let v₀ : List Float = a.v-1.now in
-    let f : Inner.RowsFilled n a.m l.v-1 l.c t.new.0 =
-    subst (λ k. Inner.RowsFilled k a.m l.v-1 l.c t.new.0) (length-take-le n l.row-1 (omega arith)) t.ensures in
+    let v₀ : List Float = a.v.now in
+    let f : Inner.RowsFilled n a.m l.v l.c t.new.v =
+    subst (λ k. Inner.RowsFilled k a.m l.v l.c t.new.v) (length-take-le n l.row (omega arith)) t.ensures in
     let two : l.c + 1 + 1 ≡ l.c + 2 = omega arith in
     let same : take (n * a.m) f.middle ≡ take (n * a.m) v₀ = f.first.columns ∙ l.invariant.4 in (
       omega arith,
-      length_front l.row-1 t.new.1.1.1.0 n t.auto.1.1.1.0 ∙ l.invariant.1,
-      length_front l.next-1 t.new.1.1.1.1.0 n t.auto.1.1.1.1.0 ∙ l.invariant.2,
+      length_front l.row t.new.row n t.auto.row ∙ l.invariant.1,
+      length_front l.next t.new.next n t.auto.next ∙ l.invariant.2,
       f.second.size ∙ f.first.size ∙ l.invariant.3,
       f.second.columns ∙ same,
-      subst (λ k. Right n a.m v₀ k t.new.0) two
-          (more n a.m v₀ f.middle t.new.0 (l.c + 1) (omega arith) same
-          (more n a.m v₀ l.v-1 f.middle l.c (omega arith) l.invariant.4 l.invariant.5 f.first) f.second),
+      subst (λ k. Right n a.m v₀ k t.new.v) two
+          (more n a.m v₀ f.middle t.new.v (l.c + 1) (omega arith) same
+          (more n a.m v₀ l.v f.middle l.c (omega arith) l.invariant.4 l.invariant.5 f.first) f.second),
     )
 
 returns : tie.Need-returns-then-c-n invariant_loop decreases_loop
 returns c = let a = c.args in
     let l = c.loop-c in
-    (l.invariant.4, all a.n a.m a.v-1.now l.v-1 l.c (omega arith) l.invariant.5)
+    (l.invariant.4, all a.n a.m a.v.now l.v l.c (omega arith) l.invariant.5)
 
 matrix-row-requires : tie.Need-matrix_row-requires invariant_loop decreases_loop
 matrix-row-requires c κs = let s = c.before.before.before.before.before.before in
     let a = s.args in
     let l = c.loop-c in
-    let e : a.n ≡ length (take a.n l.row-1) = sym (length-take-le a.n l.row-1 (omega arith)) in
+    let e : a.n ≡ length (take a.n l.row) = sym (length-take-le a.n l.row (omega arith)) in
     (omega arith, l.invariant.3 ∙ s.requires.1 ∙ ap (λ k. k * a.m + k * k) e)
 
 returns_2 : tie.Need-returns invariant_loop decreases_loop
@@ -79,9 +79,9 @@ returns_2 c = let a = c.args in
     let l = c.loop-c in
     let t = c.matrix_row in
     let n : ℕ = a.n in
-    let f : Inner.RowFilled n a.m l.v-1 l.c t.new.0 =
-    subst (λ k. Inner.RowFilled k a.m l.v-1 l.c t.new.0) (length-take-le n l.row-1 (omega arith)) t.ensures in
-    (f.columns ∙ l.invariant.4, all n a.m a.v-1.now t.new.0 (l.c + 1) (omega arith) (more n a.m a.v-1.now l.v-1 t.new.0 l.c (omega arith) l.invariant.4 l.invariant.5 f))
+    let f : Inner.RowFilled n a.m l.v l.c t.new.v =
+    subst (λ k. Inner.RowFilled k a.m l.v l.c t.new.v) (length-take-le n l.row (omega arith)) t.ensures in
+    (f.columns ∙ l.invariant.4, all n a.m a.v.now t.new.v (l.c + 1) (omega arith) (more n a.m a.v.now l.v t.new.v l.c (omega arith) l.invariant.4 l.invariant.5 f))
 
 pub gram_matrix_spec : {M : Type 1} → statement M
 gram_matrix_spec =

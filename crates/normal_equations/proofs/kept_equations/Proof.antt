@@ -17,32 +17,32 @@ use Rattle.normal_equations.proofs.kept_equations.Tie as tie
 copy-requires : tie.Need-copy-requires
 copy-requires c κs =
     let entry = c.before.before.before.before.before in
-    let v : List Float = entry.args.v-1.now in
-    let o : ℕ = length entry.args.g-1.now * entry.args.m in
+    let v : List Float = entry.args.v.now in
+    let o : ℕ = length entry.args.g.now * entry.args.m in
     omega (arith, ap length (tail_part v o), length-drop o v, entry.requires.2, entry.requires.3)
 
 complete-equations-requires : tie.Need-complete_equations-requires
 complete-equations-requires c κs =
     let entry = c.before.before.before.before.before.before.before.before.before.before in
-    let v : List Float = entry.args.v-1.now in
-    let o : ℕ = length entry.args.g-1.now * entry.args.m in
+    let v : List Float = entry.args.v.now in
+    let o : ℕ = length entry.args.g.now * entry.args.m in
     let t = c.copy in
-    (entry.requires.0, entry.requires.1, length_pasted v t.new.0 o (length v) (omega (arith, entry.requires.2)) (omega arith) (t.auto.0 ∙ ap length (tail_part v o) ∙ length-drop o v) ∙ entry.requires.2)
+    (entry.requires.0, entry.requires.1, length_pasted v t.new.to o (length v) (omega (arith, entry.requires.2)) (omega arith) (t.auto.to ∙ ap length (tail_part v o) ∙ length-drop o v) ∙ entry.requires.2)
 
 returns : tie.Need-returns
 returns c =
     let entry = c.before.before.before.before.before.before.before.before.before.before.before.before.before.before.before in
     let a = entry.args in
-    let n : ℕ = length a.g-1.now in
-    let v : List Float = a.v-1.now in
+    let n : ℕ = length a.g.now in
+    let v : List Float = a.v.now in
     let o : ℕ = n * a.m in
     let t = c.copy in
     let s = c.complete_equations in
-    let p : List Float = t.new.0 in
+    let p : List Float = t.new.to in
     let h : o ≤ length v = omega (arith, entry.requires.2) in
-    gram_equations n a.m v (pasted v o (length v) p) a.r.now a.lambda s.new.0 s.new.1.1.1.1.0
+    gram_equations n a.m v (pasted v o (length v) p) a.r.now a.lambda s.new.v s.new.g
     (take_at (take o v) (p ++ drop (length v - o) (drop o v)) o (length-take-le o v h))
-    (ap (λ x. rows n n x) (tail_back v p o h (t.auto.0 ∙ ap length (tail_part v o) ∙ length-drop o v) ∙ t.ensures) ∙ entry.requires.4) s.ensures
+    (ap (λ x. rows n n x) (tail_back v p o h (t.auto.to ∙ ap length (tail_part v o) ∙ length-drop o v) ∙ t.ensures) ∙ entry.requires.4) s.ensures
 
 pub kept_equations_spec : {M : Type 1} → statement M
 kept_equations_spec =

@@ -29,16 +29,16 @@ column_put m c x v room whole =
 put-slopes-requires : tie.Need-put_slopes-requires
 put-slopes-requires c κs =
     let a = c.args in
-    let l = part_length a.m a.v-1.now a.c (a.c * a.m) (a.c * a.m + a.m) refl refl (omega arith) in
+    let l = part_length a.m a.v.now a.c (a.c * a.m) (a.c * a.m + a.m) refl refl (omega arith) in
     omega arith
 
 returns : tie.Need-returns
 unfolding slopes
 returns c =
     let a = c.args in
-    let l = part_length a.m a.v-1.now a.c (a.c * a.m) (a.c * a.m + a.m) refl refl (omega arith) in
+    let l = part_length a.m a.v.now a.c (a.c * a.m) (a.c * a.m + a.m) refl refl (omega arith) in
     let put = c.put_slopes.ensures ∙ ap (λ k. slopes k a.rp.now a.r0.now) l in
-    subst (λ x. ColumnPut a.m a.c (slopes a.m a.rp.now a.r0.now) a.v-1.now (pasted a.v-1.now (a.c * a.m) (a.c * a.m + a.m) x)) (sym put) (column_put a.m a.c (slopes a.m a.rp.now a.r0.now) a.v-1.now (omega arith) (length_tab a.m _))
+    subst (λ x. ColumnPut a.m a.c (slopes a.m a.rp.now a.r0.now) a.v.now (pasted a.v.now (a.c * a.m) (a.c * a.m + a.m) x)) (sym put) (column_put a.m a.c (slopes a.m a.rp.now a.r0.now) a.v.now (omega arith) (length_tab a.m _))
 
 pub put_column_spec : {M : Type 1} → statement M
 put_column_spec =

@@ -21,14 +21,14 @@ loop-again : tie.Need-loop-i-preserved invariant_loop decreases_loop
 loop-again c =
     let entry = c.before.before.before.before in
     let l = c.loop-i in
-    (omega arith, simp length-set (omega arith), filled_set _ 0 l.i entry.args.column-1.now l.column-1 _ (omega arith) (omega arith) l.invariant.2 refl)
+    (omega arith, simp length-set (omega arith), filled_set _ 0 l.i entry.args.column.now l.column _ (omega arith) (omega arith) l.invariant.2 refl)
 
 returns : tie.Need-returns invariant_loop decreases_loop
 unfolding Normal.slopes
 returns c = let l = c.loop-i in
-    let v : List Float = c.args.column-1.now in
+    let v : List Float = c.args.column.now in
     let e : l.i ≡ length v = omega arith in
-    filled_all _ 0 v l.column-1 l.invariant.1 (rw e at l.invariant.2) (λ x h. absurd (omega arith))
+    filled_all _ 0 v l.column l.invariant.1 (rw e at l.invariant.2) (λ x h. absurd (omega arith))
 
 pub put_slopes_spec : {M : Type 1} → statement M
 put_slopes_spec =

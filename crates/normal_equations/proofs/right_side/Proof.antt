@@ -15,7 +15,7 @@ use Rattle.normal_equations.proofs.right_side.Statement.{statement}
 use Rattle.normal_equations.proofs.right_side.Tie as tie
 
 abbrev invariant_loop : tie.invariant-loop-c
-invariant_loop g₀ j m r c₀ g c = (c ≤ length g₀) × (length g ≡ length g₀) × (Filled (λ x. neg (Normal.dot-x m (row m j x) r)) 0 c (at g₀) (at g))
+invariant_loop g₀ j m r c₀ g c = (c ≤ length g₀) × (length g ≡ length g₀) × (Filled (λ x. neg (Normal.dot m (row m j x) r)) 0 c (at g₀) (at g))
 
 abbrev decreases_loop : tie.decreases-loop-c
 decreases_loop g₀ j m r c₀ g c = length g₀ - c
@@ -29,8 +29,8 @@ loop-again c = let a = c.args in
       omega arith,
       simp length-set (omega arith),
       filled_set _ 0 l.c a.g.now l.g _ (omega arith) (omega arith) l.invariant.2
-          (ap neg (c.dot-x.ensures ∙ ap (λ p. Normal.dot-x (length p) p a.r.now) (part_row a.m a.j.now l.c (l.c * a.m) (l.c * a.m + a.m) refl refl)
-          ∙ ap (λ k. Normal.dot-x k (row a.m a.j.now l.c) a.r.now) (length_row a.m a.j.now l.c (omega (arith, row_end l.c (length a.g.now) a.m (omega arith)))))),
+          (ap neg (c.dot-x.ensures ∙ ap (λ p. Normal.dot (length p) p a.r.now) (part_row a.m a.j.now l.c (l.c * a.m) (l.c * a.m + a.m) refl refl)
+          ∙ ap (λ k. Normal.dot k (row a.m a.j.now l.c) a.r.now) (length_row a.m a.j.now l.c (omega (arith, row_end l.c (length a.g.now) a.m (omega arith)))))),
     )
 
 returns : tie.Need-returns invariant_loop decreases_loop

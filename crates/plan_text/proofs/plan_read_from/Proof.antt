@@ -12,7 +12,7 @@ returns_2 : tie.Need-returns-in-Going
 returns_2 c =
     let at-plan-seeded = c.before.before in
     let made = at-plan-seeded.plan_seeded.ensures in
-    (made.0 ∙ rw at-plan-seeded.enum_told-1.given.1, made.1)
+    (made.0 ∙ rw at-plan-seeded.before.before.before.enum_told.given.1, made.1)
 
 pub plan_read_from_spec : {M : Type 1} → statement M
 plan_read_from_spec = tie.close (tie.spec (search rules) (search rules) (search rules) (search rules) returns (search rules) returns_2)

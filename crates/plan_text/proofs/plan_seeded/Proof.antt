@@ -16,7 +16,7 @@ returns c =
     let entry = at-if1.before.before.before in
     let start = entry.args in
     let made = at-plan-from.plan_from.ensures in
-    (made.0 ∙ seed_miscounted start.p start.seed.now (length start.ws-1.now) at-if1.if-seed-ne103.true, made.1.0)
+    (made.0 ∙ seed_miscounted start.p start.seed.now (length start.ws.now) at-if1.if-seed-ne103.true, made.1.0)
 
 shared-slice-read-plan-from : tie.Need-bounds-seed-0
 shared-slice-read-plan-from c = omega (arith, c.if-seed-ne103.false)
@@ -34,7 +34,7 @@ returns_2 c =
     let entry = at-if1.before.before.before in
     let start = entry.args in
     let made = at-plan-from2.plan_from-2.ensures in
-    (made.0 ∙ seed_counted start.p start.seed.now (length start.ws-1.now) at-if1.if-seed-ne103.false, made.1.0)
+    (made.0 ∙ seed_counted start.p start.seed.now (length start.ws.now) at-if1.if-seed-ne103.false, made.1.0)
 
 pub plan_seeded_spec : {M : Type 1} → statement M
 plan_seeded_spec =

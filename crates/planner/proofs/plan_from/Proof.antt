@@ -24,7 +24,7 @@ unfolding Plans.plan_from
 returns c =
     let entry = c.before.before.before.before.before.before in
     let good = c.before.before.before.before.before.before.well_formed in
-    entry_refused (λ r. Answers entry.args.p (Plans.seed_of (check entry.args.p).problem-1 entry.args.duration entry.args.torques.now) r) _ (Plans.seed_of (check entry.args.p).problem-1 entry.args.duration entry.args.torques.now) c.refused.ensures (rw (← c.check-checked.ensures, c.in-Refused.is) refl) (λ fit. plan_from_answers _ (problem_held entry.args.p _ good.0) _ _ _ _ fit)
+    entry_refused (λ r. Answers entry.args.p (Plans.seed_of (check entry.args.p).problem entry.args.duration entry.args.torques.now) r) _ (Plans.seed_of (check entry.args.p).problem entry.args.duration entry.args.torques.now) c.refused.ensures (rw (← c.check-checked.ensures, c.in-Refused.is) refl) (λ fit. plan_from_answers _ (problem_held entry.args.p _ good.0) _ _ _ _ fit)
 
 returns_2 : tie.Need-returns-in-Going
 returns_2 c =
@@ -32,7 +32,7 @@ returns_2 c =
     let good = c.before.before.before.before.before.before.before.before.before.before.before.well_formed in
     let enum_told = c.enum_told-1 in
     let counted = c.counted in
-    entry_as (λ r. Answers entry.args.p (Plans.seed_of (check entry.args.p).problem-1 entry.args.duration entry.args.torques.now) r) (from_as entry.args.p entry.args.duration entry.args.rates.now entry.args.torques.now _ c.check-checked.ensures enum_told.given.1 counted.ensures c.with_seed.ensures) (λ fit. plan_from_answers _ (problem_held entry.args.p _ good.0) _ _ _ _ fit)
+    entry_as (λ r. Answers entry.args.p (Plans.seed_of (check entry.args.p).problem entry.args.duration entry.args.torques.now) r) (from_as entry.args.p entry.args.duration entry.args.rates.now entry.args.torques.now _ c.check-checked.ensures enum_told.given.1 counted.ensures c.with_seed.ensures) (λ fit. plan_from_answers _ (problem_held entry.args.p _ good.0) _ _ _ _ fit)
 
 pub plan_from_spec : {M : Type 1} → statement M
 plan_from_spec =

@@ -9,7 +9,7 @@ with-seed-requires : tie.Need-with_seed-requires
 with-seed-requires c κs =
     let entry = c.before.before.before.before in
     let good = c.before.before.before.before.well_formed in
-    (entry.requires, λ e. omega (arith, field_count 51 entry.args.seed.torques-1 _ good.1.0.1.1.1.1.0))
+    (entry.requires, λ e. omega (arith, field_count 51 entry.args.seed.torques _ good.1.0.1.1.1.1.0))
 
 pub with_profile_seed_spec : {M : Type 1} → statement M
 with_profile_seed_spec =

@@ -23,7 +23,7 @@ returns_2 c =
     let start = after-enum-told2.before.before in
     let v = start in
     let e : v.invert_spd-inverse.result ≡ invert_spd (tensor v.args.p.inertia) = v.invert_spd-inverse.ensures ∙ ap invert_spd v.tensor.ensures in
-    rw (← e, after-enum-told2.enum_told-in-Going-1.given.1, c.placed-starts.ensures)
+    rw (← e, after-enum-told2.enum-told2.given.1, c.placed-starts.ensures)
 
 pub with_attitudes_spec : {M : Type 1} → statement M
 with_attitudes_spec =

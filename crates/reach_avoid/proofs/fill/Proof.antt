@@ -18,7 +18,7 @@ sweep-requires : tie.Need-sweep-requires invariant_loop decreases_loop
 sweep-requires c κs = (omega arith, c.loop-m.invariant.1)
 
 loop-again : tie.Need-loop-m-preserved invariant_loop decreases_loop
-loop-again c = (omega arith, subst (λ m. Holds m c.sweep.new.0) (sym (add-one c.loop-m.m)) c.sweep.ensures)
+loop-again c = (omega arith, subst (λ m. Holds m c.sweep.new.t) (sym (add-one c.loop-m.m)) c.sweep.ensures)
 
 returns : tie.Need-returns invariant_loop decreases_loop
 returns c = let l = c.loop-m in

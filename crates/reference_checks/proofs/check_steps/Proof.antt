@@ -11,7 +11,7 @@ use Rattle.reference_checks.specs.Checks as Checks
 use Rattle.reference_checks.specs.StepLaws.{steps_next, steps_refused, steps_all}
 
 abbrev invariant_loop : tie.invariant-loop-k
-invariant_loop r steps last₀ k₀ last k = (k ≤ r.steps) × ((last ≡ Checks.sample_of-next r k) × (Checks.verdict Going (k + 1) ≡ iter (Checks.step_turn r) (Checks.verdict Going 1) k))
+invariant_loop r steps last₀ k₀ last k = (k ≤ r.steps) × ((last ≡ Checks.sample_of r k) × (Checks.verdict Going (k + 1) ≡ iter (Checks.step_turn r) (Checks.verdict Going 1) k))
 
 abbrev decreases_loop : tie.decreases-loop-k
 decreases_loop r steps last₀ k₀ last k = r.steps - k

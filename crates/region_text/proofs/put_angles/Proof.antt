@@ -17,7 +17,7 @@ loop-again : tie.Need-loop-x-preserved invariant_loop decreases_loop
 loop-again c =
     let put = c.before.before in
     let l = put.loop-x in
-    first_next l.invariant (omega arith) put.put_angle-i.ensures put.put-angle.auto.0
+    first_next l.invariant (omega arith) put.put_angle-i.ensures put.put_angle-i.auto.b
 
 returns : tie.Need-returns invariant_loop decreases_loop
 returns c = first_all c.loop-x.invariant (omega arith)

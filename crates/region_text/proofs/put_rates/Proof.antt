@@ -17,7 +17,7 @@ loop-again : tie.Need-loop-y-preserved invariant_loop decreases_loop
 loop-again c =
     let put = c.before.before in
     let l = put.loop-y in
-    first_next l.invariant (omega arith) put.put_turns-i.ensures put.put-turns.auto.0
+    first_next l.invariant (omega arith) put.put_turns-i.ensures put.put_turns-i.auto.b
 
 returns : tie.Need-returns invariant_loop decreases_loop
 returns c = first_all c.loop-y.invariant (omega arith)

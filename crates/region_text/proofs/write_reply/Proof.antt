@@ -21,7 +21,7 @@ returns c =
     let replied = d.before.before in
     let s = replied.before.before.before in
     let e = rw (to_z-of_z s.ranges.angle, to_z-of_z s.ranges.rate, to_z-of_z s.ranges.choice) at replied.reply-d.ensures.0 in
-    rw (← e, d.d-1.given.1) (prints_given _ (omega arith) (rw (to_z-of_z {w = w64} (record { sfits = known.known_told-1.given.0.1 })) at put.put_with-with.ensures))
+    rw (← e, d.d.given.1) (prints_given _ (omega arith) (rw (to_z-of_z {w = w64} (record { sfits = known.known-told.given.0.1 })) at put.put_with-with.ensures))
 
 returns_2 : tie.Need-shape_of-out-in-Outside
 returns_2 c =
@@ -30,7 +30,7 @@ returns_2 c =
     let replied = none.before.before in
     let s = replied.before.before in
     let e = rw (to_z-of_z s.ranges.angle, to_z-of_z s.ranges.rate, to_z-of_z s.ranges.choice) at replied.reply-d.ensures.0 in
-    rw (← e, none.enum_told-1.given.1) (prints_given _ (omega arith) put.put_all_lem.ensures)
+    rw (← e, none.enum_told.given.1) (prints_given _ (omega arith) put.put_all_lem.ensures)
 
 returns_3 : tie.Need-returns-in-Outside
 returns_3 c =
@@ -39,7 +39,7 @@ returns_3 c =
     let replied = outside.before.before in
     let s = replied.before.before.before in
     let e = rw (to_z-of_z s.ranges.angle, to_z-of_z s.ranges.rate, to_z-of_z s.ranges.choice) at replied.reply-d.ensures.0 in
-    rw (← e, outside.enum_told-in-Outside-1.given.1) refused.refuse.ensures
+    rw (← e, outside.enum-told2.given.1) refused.refuse.ensures
 
 pub write_reply_spec : {M : Type 1} → statement M
 write_reply_spec =

@@ -11,7 +11,7 @@ put-forced-requires : tie.Need-enum_told-in-HeldOff
 put-forced-requires c κs =
     let known = c.before in
     let s = known.before in
-    rw (to_z-of_z {w = w64} (record { sfits = known.known_told-1.given.1.0.1 })) (rw s.s-1.given.1 at s.outcome-s.ensures.1).lawful
+    rw (to_z-of_z {w = w64} (record { sfits = known.known-told.given.1.0.1 })) (rw s.s.given.1 at c.outcome-s.ensures.1).lawful
 
 returns : tie.Need-returns-in-Forced
 returns c =
@@ -20,7 +20,7 @@ returns c =
     let told = home.before in
     let s = told.before.before.before in
     let e = rw (to_z-of_z s.ranges.angle, to_z-of_z s.ranges.rate) at told.outcome-s.ensures.0 in
-    rw (← e, home.enum_told-1.given.1) (prints_given _ (omega arith) put.put_all_lem.ensures)
+    rw (← e, home.enum_told.given.1) (prints_given _ (omega arith) put.put_all_lem.ensures)
 
 returns_2 : tie.Need-returns-in-HeldOff
 returns_2 c =
@@ -30,7 +30,7 @@ returns_2 c =
     let told = forced.before.before in
     let s = told.before.before.before in
     let e = rw (to_z-of_z s.ranges.angle, to_z-of_z s.ranges.rate) at told.outcome-s.ensures.0 in
-    rw (← e, forced.s-1.given.1) (prints_given _ (omega arith) (rw (to_z-of_z {w = w64} (record { sfits = known.known_told-1.given.1.0.1 })) at put.put_forced-forced.ensures))
+    rw (← e, forced.s.given.1) (prints_given _ (omega arith) (rw (to_z-of_z {w = w64} (record { sfits = known.known-told.given.1.0.1 })) at put.put_forced-forced.ensures))
 
 returns_3 : tie.Need-shape_of-said
 returns_3 c =
@@ -39,7 +39,7 @@ returns_3 c =
     let told = held.before.before in
     let s = told.before.before in
     let e = rw (to_z-of_z s.ranges.angle, to_z-of_z s.ranges.rate) at told.outcome-s.ensures.0 in
-    rw (← e, held.enum_told-in-HeldOff-1.given.1) (prints_given _ (omega arith) put.put_all-held.ensures)
+    rw (← e, held.enum-told2.given.1) (prints_given _ (omega arith) put.put_all-held.ensures)
 
 returns-4 : tie.Need-returns-in-Outside
 returns-4 c =
@@ -48,7 +48,7 @@ returns-4 c =
     let told = outside.before.before in
     let s = told.before.before.before in
     let e = rw (to_z-of_z s.ranges.angle, to_z-of_z s.ranges.rate) at told.outcome-s.ensures.0 in
-    rw (← e, outside.enum_told-in-Outside-1.given.1) refused.refuse.ensures
+    rw (← e, outside.enum-told3.given.1) refused.refuse.ensures
 
 pub write_start_spec : {M : Type 1} → statement M
 write_start_spec =

@@ -51,7 +51,7 @@ returns_2 c =
     let width = c.width-m in
     let start = c.start in
     let first = ap (λ (x : Progress). x.state) start.ensures ∙ start_going entry.args.p entry.args.seed residuals-of.ensures width.ensures enum_told.given.1 in
-    (c.conclude.ensures ∙ ap (λ (s : SearchState). Search.conclude entry.args.p s) (c.turns.ensures ∙ ap (λ (s : SearchState). iter (Search.turn entry.args.p) s 40) first), c.turns.auto.1.0)
+    (c.conclude.ensures ∙ ap (λ (s : SearchState). Search.conclude entry.args.p s) (c.turns.ensures ∙ ap (λ (s : SearchState). iter (Search.turn entry.args.p) s 40) first), c.turns.auto.ws)
 
 pub search_spec : {M : Type 1} → statement M
 search_spec =

@@ -52,7 +52,7 @@ put-row-requires c κs =
     let h = start.requires.1.0 in
     let l = looped.loop-k in
     let r = room l.k n (omega arith) h in
-    omega (arith, length_slice l.out-1 (1 + l.k * n) (1 + l.k * n + n) (omega arith))
+    omega (arith, length_slice l.out (1 + l.k * n) (1 + l.k * n + n) (omega arith))
 
 loop-again : tie.Need-loop-k-preserved invariant_loop decreases_loop
 loop-again c =
@@ -64,9 +64,9 @@ loop-again c =
     let l = looped.loop-k in
     let f = c.put_row in
     let r = room l.k n (omega arith) s.requires.1.0 in
-    let g = length_slice l.out-1 (1 + l.k * n) (1 + l.k * n + n) (omega arith) in
+    let g = length_slice l.out (1 + l.k * n) (1 + l.k * n + n) (omega arith) in
     let e : 1 + l.k * n + n - (1 + l.k * n) ≡ n = omega arith in
-    (omega arith, (length_pasted l.out-1 f.new.0 (1 + l.k * n) (1 + l.k * n + n) (omega arith) (omega arith) f.auto.0 ∙ l.invariant.1.0, iter_next _ _ _ l.invariant.1.1 (rw (← s.requires.0, f.ensures, g, e, after-row-of.row_of-u.ensures))))
+    (omega arith, (length_pasted l.out f.new.row (1 + l.k * n) (1 + l.k * n + n) (omega arith) (omega arith) f.auto.row ∙ l.invariant.1.0, iter_next _ _ _ l.invariant.1.1 (rw (← s.requires.0, f.ensures, g, e, after-row-of.row_of-u.ensures))))
 
 returns : tie.Need-returns invariant_loop decreases_loop
 returns c = let e : c.loop-k.k ≡ 16 = omega arith in rw (← e) c.loop-k.invariant.1.1

@@ -29,24 +29,24 @@ run-on-requires c κs =
     let e = c.before.before.before in
     let pre = e.requires in
     let k = pre.1.1.1.1.1 (e.shares.ensures (not-false _ e.if-not-shares.false)).0 in
-    (record { sized = pre.0; narrow = pre.1.0; angles = (k.skew-1, pre.1.1.1.0); sound = k.sound }, k.begins.sums.few)
+    (record { sized = pre.0; narrow = pre.1.0; angles = (k.skew, pre.1.1.1.0); sound = k.sound }, k.begins.sums.few)
 
 of-rows-requires : tie.Need-of_rows-requires
 of-rows-requires c κs =
     let t = c.before.before.before.before.before in
     let e = t.before.before.before.before in
-    let start = e.before.before.before in
+    let start = e.before.before in
     let a = start.args in
     let pre = start.requires in
-    let s = e.shares.ensures (not-false _ e.if-not-shares.false) in
+    let s = e.shares.ensures (not-false _ c.if-not-shares.false) in
     let k = pre.1.1.1.1.1 s.0 in
-    let r = t.run_on-w.ensures in
+    let r = c.run_on-w.ensures in
     let known = begins_shared a.p a.n a.z.now a.y.now a.b a.nodes.now a.errors.now pre.1.1.0 k s.1 in
     let long = k.begins.sums.long in
     let y : length a.y.now ≡ 193 = search rules in
     rw c.target_of.ensures (
       record { wheels = (sized_counts _ pre.0).0; numbers = omega (arith, pre.1.0, y) },
-      begins_same a.b.steps a.nodes.now t.run_on-w.new.1.1.1.1.1.1.1.0 k.begins.sums.few long (r.size ∙ long) r.below (target_of a.p) (step_time a.y.now) a.b.sums a.errors.now known,
+      begins_same a.b.steps a.nodes.now c.run_on-w.new.nodes k.begins.sums.few long (r.size ∙ long) r.below (target_of a.p) (step_time a.y.now) a.b.sums a.errors.now known,
     )
 
 returns_2 : tie.Need-returns-in-Refused
@@ -60,7 +60,7 @@ returns_2 c =
     let s = e.shares.ensures (not-false _ e.if-not-shares.false) in
     let held = pre.1.1.1.1 in
     let r = t.run_on-w.ensures in
-    let u = t.run_on-w.new.1.1.1.1.1.1.1.0 in
+    let u = t.run_on-w.new.nodes in
     let whole = r.whole (Runs.start_of a.p) (after_shared a.p a.n a.z.now a.y.now a.b a.nodes.now a.errors.now pre.1.1.0 (held.1 s.0) s.1) in (
       c.refused_residuals.ensures ∙ told_refused a.p a.y.now t.run_on-w.result u whole c.in-Refused.is,
       (record { nodes = r.size ∙ held.0.nodes; errors = held.0.errors }, λ on. kept_same a.p a.z.now a.b a.nodes.now u a.errors.now r.size r.below (held.1 on)),
@@ -72,15 +72,15 @@ returns_3 c =
     let enum_told = c.enum_told-1 in
     let t = c.before.before.before.before.before.before in
     let e = t.before.before.before.before in
-    let start = e.before.before.before in
+    let start = e.before.before in
     let a = start.args in
     let pre = start.requires in
-    let s = e.shares.ensures (not-false _ e.if-not-shares.false) in
+    let s = e.shares.ensures (not-false _ c.if-not-shares.false) in
     let held = pre.1.1.1.1 in
-    let r = t.run_on-w.ensures in
-    let u = t.run_on-w.new.1.1.1.1.1.1.1.0 in
+    let r = c.run_on-w.ensures in
+    let u = c.run_on-w.new.nodes in
     let whole = r.whole (Runs.start_of a.p) (after_shared a.p a.n a.z.now a.y.now a.b a.nodes.now a.errors.now pre.1.1.0 (held.1 s.0) s.1) in (
-      rw (c.of_rows.ensures, c.target_of.ensures) (told_going a.p a.y.now t.run_on-w.result u whole enum_told.given.1),
+      rw (c.of_rows.ensures, c.target_of.ensures) (told_going a.p a.y.now c.run_on-w.result u whole enum_told.given.1),
       (record { nodes = r.size ∙ held.0.nodes; errors = held.0.errors }, λ on. kept_same a.p a.z.now a.b a.nodes.now u a.errors.now r.size r.below (held.1 on)),
     )
 

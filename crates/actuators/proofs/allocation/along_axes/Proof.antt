@@ -15,7 +15,7 @@ unfolding Allocate.along_axes
 returns_2 c =
     let after-enum-told2 = c.before.before.before in
     let after-invert3 = after-enum-told2.before.before.before in
-    rw (← after-invert3.invert3-inverse.ensures, after-enum-told2.enum_told-in-Going-1.given.1, c.three.ensures, c.apply_tensor.ensures, c.tensor.ensures)
+    rw (← after-invert3.invert3-inverse.ensures, after-enum-told2.enum-told2.given.1, c.three.ensures, c.apply_tensor.ensures, c.tensor.ensures)
 
 pub along_axes_spec : {M : Type 1} → statement M
 along_axes_spec =

@@ -11,7 +11,7 @@ use Rattle.actuators.proofs.allocation.axes_alone.Tie as tie
 columns-requires : tie.Need-columns-requires
 columns-requires c κs =
     let entry = c.before.before.before.before in
-    let l : length entry.args.map.wheel_axes-1 ≡ 24 = search rules in omega arith
+    let l : length entry.args.map.wheel_axes ≡ 24 = search rules in omega arith
 
 returns : tie.Need-returns-then-alone
 unfolding Allocate.axes_alone Ieee.of_bits Ieee.neg
@@ -22,7 +22,7 @@ returns c =
 columns-requires-2 : tie.Need-columns-requires-then-alone-2
 columns-requires-2 c κs =
     let entry = c.before.before.before.before.before.before in
-    let l : length entry.args.map.thruster_axes-1 ≡ 36 = search rules in omega arith
+    let l : length entry.args.map.thruster_axes ≡ 36 = search rules in omega arith
 
 returns_2 : tie.Need-returns-then-alone-2
 unfolding Allocate.axes_alone

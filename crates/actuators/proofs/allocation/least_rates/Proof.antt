@@ -17,7 +17,7 @@ returns_2 c =
     let after-enum-told2 = c.before.before.before in
     let after-invert3 = after-enum-told2.before.before.before in
     let after-gram = after-invert3.before in
-    let h = rw after-gram.gram.ensures at after-invert3.invert3-inverse.ensures in rw (← h, after-enum-told2.enum_told-in-Going-1.given.1, c.four.ensures, c.apply_tensor.ensures, c.tensor.ensures)
+    let h = rw after-gram.gram.ensures at after-invert3.invert3-inverse.ensures in rw (← h, after-enum-told2.enum-told2.given.1, c.four.ensures, c.apply_tensor.ensures, c.tensor.ensures)
 
 pub least_rates_spec : {M : Type 1} → statement M
 least_rates_spec =

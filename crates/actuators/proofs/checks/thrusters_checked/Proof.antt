@@ -10,7 +10,7 @@ use Rattle.actuators.proofs.checks.thrusters_checked.Statement.{statement}
 use Rattle.actuators.proofs.checks.thrusters_checked.Tie as tie
 
 abbrev invariant_loop : tie.invariant-loop-k
-invariant_loop count thrusters prepared₀ k₀ prepared k = (k ≤ count) × (prepared ≡ iter (Prepare.thruster_turn-prepared thrusters) prepared₀ k)
+invariant_loop count thrusters prepared₀ k₀ prepared k = (k ≤ count) × (prepared ≡ iter (Prepare.thruster_turn thrusters) prepared₀ k)
 
 abbrev decreases_loop : tie.decreases-loop-k
 decreases_loop count thrusters prepared₀ k₀ prepared k = count - k

@@ -10,7 +10,7 @@ use Rattle.actuators.proofs.checks.wheels_checked.Statement.{statement}
 use Rattle.actuators.proofs.checks.wheels_checked.Tie as tie
 
 abbrev invariant_loop : tie.invariant-loop-k
-invariant_loop count wheels prepared₀ k₀ prepared k = (k ≤ count) × (prepared ≡ iter (Prepare.wheel_turn-prepared wheels) prepared₀ k)
+invariant_loop count wheels prepared₀ k₀ prepared k = (k ≤ count) × (prepared ≡ iter (Prepare.wheel_turn wheels) prepared₀ k)
 
 abbrev decreases_loop : tie.decreases-loop-k
 decreases_loop count wheels prepared₀ k₀ prepared k = count - k

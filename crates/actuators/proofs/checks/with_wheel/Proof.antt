@@ -8,7 +8,7 @@ use Rattle.actuators.proofs.checks.with_wheel.Statement.{statement}
 use Rattle.actuators.proofs.checks.with_wheel.Tie as tie
 
 put-axis-requires : tie.Need-put_axis-requires
-put-axis-requires c κs = let l : length c.args.map.wheel_axes-1 ≡ 24 = search rules in omega arith
+put-axis-requires c κs = let l : length c.args.map.wheel_axes ≡ 24 = search rules in omega arith
 
 returns : tie.Need-returns
 unfolding Prepare.with_wheel

@@ -4,6 +4,7 @@ use Rattle.angles.specs.Angles.{Q}
 use Rattle.angles.proofs.Division.{few_quarters, doubled}
 use Rattle.angles.proofs.turn.divided.Statement.{statement}
 use Rattle.angles.proofs.turn.divided.Tie as tie
+use Rattle.angles.proofs.turn.divided.Lts.{then-r-ge-QUARTER, else-r-ge-QUARTER}
 
 abbrev invariant_loop : tie.invariant-loop-i
 invariant_loop x n k₀ r₀ i₀ k r i = (x * 2 ^ i ≡ k * Q + r) × (r < Q) × (i ≤ n) × (k < 4096)
@@ -34,8 +35,8 @@ loop-again c =
     let a = c.args in
     let i = c.loop-i.i in
     let d : a.x * 2 ^ (i + 1) ≡ a.x * 2 ^ i * 2 = doubled a.x i in
-    let e : a.x * 2 ^ (i + 1) ≡ c.if-r-ge-QUARTER.k * Q + c.if-r-ge-QUARTER.r = ⊎_elim (λ w. omega arith) (λ w. omega arith) c.if-r-ge-QUARTER.branch in
-    (e, ⊎_elim (λ w. omega arith) (λ w. omega arith) c.if-r-ge-QUARTER.branch, omega arith, few_quarters a.x (i + 1) c.if-r-ge-QUARTER.k c.if-r-ge-QUARTER.r c.ranges.x.fits (omega arith) e)
+    let e : a.x * 2 ^ (i + 1) ≡ c.if-r-ge-QUARTER.k * Q + c.if-r-ge-QUARTER.r = (elim c.if-r-ge-QUARTER.branch [ then-r-ge-QUARTER w ↦ omega arith | else-r-ge-QUARTER w ↦ omega arith ]) in
+    (e, (elim c.if-r-ge-QUARTER.branch [ then-r-ge-QUARTER w ↦ omega arith | else-r-ge-QUARTER w ↦ omega arith ]), omega arith, few_quarters a.x (i + 1) c.if-r-ge-QUARTER.k c.if-r-ge-QUARTER.r c.ranges.x.fits (omega arith) e)
 
 returns : tie.Need-returns invariant_loop decreases_loop
 returns c =

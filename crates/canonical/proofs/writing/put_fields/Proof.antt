@@ -16,9 +16,9 @@ returns c =
     let limited = weighed.before.before.before.before in
     let turned = limited.before.before.before.before in
     let p = turned.args.p in
-    let turn = attitudes p.q0-1 p.qf-1 in
-    let limits = body p.inertia-1 p.torque_limit p.slew in
-    let costs = weights_line p.weights-1 in
+    let turn = attitudes p.q0 p.qf in
+    let limits = body p.inertia p.torque_limit p.slew in
+    let costs = weights_line p.weights in
     let tolerances = tolerances_line p.norm_tolerance p.tie_tolerance in
     puts_most (omega arith)
     (puts_pieces (turn ++ limits ++ costs) tolerances

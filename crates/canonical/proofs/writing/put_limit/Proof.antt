@@ -9,14 +9,14 @@ use Rattle.canonical.proofs.writing.put_limit.Tie as tie
 
 returns : tie.Need-shape_of-b-in-At
 returns c =
-    let enum_told = c.enum_told-1 in
+    let enum_told = c.before.before.before.before.before.enum_told in
     rw enum_told.given.1 (puts_most (omega arith) (puts_piece non c.before.before.put_all_lem.ensures))
 
 returns_2 : tie.Need-returns-in-At
 returns_2 c =
     let at-put-word = c.before.before in
     let at-limit = at-put-word.before.before.before in
-    rw at-limit.limit-1.given.1 (puts_piece (num at-limit.limit-1.given.0.0) at-put-word.put_word.ensures)
+    rw at-limit.limit.given.1 (puts_piece (num at-limit.limit.given.0.0) at-put-word.put_word.ensures)
 
 pub put_limit_spec : {M : Type 1} → statement M
 put_limit_spec = tie.close (tie.spec (search rules) (search rules) (search rules) (search rules) (search rules) (search rules) returns (search rules) returns_2)

@@ -17,7 +17,7 @@ returns c =
     let powered = last.before.before.before.before.before in
     let lined = powered.before.before.before.before in
     let w = lined.args.w in
-    let v = get_or w.axis-1 0 nan ∷ get_or w.axis-1 1 nan ∷ get_or w.axis-1 2 nan ∷ w.max_torque_nm ∷ w.max_momentum_nms ∷ [] in
+    let v = get_or w.axis 0 nan ∷ get_or w.axis 1 nan ∷ get_or w.axis 2 nan ∷ w.max_torque_nm ∷ w.max_momentum_nms ∷ [] in
     let numbers = line (bytes "\n  (wheel") v [] in
     let power = limit w.max_power_w ∷ [] in
     puts_most (omega arith)

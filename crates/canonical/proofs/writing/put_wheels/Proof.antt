@@ -19,7 +19,7 @@ loop-again : tie.Need-loop-k-preserved invariant_loop decreases_loop
 loop-again c =
     let put = c.before.before in
     let l = put.loop-k in
-    first_next l.invariant (omega arith) put.put_wheel-i.ensures put.put-wheel.auto.0
+    first_next l.invariant (omega arith) put.put_wheel-i.ensures put.put_wheel-i.auto.b
 
 returns : tie.Need-returns invariant_loop decreases_loop
 unfolding wheels_text

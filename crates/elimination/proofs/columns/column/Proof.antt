@@ -15,31 +15,31 @@ use Rattle.elimination.proofs.columns.column.Tie as tie
 
 returns : tie.Need-returns-then-not-begin
 returns c = let a = c.args in
-    let n : ℕ = length a.b-1.now in
+    let n : ℕ = length a.b.now in
     let f = c.begin in
     let g : f.result ≡ false = not-true _ c.if-not-begin.true in
-    f.ensures.stage ∙ ap (λ r. Elimination.after r (Elimination.eliminate n a.k (rows n n f.new.0)) f.new.1.0) g
+    f.ensures.stage ∙ ap (λ r. Elimination.after r (Elimination.eliminate n a.k (rows n n f.new.a)) f.new.b) g
 
 eliminate-requires : tie.Need-eliminate-requires
-eliminate-requires c κs = let s = c.before.before.before.before.before.before.before.before.before.before.before.before.before.before.before.before.before.before.before.before.before.before.before.before in
+eliminate-requires c κs = let s = c.before.before.before.before.before.before.before.before.before.before.before.before.before.before.before.before.before.before.before.before.before.before.before in
     let f = c.begin in
-    let e : length s.args.b-1.now ≡ length f.new.1.1.0 = sym (f.auto.1.1.0 ∙ s.requires.0.tops) in
+    let e : length s.args.b.now ≡ length f.new.top = sym (f.auto.top ∙ s.requires.0.tops) in
     let g : f.result ≡ true = not-false _ c.if-not-begin.false in
-    (omega arith, f.auto.0 ∙ s.requires.0.matrix ∙ ap (λ k. k * k) e, f.ensures.first g ∙ ap (λ w. row w f.new.0 s.args.k) e)
+    (omega arith, f.auto.a ∙ s.requires.0.matrix ∙ ap (λ k. k * k) e, f.ensures.first g ∙ ap (λ w. row w f.new.a s.args.k) e)
 
 returns_2 : tie.Need-returns
 returns_2 c =
     let if1 = c.if-not-begin in
-    let s = c.before.before.before.before.before.before.before.before.before.before.before.before.before.before.before.before.before.before.before.before.before.before.before.before.before.before.before in
-    let n : ℕ = length s.args.b-1.now in
+    let s = c.before.before.before.before.before.before.before.before.before.before.before.before.before.before.before.before.before.before.before.before.before.before.before.before.before.before in
+    let n : ℕ = length s.args.b.now in
     let k : ℕ = s.args.k in
     let f = c.begin in
     let e = c.eliminate in
     let g : f.result ≡ true = not-false _ if1.false in
-    let done : rows n n e.new.0 ≡ Elimination.eliminate n k (rows n n f.new.0) =
-    subst (λ w. rows w w e.new.0 ≡ Elimination.eliminate w k (rows w w f.new.0)) (f.auto.1.1.0 ∙ s.requires.0.tops) e.ensures in
-    f.ensures.stage ∙ ap (λ r. Elimination.after r (Elimination.eliminate n k (rows n n f.new.0)) f.new.1.0) g
-    ∙ ap (λ x. Elimination.going x f.new.1.0) (sym done)
+    let done : rows n n e.new.a ≡ Elimination.eliminate n k (rows n n f.new.a) =
+    subst (λ w. rows w w e.new.a ≡ Elimination.eliminate w k (rows w w f.new.a)) (f.auto.top ∙ s.requires.0.tops) e.ensures in
+    f.ensures.stage ∙ ap (λ r. Elimination.after r (Elimination.eliminate n k (rows n n f.new.a)) f.new.b) g
+    ∙ ap (λ x. Elimination.going x f.new.b) (sym done)
 
 pub column_spec : {M : Type 1} → statement M
 column_spec =

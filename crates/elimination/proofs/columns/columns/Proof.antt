@@ -15,36 +15,36 @@ use Rattle.elimination.proofs.columns.columns.Tie as tie
 
 returns : tie.Need-returns-then-not-begin
 returns c = let a = c.args in
-    let n : ℕ = length a.b-1.now in
+    let n : ℕ = length a.b.now in
     let f = c.begin in
     let g : f.result ≡ false = not-true _ c.if-not-begin.true in
-    ap (Elimination.column n (a.k + 1)) (f.ensures.stage ∙ ap (λ r. Elimination.after r (Elimination.eliminate n a.k (rows n n f.new.0)) f.new.1.0) g)
+    ap (Elimination.column n (a.k + 1)) (f.ensures.stage ∙ ap (λ r. Elimination.after r (Elimination.eliminate n a.k (rows n n f.new.a)) f.new.b) g)
 
 finish-requires : tie.Need-finish-requires
 finish-requires c κs =
     let if1 = c.if-not-begin in
-    let s = c.before.before.before.before.before.before.before.before.before.before.before.before.before.before.before.before.before.before.before.before.before.before.before.before.before.before.before.before.before in
+    let s = c.before.before.before.before.before.before.before.before.before.before.before.before.before.before.before.before.before.before.before.before.before.before.before.before.before.before.before.before in
     let f = c.begin in
-    let e : length s.args.b-1.now ≡ length f.new.1.0 = sym f.auto.1.0 in
+    let e : length s.args.b.now ≡ length f.new.b = sym f.auto.b in
     let g : f.result ≡ true = not-false _ if1.false in (
-      record { matrix = f.auto.0 ∙ s.requires.0.matrix ∙ ap (λ k. k * k) e; tops = s.requires.1 ∙ e; spares = f.auto.1.1.1.0 ∙ s.requires.0.spares ∙ e },
-      f.auto.1.1.1.1.0 ∙ s.requires.2 ∙ e,
+      record { matrix = f.auto.a ∙ s.requires.0.matrix ∙ ap (λ k. k * k) e; tops = s.requires.1 ∙ e; spares = f.auto.spare ∙ s.requires.0.spares ∙ e },
+      f.auto.col ∙ s.requires.2 ∙ e,
       omega arith,
-      f.auto.1.1.0 ∙ s.requires.0.tops ∙ e,
-      f.ensures.first g ∙ ap (λ w. row w f.new.0 s.args.k) e,
+      f.auto.top ∙ s.requires.0.tops ∙ e,
+      f.ensures.first g ∙ ap (λ w. row w f.new.a s.args.k) e,
     )
 
 returns_2 : tie.Need-returns
 returns_2 c =
     let if1 = c.if-not-begin in
     let a = c.args in
-    let n : ℕ = length a.b-1.now in
+    let n : ℕ = length a.b.now in
     let k : ℕ = a.k in
     let f = c.begin in
     let h = c.finish in
     let g : f.result ≡ true = not-false _ if1.false in
-    ap (Elimination.column n (k + 1)) (f.ensures.stage ∙ ap (λ r. Elimination.after r (Elimination.eliminate n k (rows n n f.new.0)) f.new.1.0) g)
-    ∙ subst (λ w. Elimination.column w (k + 1) (Elimination.going (Elimination.eliminate w k (rows w w f.new.0)) f.new.1.0) ≡ Elimination.after h.result (rows w w h.new.0) h.new.1.0) f.auto.1.0 h.ensures
+    ap (Elimination.column n (k + 1)) (f.ensures.stage ∙ ap (λ r. Elimination.after r (Elimination.eliminate n k (rows n n f.new.a)) f.new.b) g)
+    ∙ subst (λ w. Elimination.column w (k + 1) (Elimination.going (Elimination.eliminate w k (rows w w f.new.a)) f.new.b) ≡ Elimination.after h.result (rows w w h.new.a) h.new.b) f.auto.b h.ensures
 
 pub columns_spec : {M : Type 1} → statement M
 columns_spec =

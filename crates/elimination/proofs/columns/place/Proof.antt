@@ -14,26 +14,26 @@ use Rattle.elimination.proofs.columns.place.Tie as tie
 
 take-right-requires : tie.Need-take_right-requires
 take-right-requires c κs =
-    let entry = c.before.before.before.before.before.before.before.before.before.before.before.before.before.before.before.before.before.before.before.before.before.before in
+    let entry = c.before.before.before.before.before.before.before.before.before.before.before.before.before.before.before.before.before.before.before.before.before in
     let r = c.scale_right in
     let a = entry.args in
-    (omega (arith, r.auto.0), length-set a.col.now a.p (at a.col.now a.k) ∙ entry.requires.1 ∙ sym r.auto.0)
+    (omega (arith, r.auto.b), length-set a.col.now a.p (at a.col.now a.k) ∙ entry.requires.1 ∙ sym r.auto.b)
 
 returns : tie.Need-returns
-returns c = let st = c.before.before.before.before.before.before.before.before.before.before.before.before.before.before.before.before.before.before.before.before.before.before.before.before.before in
+returns c = let st = c.before.before.before.before.before.before.before.before.before.before.before.before.before.before.before.before.before.before.before.before.before.before.before.before in
     let a = st.args in
-    let n : ℕ = length a.b-1.now in
+    let n : ℕ = length a.b.now in
     let k : ℕ = a.k in
     let r = c.place_rows-d in
     let s = c.scale_right in
     let t = c.take_right in
     let col : List Float = set a.col.now a.p (at a.col.now k) in
-    let pl : Inner.Placed n k a.p a.a-1.now r.new.0 r.new.1.0 r.result =
-    subst (λ w. Inner.Placed w k a.p a.a-1.now r.new.0 r.new.1.0 r.result) st.requires.0.tops r.ensures in
+    let pl : Inner.Placed n k a.p a.a.now r.new.a r.new.top r.result =
+    subst (λ w. Inner.Placed w k a.p a.a.now r.new.a r.new.top r.result) st.requires.0.tops r.ensures in
     record {
       matrix = record { size = pl.size; by = refl; placed = pl.placed; first = pl.first };
-      right = t.ensures ∙ ap (λ w. Inner.right_less w k col s.new.0) s.auto.0
-          ∙ ap (λ x. Inner.right_less n k col x) (s.ensures ∙ ap (λ d. Elimination.divide_right n k d (Elimination.swap_right n k a.p a.b-1.now)) pl.by);
+      right = t.ensures ∙ ap (λ w. Inner.right_less w k col s.new.b) s.auto.b
+          ∙ ap (λ x. Inner.right_less n k col x) (s.ensures ∙ ap (λ d. Elimination.divide_right n k d (Elimination.swap_right n k a.p a.b.now)) pl.by);
     }
 
 pub place_spec : {M : Type 1} → statement M

@@ -10,13 +10,13 @@ use Rattle.elimination.proofs.pivots.larger.Tie as tie
 returns : tie.Need-returns-then-mag-best
 returns c = let a = c.args in
     let m = c.abs-mag.ensures ∙ c.positive.ensures in
-    let e : lt a.best.size (Ops.abs-mag a.x) ≡ true = rw m at c.if-mag-best.true in
+    let e : lt a.best.size (Ops.abs a.x) ≡ true = rw m at c.if-mag-best.true in
     (rw e, rw e m)
 
 returns_2 : tie.Need-returns
 returns_2 c = let a = c.args in
     let m = c.abs-mag.ensures ∙ c.positive.ensures in
-    let e : lt a.best.size (Ops.abs-mag a.x) ≡ false = rw m at c.if-mag-best.false in
+    let e : lt a.best.size (Ops.abs a.x) ≡ false = rw m at c.if-mag-best.false in
     (rw e, rw e)
 
 pub larger_spec : {M : Type 1} → statement M

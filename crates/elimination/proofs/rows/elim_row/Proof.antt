@@ -21,19 +21,19 @@ returns_2 c =
     let if1 = c.if-i-k in
     let a = c.args in
     let n : ℕ = length a.top.now in
-    let v : List Float = a.a-1.now in
+    let v : List Float = a.a.now in
     let s : ℕ = a.i * n in
     let t = c.take_row in
     let r : List Float = row n v a.i in
     let pr : take (s + n - s) (drop s v) ≡ r = part_row n v a.i s (s + n) refl refl in
     let lr : length r ≡ n = length_row n v a.i (omega arith) in
-    let whole : length t.new.0 ≡ n = t.auto.0 ∙ ap length pr ∙ lr in
-    let e : t.new.0 ≡ Elimination.eliminated_row n a.k a.top.now a.i r =
+    let whole : length t.new.row ≡ n = t.auto.row ∙ ap length pr ∙ lr in
+    let e : t.new.row ≡ Elimination.eliminated_row n a.k a.top.now a.i r =
     t.ensures ∙ ap (λ p. Elimination.less (length p) a.k (at v (s + a.k)) a.top.now p) pr
     ∙ ap (λ k. Elimination.less k a.k (at v (s + a.k)) a.top.now r) lr
     ∙ ap (λ f. Elimination.less n a.k f a.top.now r) (sym (at_row n v a.i a.k (omega arith)))
     ∙ ap (λ b. cond b r (Elimination.less n a.k (at r a.k) a.top.now r)) (sym (ne_eqb a.i a.k if1.false)) in
-    record { own = row_same n v t.new.0 a.i (omega arith) whole ∙ e; others = row_other n v t.new.0 a.i (omega arith) whole }
+    record { own = row_same n v t.new.row a.i (omega arith) whole ∙ e; others = row_other n v t.new.row a.i (omega arith) whole }
 
 pub elim_row_spec : {M : Type 1} → statement M
 elim_row_spec =

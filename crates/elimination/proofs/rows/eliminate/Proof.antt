@@ -26,7 +26,7 @@ loop-again c = let a = c.args in
     let n : ℕ = length a.top.now in
     let f = c.elim_row in (
       omega arith,
-      omega (arith, f.auto.0),
+      omega (arith, f.auto.a),
       filled_more _ 0 l.i _ _ _ (omega arith) l.invariant.2
           (f.ensures.own ∙ ap (λ r. Elimination.eliminated_row n a.k a.top.now l.i r) (l.invariant.2.above l.i (omega arith))) f.ensures.others,
     )
@@ -38,7 +38,7 @@ returns c =
     let l = c.loop-i in
     let a = entry.args in
     let n : ℕ = length a.top.now in
-    let v : List Float = a.a-1.now in
+    let v : List Float = a.a.now in
     tab_same n _ _ (λ x h. l.invariant.2.done x (omega arith) (omega arith)
     ∙ ap (λ t. Elimination.eliminated_row n a.k t x (row n v x)) (entry.requires.2 ∙ sym (line_rows n n v a.k (omega arith)))
     ∙ ap (λ r. Elimination.eliminated_row n a.k (get_or (rows n n v) a.k []) x r) (sym (line_rows n n v x h)))

@@ -22,7 +22,7 @@ loop-again c = let a = c.args in
     let l = c.loop-i in
     let f = c.two_row in (
       omega arith,
-      omega (arith, f.auto.0),
+      omega (arith, f.auto.a),
       filled_more _ 0 l.i _ _ _ (omega arith) l.invariant.2
           (f.ensures.own ∙ ap (λ r. Inner.two_row (length a.t.now) a.k a.t.now a.u.now l.i r) (l.invariant.2.above l.i (omega arith))) f.ensures.others,
     )

@@ -24,48 +24,48 @@ put-row-requires : tie.Need-put_row-requires
 put-row-requires c κs =
     let copy = c.copy in
     let a = c.args in
-    let n : ℕ = length a.top-1.now in
-    let ls : n ≡ length copy.new.0 = omega (arith, copy.auto.0) in
-    subst (λ w. a.p * w + w ≤ length a.a-1.now) ls (omega (arith, row_end a.p n n (omega arith)))
+    let n : ℕ = length a.top.now in
+    let ls : n ≡ length copy.new.to = omega (arith, copy.auto.to) in
+    subst (λ w. a.p * w + w ≤ length a.a.now) ls (omega (arith, row_end a.p n n (omega arith)))
 
 put-row-requires-2 : tie.Need-put_row-requires-2
 put-row-requires-2 c κs =
     let copy2 = c.copy-2 in
     let divide = c.divide in
     let a = c.args in
-    let n : ℕ = length a.top-1.now in
+    let n : ℕ = length a.top.now in
     let r = c.put_row in
-    let lt : n ≡ length divide.new.0 = omega (arith, divide.auto.0, copy2.auto.0) in
-    subst (λ w. a.k * w + w ≤ length r.new.0) lt (omega (arith, r.auto.0, row_end a.k n n (omega arith)))
+    let lt : n ≡ length divide.new.row = omega (arith, divide.auto.row, copy2.auto.to) in
+    subst (λ w. a.k * w + w ≤ length r.new.a) lt (omega (arith, r.auto.a, row_end a.k n n (omega arith)))
 
 returns : tie.Need-returns
 returns c =
-    let entry = c.before.before.before.before.before.before.before.before.before.before.before.before.before.before.before.before.before.before.before.before.before.before.before.before.before.before.before.before.before.before in
+    let entry = c.before.before.before.before.before.before.before.before.before.before.before.before.before.before.before.before.before.before.before.before.before.before.before.before.before.before in
     let a = entry.args in
-    let n : ℕ = length a.top-1.now in
-    let v : List Float = a.a-1.now in
+    let n : ℕ = length a.top.now in
+    let v : List Float = a.a.now in
     let r1 = c.put_row in
     let r2 = c.put_row-2 in
     let x = c.copy in
     let y = c.copy-2 in
     let z = c.divide in
-    let ex : x.new.0 ≡ row n v a.k = x.ensures ∙ part_row n v a.k _ _ refl refl in
-    let ey : y.new.0 ≡ row n v a.p = y.ensures ∙ part_row n v a.p _ _ refl refl in
-    let ly : length y.new.0 ≡ n = y.auto.0 in
-    let ez : z.new.0 ≡ Elimination.divided n a.k (row n v a.p) =
-    z.ensures ∙ ap (λ w. Elimination.divided w a.k y.new.0) ly ∙ ap (λ r. Elimination.divided n a.k r) ey in
-    let lx : length x.new.0 ≡ n = omega (arith, x.auto.0, entry.requires.2) in
-    let lz : length z.new.0 ≡ n = z.auto.0 ∙ ly in
-    let f1 : OneRow a.p (row n v a.k) (row n v) (row n r1.new.0) = one_row n (length x.new.0) x.new.0 (row n v a.k) v r1.new.0 a.p lx ex r1.ensures in
-    let f2 : OneRow a.k (Elimination.divided n a.k (row n v a.p)) (row n r1.new.0) (row n r2.new.0) =
-    one_row n (length z.new.0) z.new.0 (Elimination.divided n a.k (row n v a.p)) r1.new.0 r2.new.0 a.k lz ez r2.ensures in
+    let ex : x.new.to ≡ row n v a.k = x.ensures ∙ part_row n v a.k _ _ refl refl in
+    let ey : y.new.to ≡ row n v a.p = y.ensures ∙ part_row n v a.p _ _ refl refl in
+    let ly : length y.new.to ≡ n = y.auto.to in
+    let ez : z.new.row ≡ Elimination.divided n a.k (row n v a.p) =
+    z.ensures ∙ ap (λ w. Elimination.divided w a.k y.new.to) ly ∙ ap (λ r. Elimination.divided n a.k r) ey in
+    let lx : length x.new.to ≡ n = omega (arith, x.auto.to, entry.requires.2) in
+    let lz : length z.new.row ≡ n = z.auto.row ∙ ly in
+    let f1 : OneRow a.p (row n v a.k) (row n v) (row n r1.new.a) = one_row n (length x.new.to) x.new.to (row n v a.k) v r1.new.a a.p lx ex r1.ensures in
+    let f2 : OneRow a.k (Elimination.divided n a.k (row n v a.p)) (row n r1.new.a) (row n r2.new.a) =
+    one_row n (length z.new.row) z.new.row (Elimination.divided n a.k (row n v a.p)) r1.new.a r2.new.a a.k lz ez r2.ensures in
     let m : List (List Float) = rows n n v in
     record {
-      size = r2.auto.0 ∙ r1.auto.0;
+      size = r2.auto.a ∙ r1.auto.a;
       by = ap (λ r. at r a.k) (ey ∙ sym (line_rows n n v a.p entry.requires.1))
           ∙ ap (λ b. Normal.cell m (cond b a.p (cond (eqb a.k a.p) a.k a.k)) a.k) (sym (eq-eqb a.k a.k refl))
           ∙ sym (swap_cell n a.k a.p m a.k a.k entry.requires.0);
-      placed = rows_placed n v r1.new.0 r2.new.0 a.k a.p entry.requires.0 entry.requires.1 f1 f2;
+      placed = rows_placed n v r1.new.a r2.new.a a.k a.p entry.requires.0 entry.requires.1 f1 f2;
       first = ez ∙ sym f2.own;
     }
 
@@ -73,19 +73,19 @@ pub place_rows_spec : {M : Type 1} → statement M
 place_rows_spec =
     tie.close
     (tie.spec
-    (λ c. let a = c.args in omega (arith, row_end a.k (length a.top-1.now) (length a.top-1.now) (omega arith)))
-    (λ c. let a = c.args in omega (arith, row_end a.k (length a.top-1.now) (length a.top-1.now) (omega arith)))
-    (λ c. let a = c.args in omega (arith, row_end a.p (length a.top-1.now) (length a.top-1.now) (omega arith)))
-    (λ c. let a = c.args in omega (arith, row_end a.p (length a.top-1.now) (length a.top-1.now) (omega arith)))
-    (λ c. let a = c.args in omega (arith, row_end a.k (length a.top-1.now) (length a.top-1.now) (omega arith)))
+    (λ c. let a = c.args in omega (arith, row_end a.k (length a.top.now) (length a.top.now) (omega arith)))
+    (λ c. let a = c.args in omega (arith, row_end a.k (length a.top.now) (length a.top.now) (omega arith)))
+    (λ c. let a = c.args in omega (arith, row_end a.p (length a.top.now) (length a.top.now) (omega arith)))
+    (λ c. let a = c.args in omega (arith, row_end a.p (length a.top.now) (length a.top.now) (omega arith)))
+    (λ c. let a = c.args in omega (arith, row_end a.k (length a.top.now) (length a.top.now) (omega arith)))
     (λ c. search rules)
     (λ c. search rules)
-    (λ c. let a = c.args in omega (arith, row_end a.k (length a.top-1.now) (length a.top-1.now) (omega arith)))
+    (λ c. let a = c.args in omega (arith, row_end a.k (length a.top.now) (length a.top.now) (omega arith)))
     (λ c κs. search rules)
-    (λ c. let a = c.args in omega (arith, row_end a.p (length a.top-1.now) (length a.top-1.now) (omega arith)))
+    (λ c. let a = c.args in omega (arith, row_end a.p (length a.top.now) (length a.top.now) (omega arith)))
     (λ c. search rules)
     (λ c. search rules)
-    (λ c. let a = c.args in omega (arith, row_end a.p (length a.top-1.now) (length a.top-1.now) (omega arith)))
+    (λ c. let a = c.args in omega (arith, row_end a.p (length a.top.now) (length a.top.now) (omega arith)))
     (λ c κs. search rules)
     (λ c. search rules)
     (λ c. search rules)

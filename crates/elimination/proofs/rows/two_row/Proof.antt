@@ -17,7 +17,7 @@ use Rattle.elimination.proofs.rows.two_row.Tie as tie
 
 elim-row-requires : tie.Need-elim_row-requires
 elim-row-requires c κs = let s = c.before.before.before.before.before in
-    (omega arith, subst (λ w. s.args.i * w + w ≤ length s.args.a-1.now) (sym s.requires.1) s.requires.2)
+    (omega arith, subst (λ w. s.args.i * w + w ≤ length s.args.a.now) (sym s.requires.1) s.requires.2)
 
 returns : tie.Need-returns-then-i-k
 returns c =
@@ -25,15 +25,15 @@ returns c =
     let s = c.before.before.before.before.before.before.before.before in
     let a = s.args in
     let n : ℕ = length a.t.now in
-    let v : List Float = a.a-1.now in
+    let v : List Float = a.a.now in
     let f = c.elim_row in
-    one_row n (length a.u.now) _ _ v f.new.0 a.i s.requires.1
+    one_row n (length a.u.now) _ _ v f.new.a a.i s.requires.1
     (ap (λ w. Elimination.eliminated_row w (a.k + 1) a.u.now a.i (row w v a.i)) s.requires.1 ∙ two_first n a.k a.t.now a.u.now a.i (row n v a.i) if1.true) f.ensures
 
 returns_2 : tie.Need-returns-then-i-k-2
 returns_2 c = let a = c.args in
     let n : ℕ = length a.t.now in
-    record { own = two_second n a.k a.t.now a.u.now a.i (row n a.a-1.now a.i) c.if-i-k-2.true; others = λ x ne. refl }
+    record { own = two_second n a.k a.t.now a.u.now a.i (row n a.a.now a.i) c.if-i-k-2.true; others = λ x ne. refl }
 
 returns_3 : tie.Need-returns
 returns_3 c =
@@ -41,18 +41,18 @@ returns_3 c =
     let if2 = c.if-i-k-2 in
     let a = c.args in
     let n : ℕ = length a.t.now in
-    let v : List Float = a.a-1.now in
+    let v : List Float = a.a.now in
     let s : ℕ = a.i * n in
     let t = c.take_two in
     let r : List Float = row n v a.i in
     let pr : take (s + n - s) (drop s v) ≡ r = part_row n v a.i s (s + n) refl refl in
     let lr : length r ≡ n = length_row n v a.i (omega arith) in
-    let whole : length t.new.0 ≡ n = t.auto.0 ∙ ap length pr ∙ lr in
-    let e : t.new.0 ≡ Inner.two_row n a.k a.t.now a.u.now a.i r =
+    let whole : length t.new.row ≡ n = t.auto.row ∙ ap length pr ∙ lr in
+    let e : t.new.row ≡ Inner.two_row n a.k a.t.now a.u.now a.i r =
     t.ensures ∙ ap (λ p. Inner.less_two (length p) a.k a.t.now a.u.now p) pr
     ∙ ap (λ k. Inner.less_two k a.k a.t.now a.u.now r) lr
     ∙ two_rest n a.k a.t.now a.u.now a.i r if1.false if2.false in
-    record { own = row_same n v t.new.0 a.i (omega arith) whole ∙ e; others = row_other n v t.new.0 a.i (omega arith) whole }
+    record { own = row_same n v t.new.row a.i (omega arith) whole ∙ e; others = row_other n v t.new.row a.i (omega arith) whole }
 
 pub two_row_spec : {M : Type 1} → statement M
 two_row_spec =

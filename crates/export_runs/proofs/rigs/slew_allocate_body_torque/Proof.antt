@@ -11,7 +11,7 @@ returns c =
     let made = c.before.before.before in
     let map = made.map_of-map in
     let row = made.allocate_body_torque-row.result in
-    let told = placed (of_fate_law (take (control_dim map.result) row.u-1) row.fate) c.place_of.ensures c.number_of_lem.ensures in
+    let told = placed (of_fate_law (take (control_dim map.result) row.u) row.fate) c.place_of.ensures c.number_of_lem.ensures in
     record {
       placed = rw (made.allocate_body_torque-row.ensures, map.ensures) at told;
       out_is = rw (made.allocate_body_torque-row.ensures, map.ensures);

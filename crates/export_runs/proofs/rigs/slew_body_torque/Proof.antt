@@ -10,7 +10,7 @@ returns c =
     let made = c.before.before in
     let torque = made.body_torque-t.result in
     let is = rw made.map_of-map.ensures at made.body_torque-t.ensures in
-    record { number_is = c.number_of_lem.ensures ∙ (of_fate_law torque.tau-1 torque.fate).number ∙ rw is; out_is = rw is }
+    record { number_is = c.number_of_lem.ensures ∙ (of_fate_law torque.tau torque.fate).number ∙ rw is; out_is = rw is }
 
 pub slew_body_torque_spec : {M : Type 1} → statement M
 slew_body_torque_spec = tie.close (tie.spec (λ c κs. search rules) (λ c κs. search rules) (λ c κs. search rules) returns)

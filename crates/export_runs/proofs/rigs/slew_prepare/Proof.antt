@@ -9,7 +9,7 @@ returns c =
     let made = c.before.before.before.before.before in
     let declared = made.actuators_of.ensures in
     let is = rw declared at made.prepare-prepared.ensures in
-    let told = placed (of_fate_law made.prepare-prepared.result.map-1 made.prepare-prepared.result.fate) c.place_of.ensures c.number_of_lem.ensures in
+    let told = placed (of_fate_law made.prepare-prepared.result.map made.prepare-prepared.result.fate) c.place_of.ensures c.number_of_lem.ensures in
     (rw is at told, (rw is, rw is))
 
 pub slew_prepare_spec : {M : Type 1} → statement M

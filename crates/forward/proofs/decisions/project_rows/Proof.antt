@@ -43,7 +43,7 @@ loop-again c =
     let l = c.loop-k in
     let f = c.project_controls in
     let r = row_end l.k 16 d (omega arith) in
-    (search rules, (length_pasted l.out-1 f.new.1.0 (1 + l.k * d) (1 + l.k * d + d) (omega arith) (omega arith) f.auto.1.0 ∙ l.invariant.1.0, iter_next _ _ _ l.invariant.1.1 (rw (← entry.requires.0, f.ensures))))
+    (search rules, (length_pasted l.out f.new.u (1 + l.k * d) (1 + l.k * d + d) (omega arith) (omega arith) f.auto.u ∙ l.invariant.1.0, iter_next _ _ _ l.invariant.1.1 (rw (← entry.requires.0, f.ensures))))
 
 returns : tie.Need-returns invariant_loop decreases_loop
 returns c = let e : c.loop-k.k ≡ 16 = omega arith in rw (← e) c.loop-k.invariant.1.1

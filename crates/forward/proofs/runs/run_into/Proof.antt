@@ -16,10 +16,10 @@ use Rattle.forward.proofs.runs.run_into.Tie as tie
 start-requires : tie.Need-start-from-requires
 start-requires c κs =
     let entry = c.before.before.before.before in
-    (dim_sized Once _ entry.requires.0).wheels-1
+    (dim_sized Once _ entry.requires.0).wheels
 
 run-on-requires : tie.Need-run_on-requires
-unfolding Runs.start-from Ieee.of_bits
+unfolding Runs.start Ieee.of_bits
 run-on-requires c κs =
     let u = c.before.before.before in
     let l = u.before.before.before in
@@ -30,7 +30,7 @@ run-on-requires c κs =
     (record { sized = pre.0; narrow = pre.1.0; angles = (made.0, none_known start.args.p.map.cmgs); sound = rw (u.unbegun-c.ensures, s.start-from.ensures) (record { matrix = made.1; plus = tt }) }, omega arith)
 
 returns : tie.Need-returns-in-Refused
-unfolding told Runs.run_under Runs.start-from
+unfolding told Runs.run_under Runs.start
 returns c =
     let entry = c.before.before.before.before.before.before.before.before.before.before in
     let start-gimbals = c.start_gimbals-l in
@@ -44,7 +44,7 @@ returns_2 c =
     let s = l.before in
     let nodes = s.args.nodes.now in
     let long = s.requires.1.1 in
-    let whole = c.run_on.ensures.whole s.start-from.result (rw u.unbegun-c.ensures (stands_first _ _ _ s.start-from.result l.start_gimbals-l.result.a-1 nodes long)) in
+    let whole = c.run_on.ensures.whole s.start-from.result (rw u.unbegun-c.ensures (stands_first _ _ _ s.start-from.result l.start_gimbals-l.result.a nodes long)) in
     (rw (whole, s.start-from.ensures), c.run_on.ensures.size ∙ long)
 
 pub run_into_spec : {M : Type 1} → statement M

@@ -25,7 +25,7 @@ use Rattle.forward.proofs.runs.steps_on.Tie as tie
 
 abbrev invariant_loop : tie.invariant-loop-i
 invariant_loop r wheels powers thrusters f skew lut n z k end c nodes₀ dt s₀ l₀ length₀ square₀ i₀ nodes s l long square i =
-    ((k ≤ i) × (i ≤ end + 1)) × ((SameBelow k nodes₀ nodes × (length nodes ≡ length nodes₀)) × ((going_rollout s (Sqrt.sqrt Ieee.binary64 square) (nodes_from nodes) ≡ iter (λ (d : ℕ). Runs.rollout_turn (Steps.body_with r wheels powers thrusters f) n z (d + k)) (rollout_of c nodes₀) (i - k - 1)) × (T (upright square) × (Pipelined (Steps.body_with r wheels powers thrusters f) n z k end i s l × (k < i → long ≡ norm3 l.turn-1)))))
+    ((k ≤ i) × (i ≤ end + 1)) × ((SameBelow k nodes₀ nodes × (length nodes ≡ length nodes₀)) × ((going_rollout s (Sqrt.sqrt Ieee.binary64 square) (nodes_from nodes) ≡ iter (λ (d : ℕ). Runs.rollout_turn (Steps.body_with r wheels powers thrusters f) n z (d + k)) (rollout_of c nodes₀) (i - k - 1)) × (T (upright square) × (Pipelined (Steps.body_with r wheels powers thrusters f) n z k end i s l × (k < i → long ≡ norm3 l.turn)))))
 
 abbrev decreases_loop : tie.decreases-loop-i
 decreases_loop r wheels powers thrusters f skew lut n z k end c nodes₀ dt s₀ l₀ length₀ square₀ i₀ nodes s l long square i = end + 1 - i

@@ -12,19 +12,19 @@ use Rattle.normal_equations.proofs.matrix.matrix_row.Statement.{statement}
 use Rattle.normal_equations.proofs.matrix.matrix_row.Tie as tie
 
 put-sums-requires : tie.Need-put_sums-requires
-put-sums-requires c κs = let s = c.before.before.before.before.before.before.before.before.before in
+put-sums-requires c κs = let s = c.before.before.before.before.before.before.before.before in
     let a = s.args in
     let f = c.sum_row in
-    let r : List Float = f.new.1.1.1.0 in
-    let e : length a.row-1.now ≡ length r = sym f.auto.1.1.1.0 in
-    (omega arith, s.requires.1 ∙ ap (λ k. k * a.m + k * k) e, subst (λ w. Inner.Summed a.m (take (w * a.m) a.v-1.now) a.c a.c w r) e f.ensures)
+    let r : List Float = f.new.row in
+    let e : length a.row.now ≡ length r = sym f.auto.row in
+    (omega arith, s.requires.1 ∙ ap (λ k. k * a.m + k * k) e, subst (λ w. Inner.Summed a.m (take (w * a.m) a.v.now) a.c a.c w r) e f.ensures)
 
 returns : tie.Need-returns
 returns c =
     let sum_row = c.sum_row in
     let a = c.args in
     let g = c.put_sums in
-    subst (λ w. Inner.RowFilled w a.m a.v-1.now a.c g.new.0) sum_row.auto.1.1.1.0 g.ensures
+    subst (λ w. Inner.RowFilled w a.m a.v.now a.c g.new.v) sum_row.auto.row g.ensures
 
 pub matrix_row_spec : {M : Type 1} → statement M
 matrix_row_spec =

@@ -12,23 +12,23 @@ use Rattle.normal_equations.proofs.matrix.matrix_rows.Statement.{statement}
 use Rattle.normal_equations.proofs.matrix.matrix_rows.Tie as tie
 
 put-sums-requires : tie.Need-put_sums-requires
-put-sums-requires c κs = let s = c.before.before.before.before.before.before.before.before.before.before.before.before.before in
+put-sums-requires c κs = let s = c.before.before.before.before.before.before.before.before.before.before.before.before in
     let a = s.args in
     let f = c.sums in
-    let r : List Float = f.new.1.1.1.0 in
-    let e : length a.row-1.now ≡ length r = sym f.auto.1.1.1.0 in
-    (omega arith, s.requires.2 ∙ ap (λ k. k * a.m + k * k) e, subst (λ w. Inner.Summed a.m (take (w * a.m) a.v-1.now) a.c a.c w r) e f.ensures.0)
+    let r : List Float = f.new.row in
+    let e : length a.row.now ≡ length r = sym f.auto.row in
+    (omega arith, s.requires.2 ∙ ap (λ k. k * a.m + k * k) e, subst (λ w. Inner.Summed a.m (take (w * a.m) a.v.now) a.c a.c w r) e f.ensures.0)
 
 put-sums-requires-2 : tie.Need-put_sums-requires-2
-put-sums-requires-2 c κs = let s = c.before.before.before.before.before.before.before.before.before.before.before.before.before.before.before.before.before.before.before.before in
+put-sums-requires-2 c κs = let s = c.before.before.before.before.before.before.before.before.before.before.before.before.before.before.before.before.before.before.before in
     let a = s.args in
-    let n : ℕ = length a.row-1.now in
+    let n : ℕ = length a.row.now in
     let f = c.sums in
     let g = c.put_sums in
-    let r : List Float = f.new.1.1.1.1.0 in
-    let u : List Float = g.new.0 in
-    let e : n ≡ length r = sym (f.auto.1.1.1.1.0 ∙ s.requires.1) in
-    let one : Inner.RowFilled n a.m a.v-1.now a.c u = subst (λ w. Inner.RowFilled w a.m a.v-1.now a.c u) f.auto.1.1.1.0 g.ensures in (
+    let r : List Float = f.new.next in
+    let u : List Float = g.new.v in
+    let e : n ≡ length r = sym (f.auto.next ∙ s.requires.1) in
+    let one : Inner.RowFilled n a.m a.v.now a.c u = subst (λ w. Inner.RowFilled w a.m a.v.now a.c u) f.auto.row g.ensures in (
       omega arith,
       one.size ∙ s.requires.2 ∙ ap (λ k. k * a.m + k * k) e,
       subst (λ w. Inner.Summed a.m (take (w * a.m) u) (a.c + 1) (a.c + 1) w r) e
@@ -36,16 +36,16 @@ put-sums-requires-2 c κs = let s = c.before.before.before.before.before.before.
     )
 
 returns : tie.Need-returns
-returns c = let s = c.before.before.before.before.before.before.before.before.before.before.before.before.before.before.before.before.before.before.before.before.before.before.before.before.before in
+returns c = let s = c.before.before.before.before.before.before.before.before.before.before.before.before.before.before.before.before.before.before.before.before.before.before.before.before in
     let a = s.args in
     let f = c.sums in
     let g = c.put_sums in
     let h = c.put_sums-2 in
-    let u : List Float = g.new.0 in
+    let u : List Float = g.new.v in
     record {
       middle = u;
-      first = subst (λ w. Inner.RowFilled w a.m a.v-1.now a.c u) f.auto.1.1.1.0 g.ensures;
-      second = subst (λ w. Inner.RowFilled w a.m u (a.c + 1) h.new.0) (f.auto.1.1.1.1.0 ∙ s.requires.1) h.ensures;
+      first = subst (λ w. Inner.RowFilled w a.m a.v.now a.c u) f.auto.row g.ensures;
+      second = subst (λ w. Inner.RowFilled w a.m u (a.c + 1) h.new.v) (f.auto.next ∙ s.requires.1) h.ensures;
     }
 
 pub matrix_rows_spec : {M : Type 1} → statement M

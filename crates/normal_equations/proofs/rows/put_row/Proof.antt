@@ -12,8 +12,8 @@ returns : tie.Need-returns
 returns c = let a = c.args in
     let t = c.copy in
     let n : ℕ = length a.line.now in
-    let whole : length t.new.0 ≡ n = ap length t.ensures in
-    record { own = row_same n a.a-1.now t.new.0 a.c (omega arith) whole ∙ t.ensures; others = row_other n a.a-1.now t.new.0 a.c (omega arith) whole }
+    let whole : length t.new.to ≡ n = ap length t.ensures in
+    record { own = row_same n a.a.now t.new.to a.c (omega arith) whole ∙ t.ensures; others = row_other n a.a.now t.new.to a.c (omega arith) whole }
 
 pub put_row_spec : {M : Type 1} → statement M
 put_row_spec =

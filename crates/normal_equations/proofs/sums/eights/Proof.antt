@@ -20,7 +20,7 @@ eight-at-requires : tie.Need-eight_at-requires invariant_loop decreases_loop
 eight-at-requires c κs = let s = c.before.before.before.before.before.before.before.before.before in
     let a = s.args in
     let l = c.loop-d in
-    let h : l.d + 4 ≤ length a.row-1.now = omega arith in
+    let h : l.d + 4 ≤ length a.row.now = omega arith in
     (omega arith, omega arith, s.requires.2, omega (arith, mul-le-mul_right (length a.o.now) h, add-mul l.d 4 (length a.o.now)))
 
 loop-again : tie.Need-loop-d-preserved invariant_loop decreases_loop
@@ -29,8 +29,8 @@ loop-again c = let a = c.args in
     let f = c.eight_at in (
       omega arith,
       omega arith,
-      omega (arith, f.auto.1.1.1.1.0),
-      omega (arith, f.auto.1.1.1.1.1.0),
+      omega (arith, f.auto.row),
+      omega (arith, f.auto.next),
       filled_join _ a.from l.d (l.d + 4) _ _ _ (omega arith) (omega arith) l.invariant.4 f.ensures.0,
       filled_join _ a.from l.d (l.d + 4) _ _ _ (omega arith) (omega arith) l.invariant.5 f.ensures.1,
     )

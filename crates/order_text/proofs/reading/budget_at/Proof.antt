@@ -8,7 +8,7 @@ use Rattle.order_text.proofs.reading.budget_at.Statement.{statement}
 use Rattle.order_text.proofs.reading.budget_at.Tie as tie
 
 returns : tie.Need-word_at-w-requires
-returns c = let t = c.before in budget_none _ (sym t.is_at.ensures.is ∙ not-true _ t.if-not-is_at.true) c.wrong_word.ensures
+returns c = let t = c.before in budget_none _ (sym t.is_at.ensures.is ∙ not-true _ c.if-not-is_at.true) c.wrong_word.ensures
 
 returns_2 : tie.Need-is_at-requires-2
 returns_2 c =
@@ -25,7 +25,7 @@ returns_3 c =
     let w = o.before.before in
     let e = w.before in
     budget_unended _ (sym e.is_at.ensures.is ∙ not-false _ e.if-not-is_at.false) w.word_at-w.ensures (not-false _ o.if-not-w.false)
-    (sym a.is_at-2.ensures.is ∙ not-true _ t.if-not-is_at-2.true) c.wrong_word-then-not-is_at-2.ensures
+    (sym c.is_at-2.ensures.is ∙ not-true _ c.if-not-is_at-2.true) c.wrong_word-then-not-is_at-2.ensures
 
 returns-4 : tie.Need-returns
 returns-4 c =

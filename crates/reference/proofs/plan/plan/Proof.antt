@@ -15,7 +15,7 @@ unfolding Plans.plan
 returns c = (rw (lt-ltb _ _ c.if-steps-gt100000.true, c.refuse.ensures), rw c.refuse.ensures (refused_answer _ _))
 
 plan-checked-requires : tie.Need-plan_checked-requires
-plan-checked-requires c κs = let g : (Problems.check-checked c.args.p).fate-1 ≡ Going = rw c.check-checked.ensures at c.in-Going.is in (rw c.check-checked.ensures (passed_sized _ g), omega arith)
+plan-checked-requires c κs = let g : (Problems.check c.args.p).fate ≡ Going = rw c.check-checked.ensures at c.in-Going.is in (rw c.check-checked.ensures (passed_sized _ g), omega arith)
 
 returns_2 : tie.Need-returns-in-Refused
 unfolding Plans.plan

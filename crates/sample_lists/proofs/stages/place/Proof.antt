@@ -13,7 +13,7 @@ walk-requires : tie.Need-walk-i-requires
 walk-requires c κs =
     let s = c.before.before in
     ⊎_elim
-    (λ w. rw w.1 (s.requires.2, passed_later s.args.nodes.now s.args.since c.time_of-t.result s.args.from s.well_formed.1.1.1.1.1.0.1 c.before.time-of.type_inv w.0.taken s.requires.3))
+    (λ w. rw w.1 (s.requires.2, passed_later s.args.nodes.now s.args.since c.time_of-t.result s.args.from s.well_formed.1.1.1.1.1.0.1 c.time_of-t.type_inv w.0.taken s.requires.3))
     (λ w. rw w.1 (omega arith, passed_none s.args.nodes.now c.time_of-t.result))
     c.if-since-t.branch
 

@@ -73,8 +73,8 @@ returns c =
     let l = c.loop-c in
     let t = c.column-fate in
     let below = loop-test.true in
-    let past = left_past a.p a.m a.t5 a.r0 l.c l.v-1 (l.invariant.1.1.0 a.r0 g z) t.new.1.1.0 t.result (t.ensures.0.1 a.r0 g z) (a.n * kept a.m) (row_end l.c a.n (kept a.m) (below)) in
-    (front_broken a.p a.m a.t5 a.r0 l.c l.v-1 (l.invariant.1.1.0 a.r0 g z) s.m_is (omega (arith, s.n_is, below)) (sym t.ensures.0.0 ∙ c.in-Refused.is), λ i h. past i h ∙ l.invariant.1.1.1.0 i h)
+    let past = left_past a.p a.m a.t5 a.r0 l.c l.v (l.invariant.1.1.0 a.r0 g z) t.new.v t.result (t.ensures.0.1 a.r0 g z) (a.n * kept a.m) (row_end l.c a.n (kept a.m) (below)) in
+    (front_broken a.p a.m a.t5 a.r0 l.c l.v (l.invariant.1.1.0 a.r0 g z) s.m_is (omega (arith, s.n_is, below)) (sym t.ensures.0.0 ∙ c.in-Refused.is), λ i h. past i h ∙ l.invariant.1.1.1.0 i h)
 
 loop-again : tie.Need-loop-c-preserved invariant_loop decreases_loop
 loop-again c =
@@ -86,15 +86,15 @@ loop-again c =
     let l = c.loop-c in
     let t = c.column-fate in
     let below = loop-test.true in
-    let u = t.new.1.1.0 in
+    let u = t.new.v in
     let here = l.invariant.1.1.0 a.r0 g z in
-    let size = left_length a.p a.m a.t5 a.r0 l.c l.v-1 here u t.result (t.ensures.0.1 a.r0 g z) in
-    let past = left_past a.p a.m a.t5 a.r0 l.c l.v-1 here u t.result (t.ensures.0.1 a.r0 g z) (a.n * kept a.m) (row_end l.c a.n (kept a.m) (below)) in (
+    let size = left_length a.p a.m a.t5 a.r0 l.c l.v here u t.result (t.ensures.0.1 a.r0 g z) in
+    let past = left_past a.p a.m a.t5 a.r0 l.c l.v here u t.result (t.ensures.0.1 a.r0 g z) (a.n * kept a.m) (row_end l.c a.n (kept a.m) (below)) in (
       omega (arith, below),
       (
         size ∙ l.invariant.1.0,
         (
-          λ r0 h o. front_next a.p a.m a.t5 r0 l.c l.v-1 (l.invariant.1.1.0 r0 h o) u t.ensures.0.0 c.in-Going.is (t.ensures.0.1 r0 h o),
+          λ r0 h o. front_next a.p a.m a.t5 r0 l.c l.v (l.invariant.1.1.0 r0 h o) u t.ensures.0.0 c.in-Going.is (t.ensures.0.1 r0 h o),
           (λ i h. past i h ∙ l.invariant.1.1.1.0 i h, t.ensures.1),
         ),
       ),
@@ -108,7 +108,7 @@ returns_2 c =
     let l = c.loop-c in
     let e : l.c ≡ a.n = omega arith in
     let here = l.invariant.1.1.0 a.r0 (gathered first).gather.ensures (start first).requires.1.0 in
-    (front_whole a.p a.m a.t5 a.r0 a.n l.v-1 s.n_is s.m_is (omega (arith, s.fits, l.invariant.1.0)) (rw e at here), l.invariant.1.1.1.0)
+    (front_whole a.p a.m a.t5 a.r0 a.n l.v s.n_is s.m_is (omega (arith, s.fits, l.invariant.1.0)) (rw e at here), l.invariant.1.1.1.0)
 
 pub jacobian_spec : {M : Type 1} → statement M
 jacobian_spec =

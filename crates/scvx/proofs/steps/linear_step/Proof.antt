@@ -11,7 +11,7 @@ use Rattle.scvx.proofs.steps.linear_step.Tie as tie
 
 take-step-requires : tie.Need-take_step-requires
 take-step-requires c κs =
-    let entry = c.before.before.before.before.before.before.before.before in
+    let entry = c.before.before.before.before.before.before.before in
     let z = entry.requires.0 in
     let h = entry.requires.1.1 in
     let q = ap (λ (x : Progress). x.state.runs) c.with_state.ensures ∙ ap (λ (x : SearchState). x.runs) c.count_runs.ensures in (
@@ -21,7 +21,7 @@ take-step-requires c κs =
 
 returns : tie.Need-returns-then-g
 returns c =
-    let entry = c.before.before.before.before.before.before.before.before.before.before.before in
+    let entry = c.before.before.before.before.before.before.before.before.before.before in
     let if1 = c.if-g in
     let count_runs = c.count_runs in
     let with-state = c.with_state in

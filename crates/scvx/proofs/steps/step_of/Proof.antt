@@ -27,14 +27,14 @@ known : (c : tie.After-front-2-1) → c.kept-w.result ≡ kept (start c).args.m
 known c = c.kept-w.ensures
 
 -- columns and matrix fit into the workspace
-fits : (c : tie.After-front-2-1) → (start c).args.n * c.kept-w.result + (start c).args.n * (start c).args.n ≤ length (start c).args.ws-1.now
-fits c = subst (λ k. (start c).args.n * k + (start c).args.n * (start c).args.n ≤ length (start c).args.ws-1.now) (sym (known c)) (start c).requires.1.1.0
+fits : (c : tie.After-front-2-1) → (start c).args.n * c.kept-w.result + (start c).args.n * (start c).args.n ≤ length (start c).args.ws.now
+fits c = subst (λ k. (start c).args.n * k + (start c).args.n * (start c).args.n ≤ length (start c).args.ws.now) (sym (known c)) (start c).requires.1.1.0
 
 -- the Gram matrix of the kept rows
-summed : (c : tie.After-front-2-1) → GramKept (start c).args.n c.kept-w.result (rows (start c).args.n c.kept-w.result (take ((start c).args.n * c.kept-w.result) (start c).args.ws-1.now)) (start c).args.gram.now
+summed : (c : tie.After-front-2-1) → GramKept (start c).args.n c.kept-w.result (rows (start c).args.n c.kept-w.result (take ((start c).args.n * c.kept-w.result) (start c).args.ws.now)) (start c).args.gram.now
 summed c =
     let a = (start c).args in
-    subst (λ k. GramKept a.n k (rows a.n k (take (a.n * k) a.ws-1.now)) a.gram.now) (sym (known c)) (gram_of_kept a.n a.m a.ws-1.now a.gram.now (start c).requires.1.0 (start c).requires.1.1.1.1)
+    subst (λ k. GramKept a.n k (rows a.n k (take (a.n * k) a.ws.now)) a.gram.now) (sym (known c)) (gram_of_kept a.n a.m a.ws.now a.gram.now (start c).requires.1.0 (start c).requires.1.1.1.1)
 
 long : (c : tie.Start) → length c.args.r ≡ 79
 long c = search rules
@@ -57,9 +57,9 @@ kept-step-requires c κs =
     let e : length (take a.n blank) ≡ a.n = length-take-le a.n blank (omega (arith, st.requires.0)) in
     let whole : length a.r ≡ 79 = long st in (
       omega (arith, st.requires.0),
-      omega (arith, known front, kept_most a.m st.requires.1.0, laid_most st.requires.1.0, c.gather.auto.1.0),
+      omega (arith, known front, kept_most a.m st.requires.1.0, laid_most st.requires.1.0, c.gather.auto.r),
       length-take-le _ _ (fits front) ∙ ap (λ k. k * w + k * k) (sym e),
-      gram_front (length (take a.n blank)) a.n w a.ws-1.now e (fits front) a.gram.now (summed front),
+      gram_front (length (take a.n blank)) a.n w a.ws.now e (fits front) a.gram.now (summed front),
     )
 
 returns : tie.Need-returns
@@ -69,17 +69,17 @@ returns c =
     let front = c.before.before.before.before.before.before.before in
     let w = c.kept-w.result in
     let t = c.kept_step-solved in
-    let d : List Float = t.new.1.1.1.1.1.0 in
-    let x : List Float = c.gather.new.1.0 in
+    let d : List Float = t.new.g in
+    let x : List Float = c.gather.new.r in
     let e : length (take a.n blank) ≡ a.n = length-take-le a.n blank (omega (arith, st.requires.0)) in
-    let same = kept_front (length (take a.n blank)) a.n w a.ws-1.now e (fits front) t.new.0 t.auto.0 t.ensures.0 in (
-      ap (λ y. told t.result y) (take_at d (drop a.n blank) a.n (t.auto.1.1.1.1.1.0 ∙ e))
-          ∙ told_front (length (take a.n blank)) a.n w a.ws-1.now e (fits front) t.result d x a.lambda t.ensures.1
-          ∙ ap (λ k. damped_step a.n k (rows a.n k (take (a.n * k) a.ws-1.now)) x a.lambda) (known front)
-          ∙ step_kept a.n a.m a.ws-1.now a.r x a.lambda st.requires.1.0 c.gather.ensures st.requires.1.1.1.0,
+    let same = kept_front (length (take a.n blank)) a.n w a.ws.now e (fits front) t.new.v t.auto.v t.ensures.0 in (
+      ap (λ y. told t.result y) (take_at d (drop a.n blank) a.n (t.auto.g ∙ e))
+          ∙ told_front (length (take a.n blank)) a.n w a.ws.now e (fits front) t.result d x a.lambda t.ensures.1
+          ∙ ap (λ k. damped_step a.n k (rows a.n k (take (a.n * k) a.ws.now)) x a.lambda) (known front)
+          ∙ step_kept a.n a.m a.ws.now a.r x a.lambda st.requires.1.0 c.gather.ensures st.requires.1.1.1.0,
       (
-        length_front blank d a.n t.auto.1.1.1.1.1.0,
-        ap (columns a.n a.m) (subst (λ k. take (a.n * k) (t.new.0 ++ drop (a.n * w + a.n * a.n) a.ws-1.now) ≡ take (a.n * k) a.ws-1.now) (known front) same),
+        length_front blank d a.n t.auto.g,
+        ap (columns a.n a.m) (subst (λ k. take (a.n * k) (t.new.v ++ drop (a.n * w + a.n * a.n) a.ws.now) ≡ take (a.n * k) a.ws.now) (known front) same),
       ),
     )
 

@@ -17,8 +17,8 @@ abbrev start : tie.After-kept-w → tie.Start
 start c = c.before.before.before
 
 -- columns and matrix fit into the workspace
-fits : (c : tie.After-kept-w) → (start c).args.n * c.kept-w.result + (start c).args.n * (start c).args.n ≤ length (start c).args.ws-1.now
-fits c = subst (λ k. (start c).args.n * k + (start c).args.n * (start c).args.n ≤ length (start c).args.ws-1.now) (sym c.kept-w.ensures) (start c).requires.1.1
+fits : (c : tie.After-kept-w) → (start c).args.n * c.kept-w.result + (start c).args.n * (start c).args.n ≤ length (start c).args.ws.now
+fits c = subst (λ k. (start c).args.n * k + (start c).args.n * (start c).args.n ≤ length (start c).args.ws.now) (sym c.kept-w.ensures) (start c).requires.1.1
 
 slice-aggregate-keep-gram : tie.Need-slice_bounds-keep_gram-end-2
 slice-aggregate-keep-gram c = sym (length-take-le _ _ (fits c.before))
@@ -34,10 +34,10 @@ returns c =
     let known : w ≡ kept a.m = c.kept-w.ensures in
     let room = fits c.before.before.before.before.before.before.before in
     let t = c.keep_gram in
-    let same = kept_front a.n a.n w a.ws-1.now refl room t.new.0 t.auto.0 t.ensures.0 in (
-      ap (columns a.n a.m) (subst (λ k. take (a.n * k) (t.new.0 ++ drop (a.n * w + a.n * a.n) a.ws-1.now) ≡ take (a.n * k) a.ws-1.now) known same),
-      gram_of_all a.n a.m a.ws-1.now _ st.requires.1.0
-          (subst (λ k. GramKept a.n k (rows a.n k (take (a.n * k) a.ws-1.now)) t.new.1.1.1.0) known (gram_whole a.n a.n w a.ws-1.now refl room _ t.ensures.1)),
+    let same = kept_front a.n a.n w a.ws.now refl room t.new.v t.auto.v t.ensures.0 in (
+      ap (columns a.n a.m) (subst (λ k. take (a.n * k) (t.new.v ++ drop (a.n * w + a.n * a.n) a.ws.now) ≡ take (a.n * k) a.ws.now) known same),
+      gram_of_all a.n a.m a.ws.now _ st.requires.1.0
+          (subst (λ k. GramKept a.n k (rows a.n k (take (a.n * k) a.ws.now)) t.new.gram) known (gram_whole a.n a.n w a.ws.now refl room _ t.ensures.1)),
     )
 
 pub sum_columns_spec : {M : Type 1} → statement M

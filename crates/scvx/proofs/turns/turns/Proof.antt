@@ -64,7 +64,7 @@ returns_2 c =
     iter_stays _ _ (l.k + 1) 40 (omega arith) (iter_next _ _ l.k l.inv.1.1.1.1.0 (next c.before.before)) (λ j. turn_refused _ j _ c.in-Refused.is)
 
 -- the runs of an iteration are those of its definition
-runs_same : (c : tie.After-s-1 invariant_loop decreases_loop) → (done c).iterate-g.result.state.runs ≡ (Search.iterate-g (start c).args.p (at-loop c).loop-k.k (at-loop c).loop-k.g.state).runs
+runs_same : (c : tie.After-s-1 invariant_loop decreases_loop) → (done c).iterate-g.result.state.runs ≡ (Search.iterate (start c).args.p (at-loop c).loop-k.k (at-loop c).loop-k.g.state).runs
 runs_same c = ap (λ (x : SearchState). x.runs) (done c).iterate-g.ensures.0
 
 sub-repeat-last : tie.Need-overflow_sub-s invariant_loop decreases_loop
@@ -89,7 +89,7 @@ repeat-last-requires c κs =
 same-length-3 : tie.Need-shape_of-ws-then-is_settled invariant_loop decreases_loop
 same-length-3 c =
     let s = c.before.before.before.before.before.before in
-    (done s).iterate-g.auto.1.0 ∙ (at-loop s).loop-k.invariant.1.1.0
+    (done s).iterate-g.auto.ws ∙ (at-loop s).loop-k.invariant.1.1.0
 
 returns_3 : tie.Need-returns-then-is_settled invariant_loop decreases_loop
 returns_3 c =
@@ -101,8 +101,8 @@ returns_3 c =
     let l = (at-loop s).loop-k.invariant in
     let is = (done s).iterate-g.ensures.0 in
     let top = settled.is_settled.ensures c.if-is_settled.true in
-    let on : (Search.iterate-g p k g).status ≡ Going = sym (ap (λ (x : SearchState). x.status) is) ∙ settled.in-Going.is in
-    let still : (Search.iterate-g p k g).lambda ≡ Search.strongest = sym (ap (λ (x : SearchState). x.lambda) is) ∙ top.1 in
+    let on : (Search.iterate p k g).status ≡ Going = sym (ap (λ (x : SearchState). x.status) is) ∙ settled.in-Going.is in
+    let still : (Search.iterate p k g).lambda ≡ Search.strongest = sym (ap (λ (x : SearchState). x.lambda) is) ∙ top.1 in
     c.repeat_last.ensures
     ∙ ap (λ (x : SearchState). counted x ((40 - (k + 1)) * (x.runs - g.runs)) 40) is
     ∙ repeated_to p k g l.1.1.1.0 top.0 on still _ 40 (omega (arith, (in-loop s).loop-k-test.true)) (iter_next _ _ k l.1.1.1.1.0 (sym (turn_going p k g l.1.1.1.0)))
@@ -117,7 +117,7 @@ loop-again c =
       omega (arith, (in-loop s).loop-k-test.true),
       (
         omega (arith, pre.n_is, pre.n_most, l.inv.1.0, runs_same s, iterate_le (start s).args.p l.k l.g.state),
-        (t.kept.1.0 ∙ l.inv.1.1.0, (told.in-Going.is, (iter_next _ _ l.k l.inv.1.1.1.1.0 (next s), (t.kept.1.1.0 ∙ l.inv.1.1.1.1.1.0, t.ensures.1)))),
+        (t.kept.ws ∙ l.inv.1.1.0, (told.in-Going.is, (iter_next _ _ l.k l.inv.1.1.1.1.0 (next s), (t.kept.gram ∙ l.inv.1.1.1.1.1.0, t.ensures.1)))),
       ),
     )
 

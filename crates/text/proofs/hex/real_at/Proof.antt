@@ -8,7 +8,7 @@ returns : tie.Need-returns-in-Bits
 returns c =
     let at-m = c.before.before in
     let at-hex-at = at-m.before.before in
-    real_is _ _ at-m.m-1.given.0.0 _ _ at-hex-at.hex_at.result at-hex-at.hex_at.ensures at-m.m-1.given.1 c.real_of.ensures
+    real_is _ _ at-m.m.given.0.0 _ _ at-hex-at.hex_at.result at-hex-at.hex_at.ensures at-m.m.given.1 c.real_of.ensures
 
 returns_2 : tie.Need-returns-in-Wrong
 returns_2 c = real_wrong _ _ c.hex_at.result c.hex_at.ensures c.in-Wrong.is

@@ -19,7 +19,7 @@ loop-again : tie.Need-loop-k-preserved invariant_loop decreases_loop
 loop-again c =
     let put = c.before.before in
     let l = put.loop-k in
-    first_next l.invariant (omega arith) put.put_node-i.ensures put.put_node.auto.0
+    first_next l.invariant (omega arith) put.put_node-i.ensures put.put_node-i.auto.b
 
 returns : tie.Need-returns invariant_loop decreases_loop
 unfolding nodes

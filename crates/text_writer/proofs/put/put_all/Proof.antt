@@ -26,7 +26,7 @@ loop-again c =
     let start = at-loop.before.before.before in
     let a = start.args in
     let l = at-loop.loop-k in
-    (omega arith, rw at-put.put.ensures (l.invariant.1 ∙ puts_one l.b-1 a.w.now a.at l.k (omega arith)), rw at-put.put.ensures (length-set l.b-1 _ _ ∙ l.invariant.2))
+    (omega arith, rw at-put.put.ensures (l.invariant.1 ∙ puts_one l.b a.w.now a.at l.k (omega arith)), rw at-put.put.ensures (length-set l.b _ _ ∙ l.invariant.2))
 
 same_length : tie.Need-shape_of-b invariant_loop decreases_loop
 same_length c = c.loop-k.invariant.2
@@ -35,7 +35,7 @@ returns : tie.Need-returns invariant_loop decreases_loop
 returns c =
     let a = c.args in
     let l = c.loop-k in
-    record { is = sym (l.invariant.1 ∙ puts_all l.b-1 a.w.now a.at l.k (omega arith)); ends = omega arith; short = le_refl _ }
+    record { is = sym (l.invariant.1 ∙ puts_all l.b a.w.now a.at l.k (omega arith)); ends = omega arith; short = le_refl _ }
 
 pub put_all_spec : {M : Type 1} → statement M
 put_all_spec =

@@ -58,19 +58,19 @@ loop-again c =
     let l = at-loop.loop-rest in
     let t = turn at-loop.loop-rest.k at-loop.loop-rest.weight at-loop.loop-rest.rest at-loop.loop-rest.invariant.1 at-loop.loop-rest.invariant.7 at-loop.loop-rest.invariant.2 at-loop-test.loop-rest-test.true in
     let d = rest_some l.k l.rest (l.weight / 16) at-loop-test.loop-rest-test.true t.more t.weight in
-    let p : at-put2.put-in-loop-rest.new.0 ≡ set l.b-1 l.i (digit_byte (l.rest / (l.weight / 16))) = at-put2.put-in-loop-rest.ensures ∙ rw at-hex-byte2.hex_byte-in-loop-rest.ensures in (
+    let p : at-put2.put-in-loop-rest.new.0 ≡ set l.b l.i (digit_byte (l.rest / (l.weight / 16))) = at-put2.put-in-loop-rest.ensures ∙ rw at-hex-byte2.hex_byte-in-loop-rest.ensures in (
       omega arith,
       t.weight,
       t.less,
       omega arith,
-      rw p (l.invariant.4 ∙ puts_turn l.b-1 _ _ l.i _ d),
+      rw p (l.invariant.4 ∙ puts_turn l.b _ _ l.i _ d),
       l.invariant.5 ∙ ends_turn _ _ l.i _ d,
-      rw p (length-set l.b-1 l.i _ ∙ l.invariant.6),
+      rw p (length-set l.b l.i _ ∙ l.invariant.6),
       t.pos,
     )
 
 same_length : tie.Need-shape_of-b invariant_loop decreases_loop
-same_length c = c.loop-rest.invariant.6 ∙ c.put.auto.0
+same_length c = c.loop-rest.invariant.6 ∙ c.put.auto.b
 
 returns : tie.Need-returns invariant_loop decreases_loop
 returns c =
@@ -79,9 +79,9 @@ returns c =
     let start = at-hex-byte.before.before.before in
     let a = start.args in
     let l = c.loop-rest in
-    let p : at-put.put.new.0 ≡ set a.b-1.now a.at (digit_byte (a.x / 1152921504606846976)) = at-put.put.ensures ∙ rw at-hex-byte.hex_byte.ensures in
+    let p : at-put.put.new.0 ≡ set a.b.now a.at (digit_byte (a.x / 1152921504606846976)) = at-put.put.ensures ∙ rw at-hex-byte.hex_byte.ensures in
     let z = rest_none l.k l.rest c.loop-rest-test.false in
-    let e = puts_turn a.b-1.now _ _ a.at _ (text_is a.x) in
+    let e = puts_turn a.b.now _ _ a.at _ (text_is a.x) in
     record {
       is = puts_end _ _ l.i z ∙ sym l.invariant.4 ∙ rw (← p) at (sym e);
       ends = ends_end l.i _ z ∙ sym l.invariant.5 ∙ sym (ends_turn _ _ a.at _ (text_is a.x));

@@ -9,7 +9,7 @@ use Rattle.tile_order.proofs.table.floor.Statement.{statement}
 use Rattle.tile_order.proofs.table.floor.Tie as tie
 
 abbrev invariant_loop : tie.invariant-loop-i
-invariant_loop n times sum₀ i₀ sum i = (i + 1 ≤ n) × (sum ≤ i * Tables.longest) × (sum ≡ Below.sum (λ k. Tables.least-sum n times (k + 1)) i)
+invariant_loop n times sum₀ i₀ sum i = (i + 1 ≤ n) × (sum ≤ i * Tables.longest) × (sum ≡ Below.sum (λ k. Tables.least n times (k + 1)) i)
 
 abbrev decreases_loop : tie.decreases-loop-i
 decreases_loop n times sum₀ i₀ sum i = n - i
