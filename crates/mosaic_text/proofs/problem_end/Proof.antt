@@ -15,20 +15,20 @@ invariant_loop s i₀ t3 t4 i = (i ≤ length s) × (end_from s (length s - 8) 8
 abbrev decreases_loop : tie.decreases-loop-i
 decreases_loop s i₀ t3 t4 i = length s - i
 
-add-result : tie.Need-returns-then-is_at invariant_loop decreases_loop
+add-result : tie.Need-overflow_add-result invariant_loop decreases_loop
 add-result c = omega (arith, c.is_at.ensures.within c.if-is_at.true)
 
-returns : tie.Need-is_at-requires-in-loop-i invariant_loop decreases_loop
+returns : tie.Need-returns-then-is_at invariant_loop decreases_loop
 returns c =
     let i = c.before in
     let l = i.loop-i in
     let w = i.is_at.ensures.within c.if-is_at.true in
     record { is = sym (l.invariant.1 ∙ end_closed _ _ _ (omega arith) (sym i.is_at.ensures.is ∙ c.if-is_at.true)); after = omega (arith, l.invariant.2); within = w }
 
-add-result-2 : tie.Need-overflow_add-i invariant_loop decreases_loop
+add-result-2 : tie.Need-overflow-add-result-2 invariant_loop decreases_loop
 add-result-2 c = omega (arith, c.is_at-in-loop-i.ensures.within c.if-is_at-2.true)
 
-returns_2 : tie.Need-loop-i-smaller invariant_loop decreases_loop
+returns_2 : tie.Need-returns-then-is_at-2 invariant_loop decreases_loop
 returns_2 c =
     let j = c.before in
     let e = j.before.before in
@@ -53,5 +53,4 @@ returns_3 c =
 pub problem_end_spec : {M : Type 1} → statement M
 problem_end_spec =
     tie.close
-    (tie.spec invariant_loop decreases_loop (λ c. (omega arith, refl, omega arith)) (search rules) (search rules) add-result returns (search rules) (search rules)
-    add-result-2 returns_2 (search rules) (search rules) loop-again returns_3)
+    (tie.spec invariant_loop decreases_loop (λ c. search rules) (λ c κs. search rules) add-result returns (λ c κs. search rules) (λ c. search rules) returns_2 (λ c. search rules) (λ c. search rules) loop-again returns_3)

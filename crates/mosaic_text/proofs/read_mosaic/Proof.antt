@@ -10,13 +10,13 @@ returns : tie.Need-returns-then-s-gt16384
 unfolding read_mosaic
 returns c = simp (lt-ltb _ _ c.if-s-gt16384.true) c.wrong.ensures
 
-returns_2 : tie.Need-read_parts-requires
+returns_2 : tie.Need-returns-then-not-is_at
 unfolding read_mosaic
 returns_2 c =
     let i = c.before.before in
-    simp (le-ltb _ _ i.if-s-gt16384.false, unmet c.is_at.ensures.is c.if-not-is_at.true) c.wrong-then-not-is_at.ensures
+    simp (le-ltb _ _ i.if-s-gt16384.false, unmet i.is_at.ensures.is c.if-not-is_at.true) c.wrong-then-not-is_at.ensures
 
-read-parts-requires : tie.Need-returns
+read-parts-requires : tie.Need-read_parts-requires
 read-parts-requires c κs =
     let i = c.before in
     (i.is_at.ensures.within (not-false _ c.if-not-is_at.false), i.if-s-gt16384.false)
@@ -28,4 +28,4 @@ returns_3 c =
     simp (le-ltb _ _ i.if-s-gt16384.false, met i.is_at.ensures.is c.if-not-is_at.false) c.read_parts.ensures
 
 pub read_mosaic_spec : {M : Type 1} → statement M
-read_mosaic_spec = tie.close (tie.spec (search rules) returns (search rules) (search rules) (search rules) returns_2 read-parts-requires returns_3)
+read_mosaic_spec = tie.close (tie.spec (λ c κs. search rules) returns (λ c κs. search rules) (λ c κs. search rules) returns_2 read-parts-requires returns_3)

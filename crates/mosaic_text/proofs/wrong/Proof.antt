@@ -7,4 +7,4 @@ returns : tie.Need-returns
 returns c = rw (c.read-none.ensures, c.no_tile-tile.ensures)
 
 pub wrong_spec : {M : Type 1} → statement M
-wrong_spec = tie.close (tie.spec (search rules) (search rules) (search rules) returns)
+wrong_spec = tie.close (tie.spec (λ c κs. search rules) (λ c κs. search rules) returns)

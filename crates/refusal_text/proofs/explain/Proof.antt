@@ -12,4 +12,4 @@ returns c =
     puts_short (explain_short _ _ _ _) (rw p.met.ensures at p.put_sentence.ensures)
 
 pub explain_spec : {M : Type 1} → statement M
-explain_spec = tie.close (tie.spec (search rules) (search rules) (search rules) (search rules) returns)
+explain_spec = tie.close (tie.spec (λ c κs. search rules) (λ c κs. search rules) (λ c. search rules) returns)

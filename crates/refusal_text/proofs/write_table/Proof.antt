@@ -11,4 +11,4 @@ unfolding table
 returns c = puts_most (omega arith) c.before.before.put_all_lem.ensures
 
 pub write_table_spec : {M : Type 1} → statement M
-write_table_spec = tie.close (tie.spec (search rules) (search rules) (search rules) returns)
+write_table_spec = tie.close (tie.spec (λ c κs. search rules) (λ c. search rules) returns)

@@ -16,4 +16,4 @@ returns c =
     puts_most (omega arith) (puts_join (puts_join (puts_join first.put_all_lem.ensures less.put_less-j.ensures) rates.put_rates-k.ensures) last.put_all.ensures)
 
 pub put_angle_spec : {M : Type 1} → statement M
-put_angle_spec = tie.close (tie.spec (search rules) (search rules) (search rules) (search rules) (search rules) (search rules) (search rules) returns)
+put_angle_spec = tie.close (tie.spec (λ c κs. search rules) (λ c κs. search rules) (λ c κs. search rules) (λ c κs. search rules) (λ c. search rules) returns)

@@ -7,7 +7,7 @@ use borrow.Author.Rules.{rules}
 use Rattle.region_text.proofs.put_forced.Statement.{statement}
 use Rattle.region_text.proofs.put_forced.Tie as tie
 
-put-choice-requires : tie.Need-shape_of-out
+put-choice-requires : tie.Need-put_choice-k-requires
 put-choice-requires c κs = let s = c.before.before.before.before.before.before.before.before.before.before.before.before in (search rules, rw (to_z-of_z s.ranges.u) s.requires)
 
 returns : tie.Need-returns
@@ -23,4 +23,4 @@ returns c =
 pub put_forced_spec : {M : Type 1} → statement M
 put_forced_spec =
     tie.close
-    (tie.spec (search rules) (search rules) (search rules) (search rules) put-choice-requires (search rules) (search rules) (search rules) returns)
+    (tie.spec (λ c κs. search rules) (λ c κs. search rules) put-choice-requires (λ c κs. search rules) (λ c. search rules) returns)

@@ -7,7 +7,7 @@ use borrow.Author.Rules.{rules}
 use Rattle.region_text.proofs.put_with.Statement.{statement}
 use Rattle.region_text.proofs.put_with.Tie as tie
 
-put-choice-requires : tie.Need-put_all-requires
+put-choice-requires : tie.Need-put_choice-j-requires
 put-choice-requires c κs = let s = c.before.before.before.before.before.before.before in (search rules, rw (to_z-of_z s.ranges.d) s.requires)
 
 returns : tie.Need-returns
@@ -20,4 +20,4 @@ returns c =
     puts_most (omega arith) (puts_join (puts_join first.put_all_lem.ensures (rw (to_z-of_z s.ranges.d) at choice.put_choice-j.ensures)) last.put_all.ensures)
 
 pub put_with_spec : {M : Type 1} → statement M
-put_with_spec = tie.close (tie.spec (search rules) (search rules) put-choice-requires (search rules) (search rules) (search rules) returns)
+put_with_spec = tie.close (tie.spec (λ c κs. search rules) put-choice-requires (λ c κs. search rules) (λ c. search rules) returns)

@@ -16,4 +16,4 @@ returns c =
     rw (← table.region-t.ensures) (puts_most (omega arith) (puts_join (puts_join first.put_all_lem.ensures lines.put_angles-j.ensures) last.put_all.ensures))
 
 pub write_region_spec : {M : Type 1} → statement M
-write_region_spec = tie.close (tie.spec (search rules) (search rules) (search rules) (search rules) (search rules) (search rules) (search rules) returns)
+write_region_spec = tie.close (tie.spec (λ c κs. search rules) (λ c κs. search rules) (λ c κs. search rules) (λ c κs. search rules) (λ c. search rules) returns)

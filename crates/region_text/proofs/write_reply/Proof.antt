@@ -13,36 +13,35 @@ put-with-requires c κs =
     let d = known.before in
     rw (to_z-of_z {w = w64} (record { sfits = known.in-With.known_told-1-own.given.0.1 })) (reply_small d.in-With.x (rw d.in-With.is at d.reply-d.ensures.1).lawful)
 
-returns : tie.Need-shape_of-out-in-Without
+returns : tie.Need-returns-in-With
 returns c =
     let put = c.before.before in
     let known = put.before.before in
     let d = known.before in
-    let replied = d.before.before in
+    let replied = d.before in
     let s = replied.before.before.before in
     let e = rw (to_z-of_z s.ranges.angle, to_z-of_z s.ranges.rate, to_z-of_z s.ranges.choice) at replied.reply-d.ensures.0 in
-    rw (← e, d.d.given.1) (prints_given _ (omega arith) (rw (to_z-of_z {w = w64} (record { sfits = known.known-told.given.0.1 })) at put.put_with-with.ensures))
+    rw (← e, d.in-With.is) (prints_given _ (omega arith) (rw (to_z-of_z {w = w64} (record { sfits = known.in-With.known_told-1-own.given.0.1 })) at put.put_with-with.ensures))
 
-returns_2 : tie.Need-shape_of-out-in-Outside
+returns_2 : tie.Need-returns-in-Without
 returns_2 c =
     let put = c.before.before in
     let none = put.before.before.before in
     let replied = none.before.before in
-    let s = replied.before.before in
+    let s = replied.before.before.before in
     let e = rw (to_z-of_z s.ranges.angle, to_z-of_z s.ranges.rate, to_z-of_z s.ranges.choice) at replied.reply-d.ensures.0 in
-    rw (← e, none.enum_told.given.1) (prints_given _ (omega arith) put.put_all_lem.ensures)
+    rw (← e, none.in-Without.is) (prints_given _ (omega arith) put.put_all_lem.ensures)
 
 returns_3 : tie.Need-returns-in-Outside
 returns_3 c =
     let refused = c.before.before.before.before in
     let outside = refused.before.before.before in
-    let replied = outside.before.before in
+    let replied = outside.before in
     let s = replied.before.before.before in
     let e = rw (to_z-of_z s.ranges.angle, to_z-of_z s.ranges.rate, to_z-of_z s.ranges.choice) at replied.reply-d.ensures.0 in
-    rw (← e, outside.enum-told2.given.1) refused.refuse.ensures
+    rw (← e, outside.in-Outside.is) refused.refuse.ensures
 
 pub write_reply_spec : {M : Type 1} → statement M
 write_reply_spec =
     tie.close
-    (tie.spec (search rules) (search rules) put-with-requires (search rules) (search rules) (search rules) (search rules) (search rules)
-    (search rules) returns (search rules) returns_2 (search rules) (search rules) returns_3)
+    (tie.spec (λ c κs. search rules) (λ c. search rules) put-with-requires (λ c. search rules) (λ c κs. search rules) (λ c. search rules) (λ c κs. search rules) (λ c. search rules) returns (λ c. search rules) returns_2 (λ c. search rules) (λ c. search rules) returns_3)

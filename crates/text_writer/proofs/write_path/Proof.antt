@@ -28,5 +28,4 @@ returns_3 c =
 pub write_path_spec : {M : Type 1} → statement M
 write_path_spec =
     tie.close
-    (tie.spec returns returns_2 (search rules) (search rules) (search rules) (search rules) (search rules) (search rules) (search rules)
-    (search rules) returns_3)
+    (tie.spec returns returns_2 (λ c. search rules) (λ c κs. search rules) (λ c. search rules) (λ c κs. search rules) (λ c κs. search rules) (λ c κs. search rules) (λ c. search rules) returns_3)

@@ -22,4 +22,4 @@ returns c =
     puts_most (omega arith) (puts_pieces (head ++ from) to (puts_pieces head from begun.put_all_lem.ensures first.put_quat-j.ensures) second.put_quat.ensures)
 
 pub put_attitudes_spec : {M : Type 1} → statement M
-put_attitudes_spec = tie.close (tie.spec (search rules) (search rules) (search rules) (search rules) (search rules) (search rules) (search rules) returns)
+put_attitudes_spec = tie.close (tie.spec (λ c κs. search rules) (λ c κs. search rules) (λ c κs. search rules) (λ c. search rules) returns)

@@ -7,9 +7,9 @@ use borrow.Author.Rules.{rules}
 use Rattle.canonical.proofs.writing.put_limit.Statement.{statement}
 use Rattle.canonical.proofs.writing.put_limit.Tie as tie
 
-returns : tie.Need-shape_of-b-in-At
+returns : tie.Need-returns-in-Nothing
 returns c =
-    let enum_told = c.before.before.before.before.before.enum_told in
+    let enum_told = c.enum_told-1 in
     rw enum_told.given.1 (puts_most (omega arith) (puts_piece non c.before.before.put_all_lem.ensures))
 
 returns_2 : tie.Need-returns-in-At
@@ -19,4 +19,4 @@ returns_2 c =
     rw at-limit.limit.given.1 (puts_piece (num at-limit.limit.given.0.0) at-put-word.put_word.ensures)
 
 pub put_limit_spec : {M : Type 1} → statement M
-put_limit_spec = tie.close (tie.spec (search rules) (search rules) (search rules) (search rules) (search rules) (search rules) returns (search rules) returns_2)
+put_limit_spec = tie.close (tie.spec (λ c. search rules) (λ c κs. search rules) (λ c. search rules) (λ c κs. search rules) (λ c. search rules) returns (λ c. search rules) returns_2)

@@ -23,4 +23,4 @@ returns c =
     (puts_piece tail last.put_all.ensures))
 
 pub put_slew_spec : {M : Type 1} → statement M
-put_slew_spec = tie.close (tie.spec (search rules) (search rules) (search rules) (search rules) (search rules) (search rules) returns)
+put_slew_spec = tie.close (tie.spec (λ c κs. search rules) (λ c κs. search rules) (λ c κs. search rules) (λ c. search rules) returns)

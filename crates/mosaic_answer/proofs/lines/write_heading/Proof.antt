@@ -12,4 +12,4 @@ returns c =
     puts_join end.put_counted-i.ensures end.put_all_lem.ensures
 
 pub write_heading_spec : {M : Type 1} → statement M
-write_heading_spec = tie.close (tie.spec (search rules) (search rules) (search rules) (search rules) (search rules) returns)
+write_heading_spec = tie.close (tie.spec (λ c κs. search rules) (λ c κs. search rules) (λ c. search rules) returns)

@@ -6,10 +6,10 @@ use Rattle.mosaic_text.specs.TileLines.{next_line}
 use Rattle.mosaic_text.proofs.tiles.next_line.Statement.{statement}
 use Rattle.mosaic_text.proofs.tiles.next_line.Tie as tie
 
-after-end : tie.Need-closed-requires
+after-end : tie.Need-overflow-add-closed
 after-end c = omega (arith, c.is_at.ensures.within c.if-is_at.true)
 
-returns : tie.Need-line_at-row-requires
+returns : tie.Need-returns-then-is_at
 unfolding next_line
 returns c =
     let t = c.before in
@@ -25,4 +25,4 @@ returns_2 c =
 pub next_line_spec : {M : Type 1} → statement M
 next_line_spec =
     tie.close
-    (tie.spec (search rules) (search rules) after-end (search rules) returns (search rules) (search rules) (search rules) (search rules) returns_2)
+    (tie.spec (λ c κs. search rules) (λ c. search rules) (λ c κs. search rules) returns (λ c κs. search rules) (λ c κs. search rules) returns_2)

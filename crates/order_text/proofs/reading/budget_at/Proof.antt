@@ -7,17 +7,17 @@ use Rattle.order_text.specs.TileTextLaws.{budget_none, budget_wrong, budget_unen
 use Rattle.order_text.proofs.reading.budget_at.Statement.{statement}
 use Rattle.order_text.proofs.reading.budget_at.Tie as tie
 
-returns : tie.Need-word_at-w-requires
-returns c = let t = c.before in budget_none _ (sym t.is_at.ensures.is ∙ not-true _ c.if-not-is_at.true) c.wrong_word.ensures
+returns : tie.Need-returns-then-not-is_at
+returns c = let t = c.before in budget_none _ (sym t.is_at.ensures.is ∙ not-true _ t.if-not-is_at.true) c.wrong_word.ensures
 
-returns_2 : tie.Need-is_at-requires-2
+returns_2 : tie.Need-returns-then-not-w
 returns_2 c =
     let t = c.before in
     let w = t.before.before in
     let e = w.before in
     budget_wrong _ (sym e.is_at.ensures.is ∙ not-false _ e.if-not-is_at.false) w.word_at-w.ensures (not-true _ t.if-not-w.true) c.wrong_word-then-not-w.ensures
 
-returns_3 : tie.Need-returns
+returns_3 : tie.Need-returns-then-not-is_at-2
 returns_3 c =
     let t = c.before in
     let a = t.before in
@@ -25,7 +25,7 @@ returns_3 c =
     let w = o.before.before in
     let e = w.before in
     budget_unended _ (sym e.is_at.ensures.is ∙ not-false _ e.if-not-is_at.false) w.word_at-w.ensures (not-false _ o.if-not-w.false)
-    (sym c.is_at-2.ensures.is ∙ not-true _ c.if-not-is_at-2.true) c.wrong_word-then-not-is_at-2.ensures
+    (sym a.is_at-2.ensures.is ∙ not-true _ t.if-not-is_at-2.true) c.wrong_word-then-not-is_at-2.ensures
 
 returns-4 : tie.Need-returns
 returns-4 c =
@@ -39,6 +39,4 @@ returns-4 c =
 pub budget_at_spec : {M : Type 1} → statement M
 budget_at_spec =
     tie.close
-    (tie.spec (search rules) (search rules) (search rules) returns
-    (λ c κs. omega (arith, c.is_at.ensures.within (not-false _ c.if-not-is_at.false))) (search rules) returns_2 (search rules) (search rules)
-    (search rules) returns_3 (λ c. let a = c.before in omega (arith, a.is_at-2.ensures.within (not-false _ c.if-not-is_at-2.false))) returns-4)
+    (tie.spec (λ c κs. search rules) (λ c κs. search rules) returns (λ c κs. search rules) (λ c κs. search rules) returns_2 (λ c κs. search rules) (λ c κs. search rules) returns_3 (λ c. search rules) returns-4)

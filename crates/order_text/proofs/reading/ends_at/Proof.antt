@@ -3,11 +3,11 @@ use borrow.Author.Rules.{rules}
 use Rattle.order_text.proofs.reading.ends_at.Statement.{statement}
 use Rattle.order_text.proofs.reading.ends_at.Tie as tie
 
-returns : tie.Need-is_at-requires-2
+returns : tie.Need-returns-then-last
 returns c = rw c.if-last.true c.is_at.ensures
 
 returns_2 : tie.Need-returns
 returns_2 c = rw c.if-last.false c.is_at-2.ensures
 
 pub ends_at_spec : {M : Type 1} → statement M
-ends_at_spec = tie.close (tie.spec (search rules) (search rules) returns (search rules) (search rules) returns_2)
+ends_at_spec = tie.close (tie.spec (λ c κs. search rules) returns (λ c κs. search rules) returns_2)

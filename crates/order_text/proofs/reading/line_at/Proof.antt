@@ -9,16 +9,16 @@ use Rattle.order_text.specs.TileTextLaws.{line_none, line_wrong, line_unended, l
 use Rattle.order_text.proofs.reading.line_at.Statement.{statement}
 use Rattle.order_text.proofs.reading.line_at.Tie as tie
 
-returns : tie.Need-overflow_add-at
+returns : tie.Need-returns-then-not-is_at
 returns c = line_none _ _ _ _ _ _ (sym c.is_at.ensures.is ∙ not-true _ c.if-not-is_at.true)
 
-returns_2 : tie.Need-ends_at-requires
+returns_2 : tie.Need-returns-then-not-c
 returns_2 c =
     let r = c.before.before.before in
     let e = r.before in
     line_wrong _ _ _ _ _ _ (sym e.is_at.ensures.is ∙ not-false _ e.if-not-is_at.false) r.row_at-c.ensures (not-true _ c.if-not-c.true)
 
-returns_3 : tie.Need-tail_length-requires
+returns_3 : tie.Need-returns-then-not-ends_at
 returns_3 c =
     let a = c.before in
     let o = a.before in
@@ -45,6 +45,4 @@ returns-4 c =
 pub line_at_spec : {M : Type 1} → statement M
 line_at_spec =
     tie.close
-    (tie.spec (search rules) (search rules) returns (λ c. omega (arith, c.is_at.ensures.within (not-false _ c.if-not-is_at.false)))
-    (λ c κs. let b = c.before.before.before.before in (c.is_at.ensures.within (not-false _ c.if-not-is_at.false), b.requires.0, b.requires.1))
-    returns_2 (search rules) returns_3 (search rules) (λ c. omega (arith, inside c)) returns-4)
+    (tie.spec (λ c κs. search rules) returns (λ c. search rules) (λ c κs. search rules) returns_2 (λ c κs. search rules) returns_3 (λ c κs. search rules) (λ c. search rules) returns-4)

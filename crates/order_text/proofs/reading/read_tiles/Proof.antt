@@ -10,19 +10,19 @@ use Rattle.order_text.proofs.reading.read_tiles.Tie as tie
 returns : tie.Need-returns-then-s-gt4096
 returns c = c.refused.ensures ∙ text_long _ c.if-s-gt4096.true
 
-returns_2 : tie.Need-budget_at-w-requires
+returns_2 : tie.Need-returns-then-not-is_at
 returns_2 c =
     let t = c.before in
     let i = t.before in
-    c.refused-then-not-is_at.ensures ∙ text_headless _ i.if-s-gt4096.false (sym c.is_at.ensures.is ∙ not-true _ c.if-not-is_at.true)
+    c.refused-then-not-is_at.ensures ∙ text_headless _ i.if-s-gt4096.false (sym i.is_at.ensures.is ∙ not-true _ t.if-not-is_at.true)
 
-returns_3 : tie.Need-rows_of-requires
+returns_3 : tie.Need-returns-then-not-w
 returns_3 c =
     let t = c.before in
     let w = t.before.before in
     let e = w.before in
     let i = e.before in
-    c.refused-then-not-w.ensures ∙ text_budgetless _ i.if-s-gt4096.false (sym c.is_at.ensures.is ∙ not-false _ c.if-not-is_at.false) c.budget_at-w.ensures.0 (not-true _ c.if-not-w.true)
+    c.refused-then-not-w.ensures ∙ text_budgetless _ i.if-s-gt4096.false (sym i.is_at.ensures.is ∙ not-false _ e.if-not-is_at.false) w.budget_at-w.ensures.0 (not-true _ t.if-not-w.true)
 
 returns-4 : tie.Need-returns
 returns-4 c =
@@ -35,5 +35,4 @@ returns-4 c =
 pub read_tiles_spec : {M : Type 1} → statement M
 read_tiles_spec =
     tie.close
-    (tie.spec (search rules) returns (search rules) (search rules) (search rules) returns_2 (search rules) (search rules) returns_3
-    (λ c κs. let w = c.before.before in (w.budget_at-w.ensures.1, omega (arith, w.if-s-gt4096.false))) returns-4)
+    (tie.spec (λ c κs. search rules) returns (λ c κs. search rules) (λ c κs. search rules) returns_2 (λ c κs. search rules) (λ c κs. search rules) returns_3 (λ c κs. search rules) returns-4)

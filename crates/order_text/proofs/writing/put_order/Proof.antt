@@ -11,4 +11,4 @@ returns c =
     puts_most (omega arith) (puts_join put_all_lem.ensures c.put_tiles.ensures)
 
 pub put_order_spec : {M : Type 1} → statement M
-put_order_spec = tie.close (tie.spec (search rules) (search rules) (search rules) (search rules) returns)
+put_order_spec = tie.close (tie.spec (λ c κs. search rules) (λ c κs. search rules) (λ c. search rules) returns)

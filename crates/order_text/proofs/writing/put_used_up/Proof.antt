@@ -5,7 +5,7 @@ use Rattle.text_writer.specs.PutLaws.{puts_most}
 use Rattle.order_text.proofs.writing.put_used_up.Statement.{statement}
 use Rattle.order_text.proofs.writing.put_used_up.Tie as tie
 
-returns : tie.Need-put_all-requires-2
+returns : tie.Need-returns-then-exhausted
 returns c =
     let if1 = c.if-exhausted in
     rw if1.true (puts_most (omega arith) c.before.before.put_all_lem.ensures)
@@ -16,4 +16,4 @@ returns_2 c =
     rw if1.false (puts_most (omega arith) c.put_all-2.ensures)
 
 pub put_used_up_spec : {M : Type 1} → statement M
-put_used_up_spec = tie.close (tie.spec (search rules) (search rules) (search rules) returns (search rules) (search rules) (search rules) returns_2)
+put_used_up_spec = tie.close (tie.spec (λ c κs. search rules) (λ c. search rules) returns (λ c κs. search rules) (λ c. search rules) returns_2)

@@ -27,5 +27,4 @@ returns_2 c =
 pub write_ordered_spec : {M : Type 1} → statement M
 write_ordered_spec =
     tie.close
-    (tie.spec returns (search rules) (search rules) (search rules) (search rules) (search rules) (search rules) (search rules) (search rules)
-    (search rules) (search rules) (search rules) returns_2)
+    (tie.spec returns (λ c κs. search rules) (λ c κs. search rules) (λ c κs. search rules) (λ c κs. search rules) (λ c κs. search rules) (λ c κs. search rules) (λ c. search rules) returns_2)

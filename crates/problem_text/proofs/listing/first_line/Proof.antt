@@ -7,13 +7,13 @@ use native.Mathlib.Omega.{arith}
 use Rattle.problem_text.proofs.listing.first_line.Statement.{statement}
 use Rattle.problem_text.proofs.listing.first_line.Tie as tie
 
-returns : tie.Need-overflow_add-at
+returns : tie.Need-returns-then-not-is_at
 unfolding first_line
 returns c =
     let no-actuators = c.no_actuators-none in
     simp (unmet c.is_at.ensures.is c.if-not-is_at.true) (rw no-actuators.ensures at c.wrong_line.ensures)
 
-add-close-at : tie.Need-close_at-requires
+add-close-at : tie.Need-overflow-add-close-at
 add-close-at c = omega (arith, c.is_at.ensures.within (not-false _ c.if-not-is_at.false))
 
 returns_2 : tie.Need-returns
@@ -23,4 +23,4 @@ returns_2 c =
     simp (met c.is_at.ensures.is c.if-not-is_at.false) (rw no-actuators.ensures at c.close_at.ensures)
 
 pub first_line_spec : {M : Type 1} → statement M
-first_line_spec = tie.close (tie.spec (search rules) (search rules) (search rules) (search rules) returns add-close-at (search rules) returns_2)
+first_line_spec = tie.close (tie.spec (λ c κs. search rules) (λ c κs. search rules) (λ c κs. search rules) returns (λ c. search rules) (λ c κs. search rules) returns_2)

@@ -4,11 +4,11 @@ use borrow.Author.Rules.{rules}
 use Rattle.problem_text.proofs.listing.item_at.Statement.{statement}
 use Rattle.problem_text.proofs.listing.item_at.Tie as tie
 
-returns : tie.Need-returns-then-thruster
+returns : tie.Need-returns-then-wheel
 unfolding item_at
 returns c = simp (← c.before.line_at_lem.ensures, c.if-wheel.true)
 
-returns_2 : tie.Need-returns
+returns_2 : tie.Need-returns-then-thruster
 unfolding item_at
 returns_2 c = let none = c.before.before.before.before in simp (← none.before.line_at_lem.ensures, none.if-wheel.false, ← c.line_at-thruster.ensures, c.if-thruster.true)
 
@@ -30,5 +30,4 @@ returns-4 c =
 pub item_at_spec : {M : Type 1} → statement M
 item_at_spec =
     tie.close
-    (tie.spec (search rules) (search rules) (search rules) returns (search rules) (search rules) (search rules) returns_2 (search rules)
-    (search rules) (search rules) returns_3 (search rules) returns-4)
+    (tie.spec (λ c κs. search rules) returns (λ c κs. search rules) returns_2 (λ c κs. search rules) returns_3 (λ c κs. search rules) returns-4)

@@ -16,19 +16,19 @@ returns c = c.wrong_row.ensures ∙ sym (none_blank _ _ (λ h. c.if-byte-ne32.tr
 blank : (c : tie.Else-byte-ne32) → let start = c.args in start.r.at < length start.s.now
 blank c = let start = c.args in blank_within start.s.now start.r.at (sym c.byte.ensures ∙ c.if-byte-ne32.false)
 
-after-blank : tie.Need-overflow_add-i
+after-blank : tie.Need-overflow-add-past-blanks
 after-blank c = omega (arith, blank c)
 
 past-blanks-requires : tie.Need-past_blanks-word-requires
 past-blanks-requires c κs = omega (arith, blank c)
 
-returns_2 : tie.Need-overflow_add-result
+returns_2 : tie.Need-returns-then-not-is_at
 returns_2 c =
     let word = c.before.before.before.before in
     let blank = word.before in
     c.wrong_row-then-not-is_at.ensures ∙ sym (none_word _ _ _ (sym blank.byte.ensures ∙ blank.if-byte-ne32.false) word.past_blanks-word.ensures.is (unmet c.is_at.ensures.is c.if-not-is_at.true))
 
-after_none : tie.Need-returns
+after_none : tie.Need-overflow-add-t9
 after_none c = omega (arith, c.is_at.ensures.within (not-false _ c.if-not-is_at.false))
 
 returns_3 : tie.Need-returns
@@ -40,5 +40,4 @@ returns_3 c =
 pub without_limit_spec : {M : Type 1} → statement M
 without_limit_spec =
     tie.close
-    (tie.spec (search rules) (search rules) returns after-blank past-blanks-requires (search rules) (search rules) (search rules) returns_2 after_none
-    returns_3)
+    (tie.spec (λ c κs. search rules) (λ c κs. search rules) returns (λ c. search rules) past-blanks-requires (λ c κs. search rules) (λ c κs. search rules) returns_2 (λ c. search rules) returns_3)

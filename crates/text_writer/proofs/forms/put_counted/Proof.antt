@@ -15,4 +15,4 @@ returns c =
     puts_most (omega arith) (puts_join (puts_join at-put-all.put_all_lem.ensures at-put-digits.put_digits-j.ensures) at-put-all2.put_all.ensures)
 
 pub put_counted_spec : {M : Type 1} → statement M
-put_counted_spec = tie.close (tie.spec (search rules) (search rules) (search rules) (search rules) (search rules) returns)
+put_counted_spec = tie.close (tie.spec (λ c κs. search rules) (λ c κs. search rules) (λ c κs. search rules) (λ c. search rules) returns)

@@ -14,4 +14,4 @@ returns c =
     puts_join (puts_join at-put-all.put_all_lem.ensures at-put-word.put_word-j.ensures) at-put-all2.put_all.ensures
 
 pub put_duration_spec : {M : Type 1} → statement M
-put_duration_spec = tie.close (tie.spec (search rules) (search rules) (search rules) (search rules) (search rules) (search rules) returns)
+put_duration_spec = tie.close (tie.spec (λ c κs. search rules) (λ c κs. search rules) (λ c κs. search rules) (λ c. search rules) returns)

@@ -17,4 +17,4 @@ returns c =
     puts_join (puts_join (puts_join at-put-all.put_all_lem.ensures at-put-words.put_words-j.ensures) at-put-words2.put_words-k.ensures) at-put-all2.put_all.ensures)
 
 pub put_node_line_spec : {M : Type 1} → statement M
-put_node_line_spec = tie.close (tie.spec (search rules) (search rules) (search rules) (search rules) (search rules) (search rules) (search rules) returns)
+put_node_line_spec = tie.close (tie.spec (λ c κs. search rules) (λ c κs. search rules) (λ c κs. search rules) (λ c κs. search rules) (λ c. search rules) returns)
