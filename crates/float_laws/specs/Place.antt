@@ -49,6 +49,7 @@ whole_units (pos j) l h = (2 ^ l, sym (mul-one (2 ^ l)))
 whole_units (negsuc j) l h = (2 ^ (l - suc j), ap (λ (x : ℕ). 2 ^ x) (sym (back l (suc j) (pow_back (suc j) l h))) ∙ pow-add 2 (l - suc j) (suc j))
 
 one_down : (u d : ℕ) → 0 < u → u * d ≡ 1 → d ≤ 1
+one_down zero (suc (suc d)) p h = elim p [ ]
 one_down u zero p h = omega arith
 one_down u (suc zero) p h = le_refl 1
 one_down (suc u) (suc (suc d)) p h = omega arith

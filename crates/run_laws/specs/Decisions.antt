@@ -1,5 +1,4 @@
 -- A projected decision: each of its controls is clamped to its limit, and f64 holds it. Assumes nothing.
-use denote.Slice.{shr_slice_at}
 use Rattle.std.specs.Prelude.{◌≡◌, Bool, ◌&&◌, List, [], ◌∷◌, ◌++◌, ℕ, zero, suc, ◌+◌, ◌-◌, ◌*◌, ◌<◌, ◌≤◌, T, ltb, set, length, take, drop, Float}
 use Rattle.std.proofs.Math.Path.{refl}
 use Rattle.std.proofs.Common.{sym, ap, ◌∙◌, suc-mul, le→leb, ltb→lt, nltb→le, length-append, length-drop, length-set, length-take-le, get_or-append-add, get_or-take, get_or-drop, get_or-set_same, get_or-set_other}
@@ -26,7 +25,7 @@ use Rattle.controls.specs.Controls as Controls
 use Rattle.controls.specs.Controls.{project_controls}
 use Rattle.controls.specs.Controls.{rig_of}
 use Rattle.forward.specs.Decisions.{row_of, shortest, longest, project_turn, project_decision}
-use Rattle.run_laws.specs.Torques.{at-slice}
+use Rattle.run_laws.specs.Torques.{at_slice}
 use Rattle.run_laws.specs.Prepared.{MapOk}
 use Rattle.run_laws.specs.Bounds.{row_limit_law, projected_at, projected_length}
 
@@ -143,9 +142,9 @@ module _ (m : ActuatorMap) (M : MapOk m) (box : List Float) (L : (i : ℕ) → i
       before = paste_low l p a c room lp 0 (omega arith) ∙ D.before;
       after = λ j q. let s = suc-mul k c in paste_high l p a c room lp j (omega arith) ∙ D.after j (omega arith);
       rows = below_next (λ n. (i : ℕ) → i < c → at l2 (1 + n * c + i) ≡ held i (at z (1 + n * c + i))) k
-          (λ i q. paste_mid l p a c room lp i q ∙ (row_at u lu i q ∙ ap (held i) (shr_slice_at a (a + c) l i (omega arith) ∙ D.after (a + i) (omega arith))))
+          (λ i q. paste_mid l p a c room lp i q ∙ (row_at u lu i q ∙ ap (held i) (at_slice a (a + c) l i (omega arith) ∙ D.after (a + i) (omega arith))))
           (λ n q i r. let s = row_end n k c q in paste_low l p a c room lp (1 + n * c + i) (omega arith) ∙ D.rows n q i r);
-      fit = λ F. paste_all l p a c room lp (λ x. T (fits binary64 x)) (D.fit F) (λ i q. rw (row_at u lu i q) (held_fits i q (at u i) (rw (shr_slice_at a (a + c) l i (omega arith)) (D.fit F (a + i)))));
+      fit = λ F. paste_all l p a c room lp (λ x. T (fits binary64 x)) (D.fit F) (λ i q. rw (row_at u lu i q) (held_fits i q (at u i) (rw (at_slice a (a + c) l i (omega arith)) (D.fit F (a + i)))));
     }
       where
         a : ℕ

@@ -1,5 +1,4 @@
 -- A forward run with nodes of a problem and a decision, as `reconstruct` gives it. Assumes nothing.
-use denote.Slice.{shr_slice_at}
 use Rattle.std.specs.Prelude.{◌≡◌, refl, Bool, true, false, cond, List, ℕ, ◌+◌, ◌-◌, ◌*◌, ◌<◌, T, ltb, get_or, Float}
 use Rattle.std.proofs.Common.{ap, arith}
 use Rattle.std.specs.Float.{binary64}
@@ -24,7 +23,7 @@ use Rattle.forward.specs.Reconstruct.{admit, reconstruct_by, reconstruct_under, 
 use Rattle.forward.specs.declared.Node.{Node}
 use Rattle.forward.specs.declared.Run.{Run}
 use Rattle.run_laws.specs.Values.{goes, Fine3}
-use Rattle.run_laws.specs.Torques.{at-slice}
+use Rattle.run_laws.specs.Torques.{at_slice}
 use Rattle.run_laws.specs.Runs.{StateOk, NodeOk, start_ok, Flown, run_flown}
 use Rattle.run_laws.specs.Defects.{grounded}
 use Rattle.run_laws.specs.Times.{time_finite}
@@ -62,7 +61,7 @@ dim_width m i h = go (is_sized m) h
         no h = omega arith
 
 at_row : (c : ℕ) (z : List Float) (k i : ℕ) → i < c → at (row_of c z k) i ≡ control c z k i
-at_row c z k i h = shr_slice_at (1 + k * c) (1 + k * c + c) z i (under (1 + k * c) c i h)
+at_row c z k i h = at_slice (1 + k * c) (1 + k * c + c) z i (under (1 + k * c) c i h)
   where
     under : (a c i : ℕ) → i < c → i < a + c - a
     under a c i h = omega arith

@@ -1,5 +1,4 @@
 -- A run with nodes: by induction over its steps, every state, node and row of controls is as the promises need it. Assumes nothing.
-use denote.Slice.{shr_slice_at}
 use Rattle.std.specs.Prelude.{◌≡◌, get_or, set, length, take, drop, replicate, pos}
 use Rattle.std.proofs.Math.Path.{refl, sym, ap}
 use Rattle.std.proofs.Common.{◌∙◌, get_or-set_same, get_or-set_other, get_or-drop}
@@ -36,7 +35,7 @@ use Rattle.forward.specs.declared.Node.{Node}
 use Rattle.forward.specs.declared.Run.{Run}
 use Rattle.run_laws.specs.Values.{goes, Fine3, Fit3, FineN, FitN, HeldN, WithinQ}
 use Rattle.run_laws.specs.Attitudes.{normed_in, product_fits}
-use Rattle.run_laws.specs.Torques.{at-slice, axes_back, row_back, row_fits, wheel_control, momenta_length, momenta_at_law, momenta_after_law}
+use Rattle.run_laws.specs.Torques.{at_slice, axes_back, row_back, row_fits, wheel_control, momenta_length, momenta_at_law, momenta_after_law}
 use Rattle.run_laws.specs.Steps.{Once, step_goes}
 use Rattle.run_laws.specs.Defects.{grounded, max_grounded}
 
@@ -113,7 +112,7 @@ module _ (b : Body) (u : List Float) (s : BodyState) (g : Stepped) (B : Below1 b
   unfolding wheel_momenta_value
   momenta_held i h =
       let e = momenta_at_law nw s.hw (slice 0 nw u) b.frame.dt S.long i h in
-      let f : at (slice 0 nw u) i ≡ at u i = shr_slice_at 0 nw u i (omega arith) ∙ ap (λ (k : ℕ). at u k) (omega arith) in
+      let f : at (slice 0 nw u) i ≡ at u i = at_slice 0 nw u i (omega arith) ∙ ap (λ (k : ℕ). at u k) (omega arith) in
       let c : T (finite (at (slice 0 nw u) i)) = rw f (row_fine i (wheel_control b.rig (gimbals b.rig.cmgs) i h)) in
       rw e (held (add-fits binary64 _ _) (add_number binary64 (at s.hw i) (mul binary64 (at (slice 0 nw u) i) b.frame.dt) (S.tie O.h.0 i h) (mul_number binary64 (at (slice 0 nw u) i) b.frame.dt c O.dt)))
 

@@ -1,5 +1,4 @@
 -- Torques and momenta of a control row: a finite torque comes of finite controls, and the wheels' momenta after a step are each wheel's own sum. Assumes nothing.
-use denote.Slice.{shr_slice_at}
 use Rattle.std.specs.Prelude.{◌≡◌, Bool, not, cond, ◌&&◌, List, [], ◌∷◌, eqb, ltb, length, take, drop, Float}
 use Rattle.std.proofs.Math.Path.{refl, ap}
 use Rattle.std.proofs.Common.{sym, ◌∙◌, arith, eqb→eq, ltb→lt, nltb→le, length-drop, get_or-set_same, get_or-take, get_or-drop}
@@ -27,8 +26,8 @@ use Rattle.control_rows.specs.declared.WheelLaw.TheVariants.{Once, Published}
 use Rattle.run_laws.specs.Values.{Fine3, Fit3, FineN, FitN}
 
 -- ---- numbers of a part of a row
-pub shr_slice_at : (a e : ℕ) (u : List Float) (i : ℕ) → i < e - a → at (slice a e u) i ≡ at u (a + i)
-shr_slice_at a e u i h = get_or-take (e - a) (drop a u) i nan h ∙ get_or-drop a u i nan
+pub at_slice : (a e : ℕ) (u : List Float) (i : ℕ) → i < e - a → at (slice a e u) i ≡ at u (a + i)
+at_slice a e u i h = get_or-take (e - a) (drop a u) i nan h ∙ get_or-drop a u i nan
 
 -- the same of the part up to the end, also past it
 at_rest : (a : ℕ) (u : List Float) (i : ℕ) → at (slice a (length u) u) i ≡ at u (a + i)
@@ -131,11 +130,11 @@ module _ (r : Rig) (wheels thrusters u w h a : List Float) where
       go : (b c : Bool) → (T b → i < nw) → (T (not b) → nw ≤ i) → (T c → i < nw + nt) → (T (not c) → nw + nt ≤ i) → T (finite (at u i))
       go true c p q r' s =
           let o : i < nw = p tt in
-          from (slice 0 nw u) 0 i (shr_slice_at 0 nw u i (omega arith)) (omega arith) (wheel_back r.law wheels nw (slice 0 nw u) w h zero3 (axes_start thrusters part2 after_wheels nt g.0) i o)
+          from (slice 0 nw u) 0 i (at_slice 0 nw u i (omega arith)) (omega arith) (wheel_back r.law wheels nw (slice 0 nw u) w h zero3 (axes_start thrusters part2 after_wheels nt g.0) i o)
       go false true p q r' s =
           let o : nw ≤ i = q tt in
           let k : i < nw + nt = r' tt in
-          from part2 nw (i - nw) (shr_slice_at nw (nw + nt) u (i - nw) (omega arith)) (omega arith) (axes_back thrusters part2 after_wheels nt g.0.0 (i - nw) (omega arith))
+          from part2 nw (i - nw) (at_slice nw (nw + nt) u (i - nw) (omega arith)) (omega arith) (axes_back thrusters part2 after_wheels nt g.0.0 (i - nw) (omega arith))
       go false false p q r' s =
           let k : nw + nt ≤ i = s tt in
           from part3 (nw + nt) (i - (nw + nt)) (at_rest (nw + nt) u (i - (nw + nt))) (omega arith) (g.1 (i - (nw + nt)) (omega arith))

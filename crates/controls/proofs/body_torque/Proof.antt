@@ -18,7 +18,7 @@ returns c =
     let after-gimbals = after-row-fits.before in
     let after-rig-of = after-gimbals.before in
     let rig = after-rig-of.rig_of-rig.ensures in
-    let e = rw (rig, after-gimbals.gimbals.ensures) at (sym after-row-fits.row_fits.ensures ∙ not-true _ c.if-not-row_fits.true) in
+    let e = rw (rig, after-gimbals.gimbals.ensures) at (sym after-row-fits.row_fits.ensures ∙ c.if-not-row_fits.true) in
     rw (c.torque_by.ensures, c.short_row.ensures, rig, e)
 
 row-torque-requires : tie.Need-row_torque-tau-requires
@@ -27,7 +27,7 @@ row-torque-requires c κs =
     let after-row-fits = branch1.before in
     let after-gimbals = after-row-fits.before in
     let after-rig-of = after-gimbals.before in
-    rw after-rig-of.rig_of-rig.ensures (row_fits_sized (rw (after-rig-of.rig_of-rig.ensures, after-gimbals.gimbals.ensures) at (sym after-row-fits.row_fits.ensures ∙ not-false _ branch1.if-not-row_fits.false)))
+    rw after-rig-of.rig_of-rig.ensures (row_fits_sized (rw (after-rig-of.rig_of-rig.ensures, after-gimbals.gimbals.ensures) at (sym after-row-fits.row_fits.ensures ∙ branch1.if-not-row_fits.false)))
 
 returns_2 : tie.Need-returns
 unfolding Controls.body_torque
@@ -37,7 +37,7 @@ returns_2 c =
     let after-row-fits = branch1.before in
     let after-gimbals = after-row-fits.before in
     let after-rig-of = after-gimbals.before in
-    let e = rw (after-rig-of.rig_of-rig.ensures, after-gimbals.gimbals.ensures) at (sym after-row-fits.row_fits.ensures ∙ not-false _ branch1.if-not-row_fits.false) in
+    let e = rw (after-rig-of.rig_of-rig.ensures, after-gimbals.gimbals.ensures) at (sym after-row-fits.row_fits.ensures ∙ branch1.if-not-row_fits.false) in
     rw (c.torque_by-2.ensures, c.row_torque-tau.ensures, after-matrix.matrix-made.ensures, after-rig-of.rig_of-rig.ensures, e)
 
 pub body_torque_spec : {M : Type 1} → statement M

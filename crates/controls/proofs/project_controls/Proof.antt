@@ -10,14 +10,14 @@ use Rattle.controls.proofs.project_controls.Tie as tie
 returns : tie.Need-returns-then-not-row_fits
 unfolding Controls.project_controls
 returns c =
-    let e = rw c.rig_of-rig.ensures at (sym c.row_fits.ensures ∙ not-true _ c.if-not-row_fits.true) in
+    let e = rw c.rig_of-rig.ensures at (sym c.row_fits.ensures ∙ c.if-not-row_fits.true) in
     rw e
 
 project-row-requires : tie.Need-project_row-requires
 project-row-requires c κs =
     let branch1 = c.before.before.before.before.before in
     let after-row-fits = branch1.before in
-    row_fits_sized (sym after-row-fits.row_fits.ensures ∙ not-false _ branch1.if-not-row_fits.false)
+    row_fits_sized (sym after-row-fits.row_fits.ensures ∙ branch1.if-not-row_fits.false)
 
 returns_2 : tie.Need-returns
 unfolding Controls.project_controls
@@ -25,7 +25,7 @@ returns_2 c =
     let branch1 = c.before.before.before.before.before.before.before.before in
     let after-row-fits = branch1.before in
     let after-rig-of = after-row-fits.before in
-    let e = rw after-rig-of.rig_of-rig.ensures at (sym after-row-fits.row_fits.ensures ∙ not-false _ branch1.if-not-row_fits.false) in
+    let e = rw after-rig-of.rig_of-rig.ensures at (sym after-row-fits.row_fits.ensures ∙ branch1.if-not-row_fits.false) in
     rw (c.project_row.ensures, after-rig-of.rig_of-rig.ensures, e)
 
 pub project_controls_spec : {M : Type 1} → statement M

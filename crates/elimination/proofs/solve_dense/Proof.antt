@@ -46,7 +46,7 @@ returns c = let a = c.args in
     let t = c.columns in
     let n : ℕ = length a.b.now in
     let m : List (List Float) = rows n n t.new.a in
-    let g : t.result ≡ false = not-true _ c.if-not-columns.true in
+    let g : t.result ≡ false = c.if-not-columns.true in
     let f : Elimination.column n (l.k + 1) (Elimination.column n l.k (Elimination.going (rows n n l.a) l.b)) ≡ Elimination.after t.result m t.new.b =
     subst (λ w. Elimination.column w (l.k + 1) (Elimination.column w l.k (Elimination.going (rows w w l.a) l.b)) ≡ Elimination.after t.result (rows w w t.new.a) t.new.b) l.invariant.6 t.ensures in
     ap Elimination.solution_of (iter_stays _ _ (l.k + 2) n (omega arith) (two_more n l.k _ _ _ _ l.invariant.7 f (ap (λ r. Elimination.after r m t.new.b) g)) (λ j. refl))
@@ -57,7 +57,7 @@ loop-again c = let a = c.args in
     let t = c.columns in
     let n : ℕ = length a.b.now in
     let m : List (List Float) = rows n n t.new.a in
-    let g : t.result ≡ true = not-false _ c.if-not-columns.false in
+    let g : t.result ≡ true = c.if-not-columns.false in
     let f : Elimination.column n (l.k + 1) (Elimination.column n l.k (Elimination.going (rows n n l.a) l.b)) ≡ Elimination.after t.result m t.new.b =
     subst (λ w. Elimination.column w (l.k + 1) (Elimination.column w l.k (Elimination.going (rows w w l.a) l.b)) ≡ Elimination.after t.result (rows w w t.new.a) t.new.b) l.invariant.6 t.ensures in (
       omega arith,

@@ -19,7 +19,7 @@ returns_2 c =
 read-parts-requires : tie.Need-read_parts-requires
 read-parts-requires c κs =
     let i = c.before in
-    (i.is_at.ensures.within (not-false _ c.if-not-is_at.false), i.if-s-gt16384.false)
+    (i.is_at.ensures.within (c.if-not-is_at.false), i.if-s-gt16384.false)
 
 returns_3 : tie.Need-returns
 unfolding read_mosaic

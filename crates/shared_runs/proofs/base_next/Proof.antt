@@ -13,7 +13,7 @@ steps-under-requires : tie.Need-steps_under-w-requires
 steps-under-requires c κs =
     let e = c.before.before in
     let pre = e.requires in
-    let k = pre.1.1.1.1 (not-false _ e.if-not-b.false) in
+    let k = pre.1.1.1.1 (e.if-not-b.false) in
     (record { sized = pre.0; narrow = pre.1.0; angles = (k.skew, pre.1.1.0); sound = k.sound }, (omega arith, omega arith))
 
 sums-next-requires : tie.Need-sums_next-sums-requires
@@ -24,7 +24,7 @@ sums-next-requires c κs =
     let start = e.before.before.before.before.before in
     let a = start.args in
     let r = c.steps_under-w.ensures in
-    let k = start.requires.1.1.1.1 (not-false _ c.if-not-b.false) in
+    let k = start.requires.1.1.1.1 (c.if-not-b.false) in
     (omega arith, (kept_same a.p a.z.now a.b a.nodes.now c.steps_under-w.new.nodes a.errors.now r.size r.below k).begins.sums)
 
 keep-error-requires : tie.Need-keep_error-known-requires
@@ -35,7 +35,7 @@ keep-error-requires c κs =
     let a = start.args in
     let r = c.steps_under-w.ensures in
     let held = start.requires.1.1.1 in
-    let k = held.1 (not-false _ c.if-not-b.false) in
+    let k = held.1 (c.if-not-b.false) in
     rw c.target_of.ensures
     (omega arith, (r.size ∙ held.0.nodes, (held.0.errors, (kept_same a.p a.z.now a.b a.nodes.now c.steps_under-w.new.nodes a.errors.now r.size r.below k).begins.kept)))
 
@@ -49,7 +49,7 @@ returns_3 c =
     let e = t.before.before.before in
     let held = e.requires.1.1.1 in
     let r = c.steps_under-w.ensures in
-    let k = held.1 (not-false _ c.if-not-b.false) in (
+    let k = held.1 (c.if-not-b.false) in (
       record { nodes = r.size ∙ held.0.nodes; errors = kept.keep_error-known.ensures.1 },
       λ h.
           let g = c.goes.ensures h in

@@ -28,7 +28,7 @@ run-on-requires : tie.Need-run_on-w-requires
 run-on-requires c κs =
     let e = c.before.before.before in
     let pre = e.requires in
-    let k = pre.1.1.1.1.1 (e.shares.ensures (not-false _ e.if-not-shares.false)).0 in
+    let k = pre.1.1.1.1.1 (e.shares.ensures (e.if-not-shares.false)).0 in
     (record { sized = pre.0; narrow = pre.1.0; angles = (k.skew, pre.1.1.1.0); sound = k.sound }, k.begins.sums.few)
 
 of-rows-requires : tie.Need-of_rows-requires
@@ -38,7 +38,7 @@ of-rows-requires c κs =
     let start = e.before.before in
     let a = start.args in
     let pre = start.requires in
-    let s = e.shares.ensures (not-false _ c.if-not-shares.false) in
+    let s = e.shares.ensures (c.if-not-shares.false) in
     let k = pre.1.1.1.1.1 s.0 in
     let r = c.run_on-w.ensures in
     let known = begins_shared a.p a.n a.z.now a.y.now a.b a.nodes.now a.errors.now pre.1.1.0 k s.1 in
@@ -57,7 +57,7 @@ returns_2 c =
     let start = e.before.before.before in
     let a = start.args in
     let pre = start.requires in
-    let s = e.shares.ensures (not-false _ e.if-not-shares.false) in
+    let s = e.shares.ensures (e.if-not-shares.false) in
     let held = pre.1.1.1.1 in
     let r = t.run_on-w.ensures in
     let u = t.run_on-w.new.nodes in
@@ -75,7 +75,7 @@ returns_3 c =
     let start = e.before.before in
     let a = start.args in
     let pre = start.requires in
-    let s = e.shares.ensures (not-false _ c.if-not-shares.false) in
+    let s = e.shares.ensures (c.if-not-shares.false) in
     let held = pre.1.1.1.1 in
     let r = c.run_on-w.ensures in
     let u = c.run_on-w.new.nodes in

@@ -17,14 +17,14 @@ returns : tie.Need-returns-then-not-begin
 returns c = let a = c.args in
     let n : ℕ = length a.b.now in
     let f = c.begin in
-    let g : f.result ≡ false = not-true _ c.if-not-begin.true in
+    let g : f.result ≡ false = c.if-not-begin.true in
     f.ensures.stage ∙ ap (λ r. Elimination.after r (Elimination.eliminate n a.k (rows n n f.new.a)) f.new.b) g
 
 eliminate-requires : tie.Need-eliminate-requires
 eliminate-requires c κs = let s = c.before.before.before.before.before.before.before.before.before.before.before.before.before.before.before.before.before.before.before.before.before.before.before in
     let f = c.begin in
     let e : length s.args.b.now ≡ length f.new.top = sym (f.auto.top ∙ s.requires.0.tops) in
-    let g : f.result ≡ true = not-false _ c.if-not-begin.false in
+    let g : f.result ≡ true = c.if-not-begin.false in
     (omega arith, f.auto.a ∙ s.requires.0.matrix ∙ ap (λ k. k * k) e, f.ensures.first g ∙ ap (λ w. row w f.new.a s.args.k) e)
 
 returns_2 : tie.Need-returns
@@ -35,7 +35,7 @@ returns_2 c =
     let k : ℕ = s.args.k in
     let f = c.begin in
     let e = c.eliminate in
-    let g : f.result ≡ true = not-false _ if1.false in
+    let g : f.result ≡ true = if1.false in
     let done : rows n n e.new.a ≡ Elimination.eliminate n k (rows n n f.new.a) =
     subst (λ w. rows w w e.new.a ≡ Elimination.eliminate w k (rows w w f.new.a)) (f.auto.top ∙ s.requires.0.tops) e.ensures in
     f.ensures.stage ∙ ap (λ r. Elimination.after r (Elimination.eliminate n k (rows n n f.new.a)) f.new.b) g

@@ -17,7 +17,7 @@ returns : tie.Need-returns-then-not-begin
 returns c = let a = c.args in
     let n : ℕ = length a.b.now in
     let f = c.begin in
-    let g : f.result ≡ false = not-true _ c.if-not-begin.true in
+    let g : f.result ≡ false = c.if-not-begin.true in
     ap (Elimination.column n (a.k + 1)) (f.ensures.stage ∙ ap (λ r. Elimination.after r (Elimination.eliminate n a.k (rows n n f.new.a)) f.new.b) g)
 
 finish-requires : tie.Need-finish-requires
@@ -26,7 +26,7 @@ finish-requires c κs =
     let s = c.before.before.before.before.before.before.before.before.before.before.before.before.before.before.before.before.before.before.before.before.before.before.before.before.before.before.before.before in
     let f = c.begin in
     let e : length s.args.b.now ≡ length f.new.b = sym f.auto.b in
-    let g : f.result ≡ true = not-false _ if1.false in (
+    let g : f.result ≡ true = if1.false in (
       record { matrix = f.auto.a ∙ s.requires.0.matrix ∙ ap (λ k. k * k) e; tops = s.requires.1 ∙ e; spares = f.auto.spare ∙ s.requires.0.spares ∙ e },
       f.auto.col ∙ s.requires.2 ∙ e,
       omega arith,
@@ -42,7 +42,7 @@ returns_2 c =
     let k : ℕ = a.k in
     let f = c.begin in
     let h = c.finish in
-    let g : f.result ≡ true = not-false _ if1.false in
+    let g : f.result ≡ true = if1.false in
     ap (Elimination.column n (k + 1)) (f.ensures.stage ∙ ap (λ r. Elimination.after r (Elimination.eliminate n k (rows n n f.new.a)) f.new.b) g)
     ∙ subst (λ w. Elimination.column w (k + 1) (Elimination.going (Elimination.eliminate w k (rows w w f.new.a)) f.new.b) ≡ Elimination.after h.result (rows w w h.new.a) h.new.b) f.auto.b h.ensures
 

@@ -8,14 +8,14 @@ use Rattle.order_text.proofs.reading.budget_at.Statement.{statement}
 use Rattle.order_text.proofs.reading.budget_at.Tie as tie
 
 returns : tie.Need-returns-then-not-is_at
-returns c = let t = c.before in budget_none _ (sym t.is_at.ensures.is ∙ not-true _ t.if-not-is_at.true) c.wrong_word.ensures
+returns c = let t = c.before in budget_none _ (sym t.is_at.ensures.is ∙ t.if-not-is_at.true) c.wrong_word.ensures
 
 returns_2 : tie.Need-returns-then-not-w
 returns_2 c =
     let t = c.before in
     let w = t.before.before in
     let e = w.before in
-    budget_wrong _ (sym e.is_at.ensures.is ∙ not-false _ e.if-not-is_at.false) w.word_at-w.ensures (not-true _ t.if-not-w.true) c.wrong_word-then-not-w.ensures
+    budget_wrong _ (sym e.is_at.ensures.is ∙ e.if-not-is_at.false) w.word_at-w.ensures (t.if-not-w.true) c.wrong_word-then-not-w.ensures
 
 returns_3 : tie.Need-returns-then-not-is_at-2
 returns_3 c =
@@ -24,8 +24,8 @@ returns_3 c =
     let o = a.before.before in
     let w = o.before.before in
     let e = w.before in
-    budget_unended _ (sym e.is_at.ensures.is ∙ not-false _ e.if-not-is_at.false) w.word_at-w.ensures (not-false _ o.if-not-w.false)
-    (sym a.is_at-2.ensures.is ∙ not-true _ t.if-not-is_at-2.true) c.wrong_word-then-not-is_at-2.ensures
+    budget_unended _ (sym e.is_at.ensures.is ∙ e.if-not-is_at.false) w.word_at-w.ensures (o.if-not-w.false)
+    (sym a.is_at-2.ensures.is ∙ t.if-not-is_at-2.true) c.wrong_word-then-not-is_at-2.ensures
 
 returns-4 : tie.Need-returns
 returns-4 c =
@@ -33,8 +33,8 @@ returns-4 c =
     let o = a.before.before in
     let w = o.before.before in
     let e = w.before in
-    budget_ended _ (sym e.is_at.ensures.is ∙ not-false _ e.if-not-is_at.false) w.word_at-w.ensures (not-false _ o.if-not-w.false)
-    (sym a.is_at-2.ensures.is ∙ not-false _ c.if-not-is_at-2.false) (a.is_at-2.ensures.within (not-false _ c.if-not-is_at-2.false))
+    budget_ended _ (sym e.is_at.ensures.is ∙ e.if-not-is_at.false) w.word_at-w.ensures (o.if-not-w.false)
+    (sym a.is_at-2.ensures.is ∙ c.if-not-is_at-2.false) (a.is_at-2.ensures.within (c.if-not-is_at-2.false))
 
 pub budget_at_spec : {M : Type 1} → statement M
 budget_at_spec =

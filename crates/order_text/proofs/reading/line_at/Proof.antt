@@ -10,13 +10,13 @@ use Rattle.order_text.proofs.reading.line_at.Statement.{statement}
 use Rattle.order_text.proofs.reading.line_at.Tie as tie
 
 returns : tie.Need-returns-then-not-is_at
-returns c = line_none _ _ _ _ _ _ (sym c.is_at.ensures.is ∙ not-true _ c.if-not-is_at.true)
+returns c = line_none _ _ _ _ _ _ (sym c.is_at.ensures.is ∙ c.if-not-is_at.true)
 
 returns_2 : tie.Need-returns-then-not-c
 returns_2 c =
     let r = c.before.before.before in
     let e = r.before in
-    line_wrong _ _ _ _ _ _ (sym e.is_at.ensures.is ∙ not-false _ e.if-not-is_at.false) r.row_at-c.ensures (not-true _ c.if-not-c.true)
+    line_wrong _ _ _ _ _ _ (sym e.is_at.ensures.is ∙ e.if-not-is_at.false) r.row_at-c.ensures (c.if-not-c.true)
 
 returns_3 : tie.Need-returns-then-not-ends_at
 returns_3 c =
@@ -24,13 +24,13 @@ returns_3 c =
     let o = a.before in
     let r = o.before.before.before in
     let e = r.before in
-    line_unended _ _ _ _ _ _ (sym e.is_at.ensures.is ∙ not-false _ e.if-not-is_at.false) r.row_at-c.ensures (not-false _ o.if-not-c.false)
-    (sym a.ends_at.ensures.is ∙ not-true _ c.if-not-ends_at.true)
+    line_unended _ _ _ _ _ _ (sym e.is_at.ensures.is ∙ e.if-not-is_at.false) r.row_at-c.ensures (o.if-not-c.false)
+    (sym a.ends_at.ensures.is ∙ c.if-not-ends_at.true)
 
 -- a row that is ended lies within the text
 inside : (c : tie.After-tail_length) → let r = c.row_at-c.result in let b = c.before.before.before.before.before.before.before.before.before.before.before in
     r.at + c.tail_length.result ≤ length b.args.s.now
-inside c = let z = c.ends_at.ensures.within (not-false _ c.if-not-ends_at.false) in rw c.tail_length.ensures z
+inside c = let z = c.ends_at.ensures.within (c.if-not-ends_at.false) in rw c.tail_length.ensures z
 
 returns-4 : tie.Need-returns
 returns-4 c =
@@ -39,8 +39,8 @@ returns-4 c =
     let o = a.before in
     let r = o.before.before.before in
     let e = r.before in
-    line_ended _ _ _ _ _ _ (sym e.is_at.ensures.is ∙ not-false _ e.if-not-is_at.false) r.row_at-c.ensures (not-false _ o.if-not-c.false)
-    (sym a.ends_at.ensures.is ∙ not-false _ x.if-not-ends_at.false) c.tail_length.ensures (inside c)
+    line_ended _ _ _ _ _ _ (sym e.is_at.ensures.is ∙ e.if-not-is_at.false) r.row_at-c.ensures (o.if-not-c.false)
+    (sym a.ends_at.ensures.is ∙ x.if-not-ends_at.false) c.tail_length.ensures (inside c)
 
 pub line_at_spec : {M : Type 1} → statement M
 line_at_spec =

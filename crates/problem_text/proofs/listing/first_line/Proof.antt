@@ -14,7 +14,7 @@ returns c =
     simp (unmet c.is_at.ensures.is c.if-not-is_at.true) (rw no-actuators.ensures at c.wrong_line.ensures)
 
 add-close-at : tie.Need-overflow-add-close-at
-add-close-at c = omega (arith, c.is_at.ensures.within (not-false _ c.if-not-is_at.false))
+add-close-at c = omega (arith, c.is_at.ensures.within (c.if-not-is_at.false))
 
 returns_2 : tie.Need-returns
 unfolding first_line

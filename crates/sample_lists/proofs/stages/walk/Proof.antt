@@ -21,13 +21,13 @@ loop-holds c = (omega (arith, c.requires), c.requires.1)
 returns : tie.Need-returns-then-not-time-t invariant_loop decreases_loop
 returns c =
     let l = c.loop-i in
-    (walk_stops _ _ _ l.invariant.1 c.time.ensures (not-true _ c.if-not-time-t.true) (omega arith), omega arith, l.invariant.1)
+    (walk_stops _ _ _ l.invariant.1 c.time.ensures (c.if-not-time-t.true) (omega arith), omega arith, l.invariant.1)
 
 loop-again : tie.Need-loop-i-preserved invariant_loop decreases_loop
 loop-again c =
     let entry = c.before.before.before.before in
     let l = c.loop-i in
-    (omega arith, passed_next entry.args.nodes.now _ _ l.invariant.1 c.time.ensures c.time.type_inv (not-false _ c.if-not-time-t.false))
+    (omega arith, passed_next entry.args.nodes.now _ _ l.invariant.1 c.time.ensures c.time.type_inv (c.if-not-time-t.false))
 
 returns_2 : tie.Need-returns invariant_loop decreases_loop
 returns_2 c =

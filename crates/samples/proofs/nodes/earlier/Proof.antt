@@ -18,12 +18,12 @@ loop-holds : tie.Need-loop-i-init invariant_loop decreases_loop
 loop-holds c = (search rules, iter_none _ _)
 
 returns : tie.Need-returns-then-not-time-t invariant_loop decreases_loop
-returns c = (stops _ _ _ c.loop-i.invariant.1 c.time.ensures (not-true _ c.if-not-time-t.true) (omega arith), omega arith)
+returns c = (stops _ _ _ c.loop-i.invariant.1 c.time.ensures (c.if-not-time-t.true) (omega arith), omega arith)
 
 loop-again : tie.Need-loop-i-preserved invariant_loop decreases_loop
 loop-again c =
     let entry = c.before.before.before.before in
-    (search rules, walks entry.args.nodes.now _ _ c.loop-i.invariant.1 c.time.ensures (not-false _ c.if-not-time-t.false))
+    (search rules, walks entry.args.nodes.now _ _ c.loop-i.invariant.1 c.time.ensures (c.if-not-time-t.false))
 
 returns_2 : tie.Need-returns invariant_loop decreases_loop
 returns_2 c =

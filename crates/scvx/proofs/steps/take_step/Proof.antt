@@ -24,7 +24,7 @@ returns c =
     let a = entry.args in
     let z = entry.requires.0 in
     let t = c.before.before.before.before.before.before.before.before.step_of_lem in (
-      rw (c.with_state.ensures, c.with_damping.ensures, c.min.ensures) (singular a.p a.g.state a.n a.m _ a.g.r z.n_is z.m_is t.result.solved _ t.ensures.0 (not-true _ if1.true)),
+      rw (c.with_state.ensures, c.with_damping.ensures, c.min.ensures) (singular a.p a.g.state a.n a.m _ a.g.r z.n_is z.m_is t.result.solved _ t.ensures.0 (if1.true)),
       (λ j x h. rw (c.with_state.ensures, c.with_damping.ensures) h, t.ensures.1.1),
     )
 
@@ -52,7 +52,7 @@ returns_2 c =
     let a = entry.args in
     let z = entry.requires.0 in
     let t = c.before.before.before.before.before.before.before.step_of_lem in (
-      c.try_step.ensures.0 ∙ solved a.p a.g.state a.n a.m _ a.g.r z.n_is z.m_is t.result.solved _ t.ensures.0 (not-false _ c.if-not-step.false),
+      c.try_step.ensures.0 ∙ solved a.p a.g.state a.n a.m _ a.g.r z.n_is z.m_is t.result.solved _ t.ensures.0 (c.if-not-step.false),
       (c.try_step.ensures.1, t.ensures.1.1),
     )
 

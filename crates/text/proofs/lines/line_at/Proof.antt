@@ -12,10 +12,10 @@ unfolding line_at
 returns c = simp (unmet c.is_at.ensures.is c.if-not-is_at.true) c.wrong_row.ensures
 
 after-head : tie.Need-overflow_add-at
-after-head c = omega (arith, c.is_at.ensures.within (not-false _ c.if-not-is_at.false))
+after-head c = omega (arith, c.is_at.ensures.within (c.if-not-is_at.false))
 
 words-at-requires : tie.Need-words_at-r-requires
-words-at-requires c κs = c.is_at.ensures.within (not-false _ c.if-not-is_at.false)
+words-at-requires c κs = c.is_at.ensures.within (c.if-not-is_at.false)
 
 returns_2 : tie.Need-returns
 unfolding line_at

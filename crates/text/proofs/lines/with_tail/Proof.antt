@@ -21,7 +21,7 @@ returns_2 c =
     simp (not-false start.r.ok at-if1.if-not-r.false, unmet at-is-at.is_at.ensures.is c.if-not-is_at.true) c.wrong_row-then-not-is_at.ensures
 
 after_tail : tie.Need-overflow_add-result
-after_tail c = omega (arith, c.is_at.ensures.within (not-false _ c.if-not-is_at.false))
+after_tail c = omega (arith, c.is_at.ensures.within (c.if-not-is_at.false))
 
 returns_3 : tie.Need-returns
 unfolding with_tail

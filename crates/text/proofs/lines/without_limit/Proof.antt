@@ -29,7 +29,7 @@ returns_2 c =
     c.wrong_row-then-not-is_at.ensures ∙ sym (none_word _ _ _ (sym blank.byte.ensures ∙ blank.if-byte-ne32.false) word.past_blanks-word.ensures.is (unmet c.is_at.ensures.is c.if-not-is_at.true))
 
 after_none : tie.Need-overflow-add-t9
-after_none c = omega (arith, c.is_at.ensures.within (not-false _ c.if-not-is_at.false))
+after_none c = omega (arith, c.is_at.ensures.within (c.if-not-is_at.false))
 
 returns_3 : tie.Need-returns
 returns_3 c =
