@@ -63,7 +63,7 @@ pub begin_spec : {M : Type 1} → statement M
 begin_spec =
     tie.close
     (tie.spec
-    (λ c κs. let s = c.before.before.before.before.before.before.before in (omega arith, s.requires.0.matrix ∙ ap (λ k. k * k) (sym s.requires.1)))
+    (λ c κs. let s = c.before.before.before.before.before.before in (omega arith, s.requires.0.matrix ∙ ap (λ k. k * k) (sym s.requires.1)))
     (λ c κs. search rules)
     (λ c. search rules)
     (λ c. search rules)

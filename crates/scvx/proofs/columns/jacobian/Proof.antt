@@ -128,11 +128,11 @@ jacobian_spec =
     (λ c. sym c.know_angles.ensures.0)
     column-requires
     (λ c. search rules)
-    (λ c. omega (arith, c.loop-c-test.true, (start c.before.before.before.before.before.before.before.before.before.before.before.before.before.before.before.before).pre.0.n_most))
+    (λ c. omega (arith, c.loop-c-test.true, (start c.before.before.before.before.before.before.before.before.before.before.before.before.before.before).pre.0.n_most))
     (λ c. search rules)
     returns
     (λ c. search rules)
-    (λ c. omega (arith, c.loop-c-test.true, (start c.before.before.before.before.before.before.before.before.before.before.before.before.before.before.before).pre.0.n_most))
+    (λ c. omega (arith, c.loop-c-test.true, (start c.before.before.before.before.before.before.before.before.before.before.before.before.before.before).pre.0.n_most))
     (λ c. search rules)
     loop-again
     (λ c. search rules)
