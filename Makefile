@@ -5,7 +5,7 @@
 #   make python-test                the shared library, and the tests of bindings/python over it
 #   make dist                       target/dist/slew-VERSION-x86_64-linux.tar.gz: all that a laboratory needs to plan, without the kit
 #   make dist-check                 the same, and it is unpacked and tried where there is no kit
-#   make test                       the gate (.ci/run): everything proved from nothing, and then tested as users meet it
+#   make test                       the gate (.ci/run): the tests of the tools, and rt ci
 PREFIX = /usr/local
 prefix = $(PREFIX)
 version := $(shell sed -n 's/^.define SLEW_VERSION "\(.*\)"/\1/p' include/slew.h)

@@ -1,8 +1,8 @@
-/* The slew planner, as a controller calls it from C or C++ on x86-64. Link target/staticlib/libexport.a, which `rt staticlib export` writes;
- * the functions below "Rooms with moving air" are in libexport_tools.a, which `rt staticlib export_tools` writes, those below "Whole numbers for the drive board" in
- * libexport_board.a, which `rt staticlib export_board` writes, those below "A whole mosaic" in libexport_mosaic.a, which `rt staticlib export_mosaic` writes, those below
- * "Ask, then commit" in libexport_preview.a, which `rt staticlib export_preview` writes, slew_plan_eigenaxis_numbers in libexport_eigenaxis.a, which `rt staticlib
- * export_eigenaxis` writes, those below "Reference trajectories" in libexport_reference.a, which `rt staticlib export_reference` writes.
+/* The slew planner, as a controller calls it from C or C++ on x86-64. Link target/staticlib/libexport.a, which `oracle/archives export` writes;
+ * the functions below "Rooms with moving air" are in libexport_tools.a, which `oracle/archives export_tools` writes, those below "Whole numbers for the drive board" in
+ * libexport_board.a, which `oracle/archives export_board` writes, those below "A whole mosaic" in libexport_mosaic.a, which `oracle/archives export_mosaic` writes, those below
+ * "Ask, then commit" in libexport_preview.a, which `oracle/archives export_preview` writes, slew_plan_eigenaxis_numbers in libexport_eigenaxis.a, which `oracle/archives
+ * export_eigenaxis` writes, those below "Reference trajectories" in libexport_reference.a, which `oracle/archives export_reference` writes.
  *
  * Every function here is proved to answer what the definitions say, for every value of its arguments, NaN and infinities included, and to end. Nothing is
  * allocated, nothing is kept between calls, nothing is read or written but what is lent: calls from several threads need only different buffers.
@@ -14,11 +14,11 @@
  * - A flag (`bool`) is a byte of 0 or 1, as C and C++ make it of any number. A caller in another language sees to that: nothing is promised for a 2. As compiled the lowest bit counts, so a 2 is
  *   false, and as `limited` it would leave out the slew limit. The flags in `counts` are whole numbers, and there nothing but 1 says yes: a 2 is no pyramid and no power limit.
  * - Floats round to nearest and subnormals are kept, as in every program that has not changed this.
- * - The thread has 256 kB of stack. Measured by painting it, whatever the controls: 164 kB in the functions of mosaics, 144 in slew_sample, 136 in the others that search, 125 in
+ * - The thread has 256 kB of stack. Measured by painting it, whatever the controls, as an older Rattle kit compiled it: 164 kB in the functions of mosaics, 144 in slew_sample, 136 in the others that search, 125 in
  *   slew_plan_eigenaxis_numbers, 19 in slew_reconstruct.
  *
  * How long a plan takes is bounded in forward runs, not in seconds. Measured, the slowest of 300 random slews of a laboratory for each kind of actuators, refused ones too, in ms of an
- * AMD EPYC's time beside other work (`oracle/entries`):
+ * AMD EPYC's time beside other work, as an older Rattle kit compiled it (`oracle/entries`):
  *
  *   controls in a row                        3      4      8     12
  *   slew_plan_numbers                        6      7     22     48
@@ -30,7 +30,7 @@
 #define SLEW_H
 
 /* The interface's version: the first number changes where a caller has to, the second where something is added. */
-#define SLEW_VERSION "4.0.0"
+#define SLEW_VERSION "3.2.0"
 
 #include <stdbool.h>
 #include <stddef.h>
@@ -141,7 +141,7 @@ size_t slew_reference_list_numbers(const size_t counts[11], const double actuato
                                    size_t told[3], double *duration, double end[8]);
 
 /* One run of the step law on a decision, no search: an answered path's problem and decision give its nodes and its max_defect again, bit for bit, by proof. In
- * libexport_runs.a, which `rt staticlib export_runs` writes. Returns 0, or a refusal's number: the checks (1 to 6, 8, 22) with 0 runs, or 5, 11, 12, 13 of the run; beside it
+ * libexport_runs.a, which `oracle/archives export_runs` writes. Returns 0, or a refusal's number: the checks (1 to 6, 8, 22) with 0 runs, or 5, 11, 12, 13 of the run; beside it
  * nodes and defect are zeros. `place` gets the refusal's place, or 0; `runs` 1 where the run began, else 0. The duration is taken as it stands. */
 size_t slew_reconstruct(const size_t counts[11], const double actuators[100], const double body[37], bool limited,
                         const double decision[193], double nodes[374], double *max_defect, size_t *place, size_t *runs);
@@ -198,13 +198,12 @@ size_t slew_mosaic_next(const size_t counts[11], const double actuators[100], co
                         size_t told[5], double *duration, double *max_defect, double decision[193], double nodes[374],
                         size_t held[12]);
 
-/* All of it: tiles_count attitudes. Returns 0, or the refusal's number, as in the cursor. Refusal 23: fewer than 2 attitudes, or more than 64; it comes before every other answer.
- * Each lent list gets a row for each answered leg, in turn. told: forward runs, controls in a row, wheels, iterations, and then the 12 counts of held controls, as slew_plan_numbers has
- * them. times: duration, largest defect. decisions and nodes: the leg's. What stands behind those rows stays. A list of fewer rows than there are legs (a leg fewer than attitudes), or a
- * number that is no way: 99 is returned, and nothing is planned. The workspace is untouched where no leg began a run, and all +0.0 otherwise. */
+/* All of it: tiles_count attitudes. Returns 0, or the refusal's number, as in the cursor. Refusal 23: fewer than 2 attitudes, or more than 64. Each lent list gets a row for each
+ * answered leg, in turn: forward runs, controls in a row, wheels, iterations; duration, largest defect; decision; nodes. (Which controls were held, slew_mosaic_next tells.) What stands behind those rows stays. A list of fewer rows
+ * than there are legs (a leg fewer than attitudes), or a number that is no way: 99 is returned, and nothing is planned. The workspace is untouched where no leg began a run, and all +0.0 otherwise. */
 size_t slew_mosaic(const size_t counts[11], const double actuators[100], const double body[37], bool limited,
                    size_t way, const double (*tiles)[4], size_t tiles_count,
-                   size_t (*told)[16], size_t told_count, double (*times)[2], size_t times_count,
+                   size_t (*told)[4], size_t told_count, double (*times)[2], size_t times_count,
                    double (*decisions)[193], size_t decisions_count, double (*nodes)[374], size_t nodes_count,
                    double *workspace, size_t workspace_count,
                    size_t cursor[5], double sums[9]);
@@ -265,7 +264,7 @@ size_t slew_board_list(const double inertia[9], double tolerance, double duratio
                        size_t requested, double alpha,
                        int32_t (*rows)[13], size_t rows_count, size_t *written, size_t *place);
 
-/* Below: functions that stand beside a plan. Link target/staticlib/libexport_tools.a, which `rt staticlib export_tools` writes. */
+/* Below: functions that stand beside a plan. Link target/staticlib/libexport_tools.a, which `oracle/archives export_tools` writes. */
 
 /* What a refusal means, in the sentence that the programs print: number, place and forward runs as a call returned and told them; 0 runs where it tells none. `sampled` is true where a
  * dense sample was refused and not a plan: of slew_sample_path, slew_sample_list, slew_board_sample and slew_board_list, and of slew_sample where slew_plan answers the same text with a path. The answer is

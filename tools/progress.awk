@@ -1,5 +1,5 @@
-# Lines: "cites CRATE DEP..", "took CRATE SECONDS" (elsewhere), "kept CRATE" (proved before, it seems), "done CRATE SECONDS" (rt has said so). Variables: wanted, jobs, cores; past: the
-# seconds of this run when rt spoke last; since: the seconds from then on.
+# Lines: "cites CRATE DEP..", "took CRATE SECONDS" (elsewhere), "kept CRATE" (proved before, it seems), "done CRATE SECONDS" (rt has said so; 0: it was proved before). Variables: wanted;
+# jobs, cores: how many crates of one level are proved side by side, and on how many cores; past: the seconds of this run when rt spoke last; since: the seconds from then on.
 $1 == "cites" { name = $2; $1 = $2 = ""; cites[name] = $0 }
 $1 == "took" { took[$2] = $3 }
 $1 == "kept" { kept[$2] = 1 }
@@ -43,7 +43,7 @@ END {
             t = cost(order[i])
             sum += t
             if (t > longest) longest = t
-            if (order[i] in said) proved++; else open = 1
+            if (order[i] in said || kept[order[i]]) proved++; else open = 1
         }
         flush()
     }

@@ -109,13 +109,14 @@ class Answers(unittest.TestCase):
         done = subprocess.run(["sh", "-c", '"$@" >&-', "sh", os.path.join(TOP, "run"), self.quarter], stderr=subprocess.PIPE, text=True)
         self.assertEqual((done.returncode, done.stderr), (1, "run: there is no standard output\n"))
 
-    def test_more_controls_than_slew_lends_for(self) -> None:
-        """Five wheels are refused with 9, and the command that serves is named."""
+    def test_more_controls_than_the_programs_lend_for(self) -> None:
+        """Five wheels are refused with 9, by the search and about one axis."""
         table = tomllib.loads(stored("three-wheels.toml"))
         wheels = [{**wheel, "power_w": 1e9} for wheel in (table["wheel"] + table["wheel"])[:5]]
-        status, out, err = run("-", text=json.dumps({**table, "wheel": wheels}))
-        self.assertEqual((status, out.split("\n")[1]), (3, " (number 9)"))
-        self.assertIn("./run --eigenaxis FILE plans", err)
+        for words in ([], ["--eigenaxis"]):
+            status, out, err = run(*words, "-", text=json.dumps({**table, "wheel": wheels}))
+            self.assertEqual((status, out.split("\n")[1]), (3, " (number 9)"))
+            self.assertIn("workspace", err)
 
     def test_options_in_any_order(self) -> None:
         one = run("--samples", "50", "--eigenaxis", "--gentle", self.quarter)
@@ -166,12 +167,12 @@ class Progress(unittest.TestCase):
 
     def test_what_was_proved_before(self) -> None:
         """It costs nothing, unless something below it is to be proved."""
-        self.assertEqual(left(self.two + "kept low\n", "high"), "0 of 2 crates proved, about 3 min left")
+        self.assertEqual(left(self.two + "kept low\n", "high"), "1 of 2 crates proved, about 3 min left")
         self.assertEqual(left(self.two + "kept high\n", "high"), "0 of 2 crates proved, about 5 min left")
         self.assertEqual(left(self.two + "done low 0\n", "high"), "1 of 2 crates proved, the last low, about 3 min left")
 
     def test_jobs(self) -> None:
-        """Crates of one level are proved RT_JOBS at a time; a handful waits for its last, and for the cores."""
+        """Crates of one level are proved so many at a time; a handful waits for its last, and for the cores."""
         three = "cites a\ncites b\ncites c\ncites all a b c\ntook a 240\ntook b 240\ntook c 120\ntook all 0\n"
         for jobs, cores, minutes in ((1, 2, 10), (2, 2, 6), (3, 2, 5), (3, 4, 4)):
             self.assertEqual(left(three, "all", jobs, cores), f"0 of 4 crates proved, about {minutes} min left")

@@ -273,7 +273,7 @@ class Answers(unittest.TestCase):
         for given, begins in {
             (2, 7, 0): "Wheel 7: ", (2, 8, 0): "Thruster 0: ", (2, 20, 0): "The pyramid: ", (21, 0, 0): "The text is too long: ", (21, 1, 0): "Line 1 of the text ",
             (5, 1, 0): "The end attitude qf ", (5, 2, 7): "An attitude in a forward run ", (5, 1, 0, True): "Sample 1: its attitude ",
-            (11, 0, 1): "Step 0 of a run ", (11, 0, 0): "An angle is out of range: ", (11, 4, 0, True): "Sample 4 ", (99, 3, 0): "No refusal has this number.",
+            (11, 0, 1): "Step 0 of a run ", (11, 0, 0): "The slew is half a turn ", (11, 4, 0, True): "Sample 4 ", (99, 3, 0): "No refusal has this number.",
         }.items():
             self.assertTrue(slewtext.refusal(*given).startswith(begins), (given, slewtext.refusal(*given)))
 
@@ -863,8 +863,7 @@ class Run(unittest.TestCase):
             told = self.run_with(*words)
             self.assertEqual((told.returncode, told.stdout), (2, ""), words)
             self.assertIn("--help", told.stderr)
-        for words, said in ((["--samples", text], "./run --samples N FILE"), (["nowhere"], "there is no file nowhere"), (["--canonical", "/"], "/ is a folder"), (["--eigenaxis", "--gentle"], "./run --eigenaxis --gentle FILE"),
-                            (["--eigenaxis", "--", "--gentle"], "no file --gentle")):
+        for words, said in ((["--samples", text], "./run --samples N FILE"), (["nowhere"], "there is no file nowhere"), (["--canonical", "/"], "/ is a folder"), (["--eigenaxis", "--gentle"], "no file --gentle")):
             self.assertIn(said, self.run_with(*words).stderr)
 
     def test_files_that_are_no_problem(self):
@@ -875,6 +874,41 @@ class Run(unittest.TestCase):
                 told = self.run_with(os.path.join(folder, name))
                 self.assertEqual((told.returncode, told.stdout), (2, ""))
                 self.assertIn(said, told.stderr)
+
+
+def is_built(*programs):
+    """Whether they are built, and no source is newer."""
+    made = [os.path.join(slewtext.ROOT, "target", "bin", program) for program in programs]
+    sources = [os.path.join(folder, name) for folder, _, names in os.walk(os.path.join(slewtext.ROOT, "crates")) for name in names if "/out/" not in folder + "/"] + [os.path.join(slewtext.ROOT, "crates.txt")]
+    return all(map(os.path.exists, made)) and min(map(os.path.getmtime, made)) > max(map(os.path.getmtime, sources))
+
+
+@unittest.skipUnless(is_built("slew", "slew_mosaic", "slew_samples"), "slew, slew_mosaic and slew_samples are not built")
+class Built(unittest.TestCase):
+    """./run over the built programs."""
+    def run_with(self, *words, text=None):
+        return subprocess.run([os.path.join(slewtext.ROOT, "run"), *words], input=text, capture_output=True, text=True)
+
+    def test_examples_in_decimal(self):
+        for name in sorted(os.listdir(os.path.join(slewtext.ROOT, "examples"))):
+            if name.endswith(".toml") and os.path.exists(os.path.join(slewtext.ROOT, "examples", name.removesuffix(".toml") + ".answer")):
+                way = ["--eigenaxis"] if name == "star-field.toml" else []
+                told = self.run_with(*way, os.path.join(slewtext.ROOT, "examples", name))
+                self.assertEqual((told.stdout, told.returncode, told.stderr == ""), (stored(name.removesuffix(".toml") + ".answer"), 3 * name.startswith("refused"), not name.startswith("refused")))
+
+    def test_standard_input(self):
+        for name, answer in (("quarter-turn.slew", "quarter-turn.answer"), ("refused-second-leg.mosaic", "refused-second-leg.answer")):
+            self.assertEqual(self.run_with("-", text=stored(name)).stdout, stored(answer))
+
+    def test_from_decimal_to_a_drawing(self):
+        problem = os.path.join(slewtext.ROOT, "examples", "three-wheels.toml")
+        for words in ([], ["--eigenaxis"], ["--eigenaxis", "--gentle"]):
+            answer = self.run_with(*words, problem).stdout
+            for command in ("draw", "stops", "controls", "report"):
+                self.assertEqual(run(command, problem, "-", text=answer).returncode, 0)
+        samples = self.run_with("--samples", "50", problem).stdout
+        self.assertEqual(run("unplanes", "-", text="").returncode, 1)
+        self.assertEqual(len(run("samples", "-", text=samples).stdout.splitlines()), 1 + samples.count("(sample "))
 
 
 if __name__ == "__main__":

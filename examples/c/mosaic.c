@@ -38,7 +38,7 @@ static double reached[TILES][4];
 /* The whole of what was reached, beside the sums of the scan. */
 static int same_as_whole(size_t way, size_t legs, const size_t cursor[5], const double sums[9])
 {
-    static size_t told[TILES][16];
+    static size_t told[TILES][4];
     static double times[TILES][2], decisions[TILES][193], paths[TILES][374];
     size_t whole[5];
     double total[9];

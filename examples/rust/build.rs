@@ -1,4 +1,4 @@
-//! Links libexport.a: target/staticlib has it in the repository, where `rt staticlib export` writes it, and lib in a distribution.
+//! Links libexport.a: target/staticlib has it in the repository, where `oracle/archives export` writes it, and lib in a distribution.
 use std::path::Path;
 
 fn main() {

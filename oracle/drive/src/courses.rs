@@ -106,9 +106,8 @@ pub const COURSES: [Entry; 10] = [
         |i, o| {
             let mut r = Reader(i);
             let (theta, alpha, with, slew) = (r.f(), r.f(), r.n(), r.f());
-            let (mut v, mut place) = ([0.0; 3], 77);
-            let number = slew_switch_times(theta, alpha, with != 0, slew, &mut v, &mut place);
-            assert_eq!(place, if number == 7 { 2 } else { 0 }, "the place of 7");
+            let mut v = [0.0; 3];
+            let number = slew_switch_times(theta, alpha, with != 0, slew, &mut v);
             o.given(number as u64, &v);
         },
         |i, o| {
@@ -130,9 +129,8 @@ pub const COURSES: [Entry; 10] = [
         |i, o| {
             let mut r = Reader(i);
             let (j, axis, limit) = (r.a(), r.a(), r.a());
-            let (mut a, mut place) = (0.0, 77);
-            let number = slew_alpha_from_box(&j, &axis, &limit, &mut a, &mut place);
-            assert_eq!(place, if number == 7 { 2 } else { 0 }, "the place of 7");
+            let mut a = 0.0;
+            let number = slew_alpha_from_box(&j, &axis, &limit, &mut a);
             o.given(number as u64, &[a]);
         },
         |i, o| {

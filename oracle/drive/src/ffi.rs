@@ -13,10 +13,10 @@ unsafe extern "C" {
     pub safe fn slew_is_finite(x: f64) -> bool;
     pub safe fn slew_ceil(x: f64) -> f64;
     pub safe fn slew_sqrt(x: f64) -> f64;
-    pub safe fn slew_sin(x: f64, answer: &mut f64) -> usize;
-    pub safe fn slew_cos(x: f64, answer: &mut f64) -> usize;
-    pub safe fn slew_sin_cos(x: f64, answer: &mut [f64; 2]) -> usize;
-    pub safe fn slew_acos(x: f64, answer: &mut f64) -> usize;
+    pub safe fn slew_sin(x: f64, answer: &mut f64) -> bool;
+    pub safe fn slew_cos(x: f64, answer: &mut f64) -> bool;
+    pub safe fn slew_sin_cos(x: f64, answer: &mut [f64; 2]) -> bool;
+    pub safe fn slew_acos(x: f64, answer: &mut f64) -> bool;
     pub safe fn slew_sine_series(x: f64, answer: &mut [u64; 2]) -> bool;
     pub safe fn slew_cosine_series(x: f64, answer: &mut [u64; 2]) -> bool;
     pub safe fn slew_both_series(x: f64, answer: &mut [u64; 4]) -> bool;
@@ -49,8 +49,8 @@ unsafe extern "C" {
     pub safe fn slew_rest(omega: &A3, bound: f64) -> bool;
     pub safe fn slew_body_euler_torque(j: &A9, axis: &A3, alpha: f64, omega: f64, h: &A3, out: &mut A3);
 
-    pub safe fn slew_switch_times(theta: f64, alpha: f64, limited: bool, slew: f64, out: &mut A3, place: &mut usize) -> usize;
-    pub safe fn slew_alpha_from_box(j: &A9, axis: &A3, limit: &A3, out: &mut f64, place: &mut usize) -> usize;
+    pub safe fn slew_switch_times(theta: f64, alpha: f64, limited: bool, slew: f64, out: &mut A3) -> usize;
+    pub safe fn slew_alpha_from_box(j: &A9, axis: &A3, limit: &A3, out: &mut f64) -> usize;
     pub safe fn slew_bang_coast_bang(
         q0: &A4,
         qf: &A4,
@@ -78,7 +78,7 @@ pub type Numbers = [f64; 100];
 unsafe extern "C" {
     pub safe fn slew_prepare(c: &Counts, v: &Numbers, wheel_axes: &mut [f64; 24], thruster_axes: &mut [f64; 36], place: &mut usize) -> usize;
     pub safe fn slew_allocate_body_torque(c: &Counts, v: &Numbers, tau: &A3, out: &mut [f64; 20], place: &mut usize) -> usize;
-    pub safe fn slew_singularity(c: &Counts, v: &Numbers, delta: &A4, out: &mut f64, place: &mut usize) -> usize;
+    pub safe fn slew_singularity(c: &Counts, v: &Numbers, delta: &A4, out: &mut f64) -> usize;
     pub safe fn slew_reconstruct(
         c: &Counts,
         v: &Numbers,
@@ -128,45 +128,45 @@ unsafe extern "C" {
     pub safe fn slew_outcome(angle: i64, rate: i64, turns: &mut usize, choice: &mut i64) -> usize;
     pub safe fn slew_reply(angle: i64, rate: i64, left: usize, choice: i64, out: &mut i64) -> usize;
     pub safe fn slew_region(out: &mut [u8; 2193]);
-    pub safe fn slew_control_dim(c: &Counts, v: &Numbers, out: &mut usize, place: &mut usize) -> usize;
+    pub safe fn slew_control_dim(c: &Counts, v: &Numbers) -> usize;
     pub safe fn slew_pyramid_a(skew: f64, delta: &A4, out: &mut [f64; 12]) -> usize;
 }
 
 mod rows {
     use super::{A3, A4, Counts, Numbers};
     unsafe extern "C" {
-        pub fn slew_body_torque(c: &Counts, v: &Numbers, u: *const f64, n: usize, w: &A3, h: &A3, d: &A4, out: &mut A3, place: &mut usize) -> usize;
-        pub fn slew_project_controls(c: &Counts, v: &Numbers, u: *mut f64, n: usize, limit: &A3, place: &mut usize) -> usize;
-        pub fn slew_power_excess(c: &Counts, v: &Numbers, u: *const f64, n: usize, w: &A3, out: &mut f64, place: &mut usize) -> usize;
-        pub fn slew_momentum_excess(c: &Counts, v: &Numbers, hw: *const f64, n: usize, out: &mut f64, place: &mut usize) -> usize;
-        pub fn slew_body_momentum(c: &Counts, v: &Numbers, hw: *const f64, n: usize, out: &mut A3, place: &mut usize) -> usize;
-        pub fn slew_wheel_momentum_rates(c: &Counts, v: &Numbers, u: *const f64, n: usize, out: &mut [f64; 8], place: &mut usize) -> usize;
+        pub fn slew_body_torque(c: &Counts, v: &Numbers, u: *const f64, n: usize, w: &A3, h: &A3, d: &A4, out: &mut A3) -> usize;
+        pub fn slew_project_controls(c: &Counts, v: &Numbers, u: *mut f64, n: usize, limit: &A3);
+        pub fn slew_power_excess(c: &Counts, v: &Numbers, u: *const f64, n: usize, w: &A3) -> f64;
+        pub fn slew_momentum_excess(c: &Counts, v: &Numbers, hw: *const f64, n: usize) -> f64;
+        pub fn slew_body_momentum(c: &Counts, v: &Numbers, hw: *const f64, n: usize, out: &mut A3);
+        pub fn slew_wheel_momentum_rates(c: &Counts, v: &Numbers, u: *const f64, n: usize, out: &mut [f64; 8]);
     }
 }
 
 // Each slice goes with its own length.
-pub fn slew_body_torque(c: &Counts, v: &Numbers, u: &[f64], w: &A3, h: &A3, d: &A4, out: &mut A3, place: &mut usize) -> usize {
-    unsafe { rows::slew_body_torque(c, v, u.as_ptr(), u.len(), w, h, d, out, place) }
+pub fn slew_body_torque(c: &Counts, v: &Numbers, u: &[f64], w: &A3, h: &A3, d: &A4, out: &mut A3) -> usize {
+    unsafe { rows::slew_body_torque(c, v, u.as_ptr(), u.len(), w, h, d, out) }
 }
 
-pub fn slew_project_controls(c: &Counts, v: &Numbers, u: &mut [f64], limit: &A3, place: &mut usize) -> usize {
-    unsafe { rows::slew_project_controls(c, v, u.as_mut_ptr(), u.len(), limit, place) }
+pub fn slew_project_controls(c: &Counts, v: &Numbers, u: &mut [f64], limit: &A3) {
+    unsafe { rows::slew_project_controls(c, v, u.as_mut_ptr(), u.len(), limit) }
 }
 
-pub fn slew_power_excess(c: &Counts, v: &Numbers, u: &[f64], w: &A3, out: &mut f64, place: &mut usize) -> usize {
-    unsafe { rows::slew_power_excess(c, v, u.as_ptr(), u.len(), w, out, place) }
+pub fn slew_power_excess(c: &Counts, v: &Numbers, u: &[f64], w: &A3) -> f64 {
+    unsafe { rows::slew_power_excess(c, v, u.as_ptr(), u.len(), w) }
 }
 
-pub fn slew_momentum_excess(c: &Counts, v: &Numbers, hw: &[f64], out: &mut f64, place: &mut usize) -> usize {
-    unsafe { rows::slew_momentum_excess(c, v, hw.as_ptr(), hw.len(), out, place) }
+pub fn slew_momentum_excess(c: &Counts, v: &Numbers, hw: &[f64]) -> f64 {
+    unsafe { rows::slew_momentum_excess(c, v, hw.as_ptr(), hw.len()) }
 }
 
-pub fn slew_body_momentum(c: &Counts, v: &Numbers, hw: &[f64], out: &mut A3, place: &mut usize) -> usize {
-    unsafe { rows::slew_body_momentum(c, v, hw.as_ptr(), hw.len(), out, place) }
+pub fn slew_body_momentum(c: &Counts, v: &Numbers, hw: &[f64], out: &mut A3) {
+    unsafe { rows::slew_body_momentum(c, v, hw.as_ptr(), hw.len(), out) }
 }
 
-pub fn slew_wheel_momentum_rates(c: &Counts, v: &Numbers, u: &[f64], out: &mut [f64; 8], place: &mut usize) -> usize {
-    unsafe { rows::slew_wheel_momentum_rates(c, v, u.as_ptr(), u.len(), out, place) }
+pub fn slew_wheel_momentum_rates(c: &Counts, v: &Numbers, u: &[f64], out: &mut [f64; 8]) {
+    unsafe { rows::slew_wheel_momentum_rates(c, v, u.as_ptr(), u.len(), out) }
 }
 
 /// Functions over slices: a slice is a pointer and a length there.
@@ -299,9 +299,9 @@ impl Cursor {
     }
 }
 
-/// The rows lent for a mosaic's legs: runs, controls, wheels, iterations, held controls; duration, largest defect; decision; nodes.
+/// The rows lent for a mosaic's legs: runs, controls, wheels, iterations; duration, largest defect; decision; nodes.
 pub struct Lent {
-    pub counts: Vec<[usize; 16]>,
+    pub counts: Vec<[usize; 4]>,
     pub times: Vec<[f64; 2]>,
     pub decisions: Vec<[f64; 193]>,
     pub nodes: Vec<[[f64; 22]; 17]>,
@@ -309,7 +309,7 @@ pub struct Lent {
 
 impl Lent {
     pub fn of(rows: usize) -> Self {
-        Lent { counts: vec![[77; 16]; rows], times: vec![[7.0; 2]; rows], decisions: vec![[7.0; 193]; rows], nodes: vec![[[7.0; 22]; 17]; rows] }
+        Lent { counts: vec![[77; 4]; rows], times: vec![[7.0; 2]; rows], decisions: vec![[7.0; 193]; rows], nodes: vec![[[7.0; 22]; 17]; rows] }
     }
 
     fn floats(&self, k: usize) -> Vec<u64> {
@@ -318,7 +318,7 @@ impl Lent {
 
     /// Whether the rows from k on are as they were lent.
     pub fn untouched_from(&self, k: usize) -> bool {
-        (k..self.counts.len()).all(|i| self.counts[i] == [77; 16] && self.floats(i).iter().all(|x| *x == 7.0f64.to_bits()))
+        (k..self.counts.len()).all(|i| self.counts[i] == [77; 4] && self.floats(i).iter().all(|x| *x == 7.0f64.to_bits()))
     }
 
     /// Whether n rows from one place are another's from another place.
@@ -330,7 +330,7 @@ impl Lent {
     pub fn is_leg(&self, k: usize, leg: &Planned) -> bool {
         let [_, runs, controls, wheels, iterations] = leg.counts;
         let floats = [&leg.duration, &leg.max_defect].into_iter().chain(&leg.z).chain(leg.nodes.iter().flatten());
-        k < self.counts.len() && self.counts[k][..4] == [runs, controls, wheels, iterations] && self.counts[k][4..] == leg.held && floats.map(|x| x.to_bits()).eq(self.floats(k))
+        k < self.counts.len() && self.counts[k] == [runs, controls, wheels, iterations] && floats.map(|x| x.to_bits()).eq(self.floats(k))
     }
 
     /// The first n rows, one after another.
@@ -374,7 +374,7 @@ mod mosaics {
             way: usize,
             tiles: *const A4,
             tiles_len: usize,
-            counts: *mut [usize; 16],
+            counts: *mut [usize; 4],
             counts_len: usize,
             times: *mut [f64; 2],
             times_len: usize,

@@ -12,11 +12,13 @@ fn some(out: &mut Words, answer: Option<f64>) {
     }
 }
 
-fn angle(out: &mut Words, x: f64, of: fn(f64, &mut f64) -> usize) {
+fn angle(out: &mut Words, x: f64, of: fn(f64, &mut f64) -> bool) {
     let mut answer = -7.0;
-    let number = of(x, &mut answer);
-    assert!(number == 0 || answer == -7.0, "a refused angle touched its answer");
-    out.given(number as u64, &[answer]);
+    let given = of(x, &mut answer);
+    if !given {
+        assert!(answer == -7.0, "a refused angle touched its answer");
+    }
+    some(out, given.then_some(answer));
 }
 
 fn one_hostile(r: &mut Random, w: &mut Words) {
@@ -258,8 +260,8 @@ pub const ANGLES: [Entry; 7] = [
         for_turn,
         |i, o| {
             let mut both = [0.0; 2];
-            let number = slew_sin_cos(Reader(i).f(), &mut both);
-            o.given(number as u64, &both);
+            let given = slew_sin_cos(Reader(i).f(), &mut both);
+            o.given(if given { 0 } else { 11 }, &both);
         },
         |i, o| {
             let x = Reader(i).f();
@@ -278,7 +280,7 @@ pub const ANGLES: [Entry; 7] = [
 const BESIDE: [u64; 3] = [300_000, 10_000_000, 0];
 
 /// Ours, and the platform's.
-type Beside = (fn(f64, &mut f64) -> usize, fn(f64) -> f64);
+type Beside = (fn(f64, &mut f64) -> bool, fn(f64) -> f64);
 const SIN: Beside = (|x, a| slew_sin(x, a), f64::sin);
 const COS: Beside = (|x, a| slew_cos(x, a), f64::cos);
 const ACOS: Beside = (|x, a| slew_acos(x, a), f64::acos);
@@ -297,7 +299,7 @@ fn for_platform_arc(r: &mut Random, w: &mut Words) {
 /// How far ours is from the platform's; infinite where ours refuses.
 fn distance(x: f64, (ours, library): Beside) -> f64 {
     let mut answer = 0.0;
-    if ours(x, &mut answer) == 0 { (answer - library(x)).abs() } else { f64::INFINITY }
+    if ours(x, &mut answer) { (answer - library(x)).abs() } else { f64::INFINITY }
 }
 
 /// Whether it is within 2^-48.

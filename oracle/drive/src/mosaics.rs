@@ -124,16 +124,18 @@ fn leg_by_rust(leg: &Plan, way: usize) -> Found {
     if way == BY_SEARCH { by_rust(leg, false) } else { eigenaxis::by_rust(leg, way == GENTLY) }
 }
 
-/// 23, 99 for no way or for too few rows, then the legs in turn, each from the momenta of node 16 of the leg before.
+/// 99 for no way, 23, 99 for too few rows, then the legs in turn, each from the momenta of node 16 of the leg before.
 fn chained(i: &[u64], o: &mut Words) -> bool {
     let m = Mosaic::take(i);
     let (mut duration, mut runs, mut index) = (0.0, 0, 0);
     let mut momenta = m.plan.body[29..].to_vec();
-    let (mut end, mut legs) = ((0, 0, 0), Words::default());
+    let (mut end, mut legs, mut held) = ((0, 0, 0), Words::default(), Words::default());
     let count = m.tiles.len();
-    if !(2..=64).contains(&count) {
+    if m.way > GENTLY {
+        end = (99, 0, 0);
+    } else if !(2..=64).contains(&count) {
         end = (23, 0, 0);
-    } else if m.way > GENTLY || m.rows < count - 1 {
+    } else if m.rows < count - 1 {
         end = (99, 0, 0);
     } else {
         for pair in m.tiles.windows(2) {
@@ -142,12 +144,13 @@ fn chained(i: &[u64], o: &mut Words) -> bool {
                 end = (found.number, found.place, found.tally.runs);
                 break;
             };
-            [found.tally.runs, found.controls as u64, found.wheels as u64, u64::from(nodes.iterations)].iter().chain(&found.tally.held[..12]).for_each(|n| legs.n(*n));
+            [found.tally.runs, found.controls as u64, found.wheels as u64, u64::from(nodes.iterations)].iter().for_each(|n| legs.n(*n));
             legs.f(nodes.duration);
             legs.f(nodes.defect);
             legs.all(decision);
             (decision.len()..193).for_each(|_| legs.f(0.0));
             put_nodes(nodes, &mut legs);
+            found.tally.held[..12].iter().for_each(|n| held.n(*n));
             momenta = (0..8).map(|j| nodes.wheels[16].get(j).copied().unwrap_or(0.0)).collect();
             duration += nodes.duration;
             runs += found.tally.runs;
@@ -159,6 +162,7 @@ fn chained(i: &[u64], o: &mut Words) -> bool {
     o.n(1);
     o.n(1);
     o.0.extend(legs.0);
+    o.0.extend(held.0);
     o.met(["legs answered by the search", "legs answered by eigenaxis", "legs answered by eigenaxis, gently", "no way"][m.way.min(3)], index.max(u64::from(m.way > GENTLY)));
     o.met("mosaics whole", u64::from(end.0 == 0));
     o.met("refused past the first leg", u64::from(end.0 != 0 && index > 0));
@@ -179,18 +183,22 @@ fn whole(m: &Mosaic) -> (Cursor, Lent, bool) {
     (cursor, lent, kept)
 }
 
-/// The port's mosaic leg by leg: the cursor, and whether each leg is the whole mosaic's row and the refused one is told as the cursor has it.
-fn one_by_one(m: &Mosaic, rows: &Lent) -> (Cursor, bool) {
+/// The port's mosaic leg by leg: the cursor, whether each leg is the whole mosaic's row and the refused one is told as the cursor has it, and each leg's counts of held
+/// controls.
+fn one_by_one(m: &Mosaic, rows: &Lent) -> (Cursor, bool, Vec<[usize; 12]>) {
     let mut cursor = Cursor { counts: [0; 5], sums: [0.0; 9] };
     cursor.sums[1..].copy_from_slice(&m.plan.body[29..]);
-    let (mut same, mut ws) = (true, vec![m.plan.fill; m.plan.lent]);
+    let (mut same, mut ws, mut held) = (true, vec![m.plan.fill; m.plan.lent], Vec::new());
     for (k, pair) in m.tiles.windows(2).enumerate() {
         let mut leg = Planned { counts: [77; 5], duration: 1.0, max_defect: 1.0, z: [1.0; 193], nodes: [[1.0; 22]; 17], held: [77; 12] };
         let ended = cursor.counts[2] != 0;
         let number = slew_mosaic_next(&m.plan.flat, &m.plan.body, m.plan.limited, m.way, &pair[0], &pair[1], &mut cursor, &mut ws, &mut leg);
+        if number == 0 {
+            held.push(leg.held);
+        }
         same &= if number == 0 { rows.is_leg(k, &leg) } else { number == cursor.counts[2] && leg.counts[1] == if ended { 0 } else { cursor.counts[4] } };
     }
-    (cursor, same)
+    (cursor, same, held)
 }
 
 /// Whether a leg by no way is 99 with 0 runs, and leaves the cursor and the workspace.
@@ -208,14 +216,15 @@ fn by_port(i: &[u64], o: &mut Words) {
     put_end(o, cursor.counts.map(|n| n as u64), &cursor.sums);
     o.n(u64::from(kept));
     // 23 and 99 are the whole mosaic's own; leg by leg no way is 99 too, and the cursor stays
-    let each = if matches!(cursor.counts[2], 23 | 99) {
-        m.way <= GENTLY || stays(&m)
+    let (each, held) = if matches!(cursor.counts[2], 23 | 99) {
+        (m.way <= GENTLY || stays(&m), Vec::new())
     } else {
-        let (other, same) = one_by_one(&m, &lent);
-        same && other.same(&cursor)
+        let (other, same, held) = one_by_one(&m, &lent);
+        (same && other.same(&cursor), held)
     };
     o.n(u64::from(each));
     lent.put(cursor.counts[0], o);
+    held.iter().flatten().for_each(|n| o.n(*n as u64));
 }
 
 /// Every cut at an inner tile: the first half, the second from its last momenta, and the whole; a word for each, 1 where they are as proved.

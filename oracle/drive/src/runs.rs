@@ -369,9 +369,8 @@ pub const RUNS: [Entry; 13] = [
         |i, o| {
             let mut r = Reader(i);
             let (flat, u, omega, h, delta) = (Flat::take(&mut r), list(&mut r), r.a(), r.a(), r.a());
-            let (mut out, mut place) = ([1.0; 3], 77);
-            let number = slew_body_torque(&flat.counts, &flat.numbers, &u, &omega, &h, &delta, &mut out, &mut place);
-            assert_eq!(place, 0, "a torque's place");
+            let mut out = [1.0; 3];
+            let number = slew_body_torque(&flat.counts, &flat.numbers, &u, &omega, &h, &delta, &mut out);
             o.given(number as u64, &out);
         },
         |i, o| by_map(i, o, |map, r| map.body_torque(&list(r), r.a(), r.a(), r.a()).map(|v| v.to_vec())),
@@ -389,9 +388,8 @@ pub const RUNS: [Entry; 13] = [
         |i, o| {
             let mut r = Reader(i);
             let (flat, mut u, limit) = (Flat::take(&mut r), list(&mut r), r.a());
-            let mut place = 77;
-            let number = slew_project_controls(&flat.counts, &flat.numbers, &mut u, &limit, &mut place);
-            o.given(number as u64, &padded(u, ROW));
+            slew_project_controls(&flat.counts, &flat.numbers, &mut u, &limit);
+            o.given(0, &padded(u, ROW));
         },
         |i, o| {
             by_map(i, o, |map, r| {
@@ -438,8 +436,8 @@ pub const RUNS: [Entry; 13] = [
         |i, o| {
             let mut r = Reader(i);
             let (flat, delta) = (Flat::take(&mut r), r.a());
-            let (mut out, mut place) = (1.0, 77);
-            let number = slew_singularity(&flat.counts, &flat.numbers, &delta, &mut out, &mut place);
+            let mut out = 1.0;
+            let number = slew_singularity(&flat.counts, &flat.numbers, &delta, &mut out);
             o.given(number as u64, &[out]);
         },
         |i, o| by_map(i, o, |map, r| Ok(vec![map.singularity(r.a())])),
@@ -457,9 +455,7 @@ pub const RUNS: [Entry; 13] = [
         |i, o| {
             let mut r = Reader(i);
             let (flat, u, omega) = (Flat::take(&mut r), list(&mut r), r.a());
-            let (mut out, mut place) = (1.0, 77);
-            let number = slew_power_excess(&flat.counts, &flat.numbers, &u, &omega, &mut out, &mut place);
-            o.given(number as u64, &[out]);
+            o.given(0, &[slew_power_excess(&flat.counts, &flat.numbers, &u, &omega)]);
         },
         |i, o| by_map(i, o, |map, r| Ok(vec![map.power_excess(&list(r), r.a())])),
     ),
@@ -475,11 +471,9 @@ pub const RUNS: [Entry; 13] = [
         |i, o| {
             let mut r = Reader(i);
             let (flat, momenta) = (Flat::take(&mut r), list(&mut r));
-            let (mut excess, mut out, mut place) = (1.0, [1.0; 3], 77);
-            let number = slew_body_momentum(&flat.counts, &flat.numbers, &momenta, &mut out, &mut place);
-            let also = slew_momentum_excess(&flat.counts, &flat.numbers, &momenta, &mut excess, &mut place);
-            assert_eq!(number, also, "both prepare the same");
-            o.given(number as u64, &[excess, out[0], out[1], out[2]]);
+            let mut out = [1.0; 3];
+            slew_body_momentum(&flat.counts, &flat.numbers, &momenta, &mut out);
+            o.given(0, &[slew_momentum_excess(&flat.counts, &flat.numbers, &momenta), out[0], out[1], out[2]]);
         },
         |i, o| {
             by_map(i, o, |map, r| {
@@ -517,9 +511,9 @@ pub const RUNS: [Entry; 13] = [
         |i, o| {
             let mut r = Reader(i);
             let (flat, u) = (Flat::take(&mut r), list(&mut r));
-            let (mut out, mut place) = ([1.0; 8], 77);
-            let number = slew_wheel_momentum_rates(&flat.counts, &flat.numbers, &u, &mut out, &mut place);
-            o.given(number as u64, &out);
+            let mut out = [1.0; 8];
+            slew_wheel_momentum_rates(&flat.counts, &flat.numbers, &u, &mut out);
+            o.given(0, &out);
         },
         |i, o| by_map(i, o, |map, r| Ok(padded(map.wheel_momentum_rates(&list(r)), 8))),
     ),
@@ -530,14 +524,9 @@ pub const RUNS: [Entry; 13] = [
         |r, w| maps::hostile(r).put(w),
         |i, o| {
             let flat = Flat::take(&mut Reader(i));
-            // A refusal is that of `prepare`, and leaves the 3 that is lent.
-            let (mut out, mut place) = (3, 77);
-            let number = slew_control_dim(&flat.counts, &flat.numbers, &mut out, &mut place);
-            let (mut wheels, mut thrusters, mut at) = ([1.0; 24], [1.0; 36], 77);
-            let refused = slew_prepare(&flat.counts, &flat.numbers, &mut wheels, &mut thrusters, &mut at);
-            assert_eq!((number, place), (refused, at), "the refusal of prepare");
-            o.n(out as u64);
+            o.n(slew_control_dim(&flat.counts, &flat.numbers) as u64);
         },
+        // The map of a refused `prepare` is blank in the port: three controls.
         |i, o| {
             o.n(prepared(&Flat::take(&mut Reader(i))).map_or(3, |map| map.control_dim() as u64));
             true

@@ -104,7 +104,7 @@ fn waiting(turns: u32, name: &str, ours: impl Fn(f64) -> f64, rust: impl Fn(f64)
     line(name, NANOSECONDS * 1024.0, a.least, None, Some(b));
 }
 
-fn given(x: f64, of: fn(f64, &mut f64) -> usize) -> f64 {
+fn given(x: f64, of: fn(f64, &mut f64) -> bool) -> f64 {
     let mut answer = 0.0;
     of(x, &mut answer);
     answer

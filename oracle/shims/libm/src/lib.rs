@@ -5,9 +5,9 @@ use std::cell::Cell;
 use std::sync::atomic::{AtomicBool, Ordering};
 
 unsafe extern "C" {
-    fn slew_sin(x: f64, answer: &mut f64) -> usize;
-    fn slew_cos(x: f64, answer: &mut f64) -> usize;
-    fn slew_acos(x: f64, answer: &mut f64) -> usize;
+    fn slew_sin(x: f64, answer: &mut f64) -> bool;
+    fn slew_cos(x: f64, answer: &mut f64) -> bool;
+    fn slew_acos(x: f64, answer: &mut f64) -> bool;
 }
 
 static PLATFORM: AtomicBool = AtomicBool::new(false);
@@ -38,10 +38,10 @@ pub fn outside_at() -> Option<(u64, u64)> {
     OUTSIDE_AT.with(Cell::take)
 }
 
-fn ours(x: f64, of: unsafe extern "C" fn(f64, &mut f64) -> usize) -> f64 {
+fn ours(x: f64, of: unsafe extern "C" fn(f64, &mut f64) -> bool) -> f64 {
     let mut answer = f64::NAN;
     // The functions take any float and write through a reference to one.
-    if unsafe { of(x, &mut answer) } != 0 {
+    if !unsafe { of(x, &mut answer) } {
         OUTSIDE_AT.with(|first| first.set(first.get().or(Some(MARK.with(Cell::get)))));
     }
     answer
