@@ -24,29 +24,21 @@ returns_2 c =
 
 add-result : tie.Need-overflow_add-result
 add-result c =
-    let branch1 = c.before.before.before in
-    let after-is-sized = branch1.before in
-    let s = sized_counts _ (sym after-is-sized.is_sized.ensures ∙ not-false after-is-sized.is_sized.result branch1.if-not-is_sized.false) in
+    let s = sized_counts _ (sym c.is_sized.ensures ∙ not-false c.is_sized.result c.if-not-is_sized.false) in
     omega arith
 
 add-result-2 : tie.Need-overflow_add-result-2
 add-result-2 c =
-    let branch1 = c.before.before.before.before in
-    let after-is-sized = branch1.before in
-    let start = after-is-sized.before in
-    let s = sized_counts _ (sym after-is-sized.is_sized.ensures ∙ not-false after-is-sized.is_sized.result branch1.if-not-is_sized.false) in
-    omega (arith, c.gimbals.ensures, gimbals_most start.args.map.cmgs)
+    let s = sized_counts _ (sym c.is_sized.ensures ∙ not-false c.is_sized.result c.if-not-is_sized.false) in
+    omega (arith, c.gimbals.ensures, gimbals_most c.args.map.cmgs)
 
 returns_3 : tie.Need-returns
 unfolding control_dim
 returns_3 c =
-    let after-is-empty = c.before.before.before in
-    let branch1 = after-is-empty.before in
-    let after-is-sized = branch1.before in
     rw (
-      ← after-is-sized.is_sized.ensures,
-      not-false after-is-sized.is_sized.result branch1.if-not-is_sized.false,
-      ← after-is-empty.is_empty.ensures,
+      ← c.is_sized.ensures,
+      not-false c.is_sized.result c.if-not-is_sized.false,
+      ← c.is_empty.ensures,
       c.if-is_empty.false,
       c.gimbals.ensures,
     )

@@ -27,8 +27,7 @@ loop-again c =
 
 returns : tie.Need-returns invariant_loop decreases_loop
 returns c =
-    let entry = c.before.before.before.before in
-    let e : c.loop-i.i ≡ entry.args.n = omega arith in
+    let e : c.loop-i.i ≡ c.args.n = omega arith in
     rw (← e) c.loop-i.invariant.1.1
 
 pub hold_part_spec : {M : Type 1} → statement M

@@ -5,8 +5,7 @@ use Rattle.control_rows.proofs.gimbal_part.Tie as tie
 
 pyramid-part-requires : tie.Need-pyramid_part-requires
 pyramid-part-requires c κs =
-    let entry = c.before.before in
-    rw c.in-With.is at entry.requires
+    rw c.in-With.is at c.requires
 
 returns_2 : tie.Need-returns-in-With
 returns_2 c = rw c.in-With.is c.pyramid_part.ensures

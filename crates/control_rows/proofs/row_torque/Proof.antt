@@ -9,21 +9,15 @@ use Rattle.control_rows.proofs.row_torque.Tie as tie
 
 shared-slice-read-t10 : tie.Need-bounds-u-0
 shared-slice-read-t10 c =
-    let entry = c.before.before.before.before in
-    omega (arith, bare_room entry.requires (sym c.is_bare.ensures ∙ c.if-is_bare.true))
+    omega (arith, bare_room c.requires (sym c.is_bare.ensures ∙ c.if-is_bare.true))
 
 shared-slice-read-t12 : tie.Need-bounds-u-1
 shared-slice-read-t12 c =
-    let after-is-bare = c.before.before.before in
-    let start = after-is-bare.before.before in
-    omega (arith, bare_room start.requires (sym after-is-bare.is_bare.ensures ∙ c.if-is_bare.true))
+    omega (arith, bare_room c.requires (sym c.is_bare.ensures ∙ c.if-is_bare.true))
 
 shared-slice-read-t14 : tie.Need-bounds-u-2
 shared-slice-read-t14 c =
-    let branch1 = c.before.before.before in
-    let after-is-bare = branch1.before in
-    let start = after-is-bare.before.before in
-    omega (arith, bare_room start.requires (sym after-is-bare.is_bare.ensures ∙ branch1.if-is_bare.true))
+    omega (arith, bare_room c.requires (sym c.is_bare.ensures ∙ c.if-is_bare.true))
 
 returns : tie.Need-returns-then-is_bare
 unfolding Parts.row_torque

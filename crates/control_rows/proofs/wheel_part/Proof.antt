@@ -12,9 +12,7 @@ returns c = rw (eq-eqb _ _ c.if-n-eq0.true)
 returns_2 : tie.Need-returns
 unfolding Parts.wheel_part lib.Ieee.of_bits lib.Ieee.neg
 returns_2 c =
-    let after-axis-sum = c.before.before.before in
-    let branch1 = after-axis-sum.before.before in
-    rw (c.wheel_by.ensures, c.add3.ensures, c.scale3.ensures, after-axis-sum.axis_sum-eta.ensures, ne_eqb _ _ branch1.if-n-eq0.false)
+    rw (c.wheel_by.ensures, c.add3.ensures, c.scale3.ensures, c.axis_sum-eta.ensures, ne_eqb _ _ c.if-n-eq0.false)
 
 pub wheel_part_spec : {M : Type 1} → statement M
 wheel_part_spec = tie.close (tie.spec returns (λ c κs. search rules) (λ c κs. search rules) (λ c κs. search rules) (λ c κs. search rules) returns_2)

@@ -14,31 +14,19 @@ row-fits-requires c κs = rw c.gimbals.ensures (gimbals_most c.args.map.cmgs)
 returns : tie.Need-returns-then-not-row_fits
 unfolding Controls.body_torque lib.Ieee.of_bits
 returns c =
-    let after-row-fits = c.before.before.before in
-    let after-gimbals = after-row-fits.before in
-    let after-rig-of = after-gimbals.before in
-    let rig = after-rig-of.rig_of-rig.ensures in
-    let e = rw (rig, after-gimbals.gimbals.ensures) at (sym after-row-fits.row_fits.ensures ∙ c.if-not-row_fits.true) in
+    let rig = c.rig_of-rig.ensures in
+    let e = rw (rig, c.gimbals.ensures) at (sym c.row_fits.ensures ∙ c.if-not-row_fits.true) in
     rw (c.torque_by.ensures, c.short_row.ensures, rig, e)
 
 row-torque-requires : tie.Need-row_torque-tau-requires
 row-torque-requires c κs =
-    let branch1 = c.before.before.before.before.before.before in
-    let after-row-fits = branch1.before in
-    let after-gimbals = after-row-fits.before in
-    let after-rig-of = after-gimbals.before in
-    rw after-rig-of.rig_of-rig.ensures (row_fits_sized (rw (after-rig-of.rig_of-rig.ensures, after-gimbals.gimbals.ensures) at (sym after-row-fits.row_fits.ensures ∙ branch1.if-not-row_fits.false)))
+    rw c.rig_of-rig.ensures (row_fits_sized (rw (c.rig_of-rig.ensures, c.gimbals.ensures) at (sym c.row_fits.ensures ∙ c.if-not-row_fits.false)))
 
 returns_2 : tie.Need-returns
 unfolding Controls.body_torque
 returns_2 c =
-    let after-matrix = c.before.before.before.before.before.before.before in
-    let branch1 = after-matrix.before in
-    let after-row-fits = branch1.before in
-    let after-gimbals = after-row-fits.before in
-    let after-rig-of = after-gimbals.before in
-    let e = rw (after-rig-of.rig_of-rig.ensures, after-gimbals.gimbals.ensures) at (sym after-row-fits.row_fits.ensures ∙ branch1.if-not-row_fits.false) in
-    rw (c.torque_by-2.ensures, c.row_torque-tau.ensures, after-matrix.matrix-made.ensures, after-rig-of.rig_of-rig.ensures, e)
+    let e = rw (c.rig_of-rig.ensures, c.gimbals.ensures) at (sym c.row_fits.ensures ∙ c.if-not-row_fits.false) in
+    rw (c.torque_by-2.ensures, c.row_torque-tau.ensures, c.matrix-made.ensures, c.rig_of-rig.ensures, e)
 
 pub body_torque_spec : {M : Type 1} → statement M
 body_torque_spec =

@@ -15,18 +15,13 @@ returns c =
 
 project-row-requires : tie.Need-project_row-requires
 project-row-requires c κs =
-    let branch1 = c.before.before.before.before.before in
-    let after-row-fits = branch1.before in
-    row_fits_sized (sym after-row-fits.row_fits.ensures ∙ branch1.if-not-row_fits.false)
+    row_fits_sized (sym c.row_fits.ensures ∙ c.if-not-row_fits.false)
 
 returns_2 : tie.Need-returns
 unfolding Controls.project_controls
 returns_2 c =
-    let branch1 = c.before.before.before.before.before.before.before.before in
-    let after-row-fits = branch1.before in
-    let after-rig-of = after-row-fits.before in
-    let e = rw after-rig-of.rig_of-rig.ensures at (sym after-row-fits.row_fits.ensures ∙ branch1.if-not-row_fits.false) in
-    rw (c.project_row.ensures, after-rig-of.rig_of-rig.ensures, e)
+    let e = rw c.rig_of-rig.ensures at (sym c.row_fits.ensures ∙ c.if-not-row_fits.false) in
+    rw (c.project_row.ensures, c.rig_of-rig.ensures, e)
 
 pub project_controls_spec : {M : Type 1} → statement M
 project_controls_spec = tie.close (tie.spec (λ c κs. search rules) (λ c κs. search rules) returns project-row-requires (λ c. search rules) returns_2)

@@ -24,9 +24,7 @@ returns_3 c =
 returns-4 : tie.Need-returns
 unfolding Controls.row_fits_value Parts.width
 returns-4 c =
-    let branch2 = c.before.before.before in
-    let branch1 = branch2.before.before in
-    rw (le-leb _ _ branch1.if-r-gt-MAX_WHEELS.false, le-leb _ _ branch2.if-r-gt-MAX_THRUSTERS.false, sym c.is_bare.ensures ∙ c.if-is_bare.false)
+    rw (le-leb _ _ c.if-r-gt-MAX_WHEELS.false, le-leb _ _ c.if-r-gt-MAX_THRUSTERS.false, sym c.is_bare.ensures ∙ c.if-is_bare.false)
 
 pub row_fits_spec : {M : Type 1} → statement M
 row_fits_spec = tie.close (tie.spec returns returns_2 (λ c κs. search rules) returns_3 (λ c. search rules) (λ c. search rules) returns-4)

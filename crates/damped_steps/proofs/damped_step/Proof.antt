@@ -9,19 +9,17 @@ use Rattle.damped_steps.proofs.damped_step.Tie as tie
 
 solve-dense-requires : tie.Need-solve_dense-requires
 solve-dense-requires c κs =
-    let entry = c.before.before.before.before.before.before.before.before.before.before.before.before in
     let t = c.equations in
     let e = t.auto.g in
-    (omega (arith, e, entry.requires.0), matrix_fits (length entry.args.g.now) entry.args.m _ t.new.v e (t.auto.v ∙ entry.requires.2))
+    (omega (arith, e, c.requires.0), matrix_fits (length c.args.g.now) c.args.m _ t.new.v e (t.auto.v ∙ c.requires.2))
 
 returns : tie.Need-returns
 returns c =
-    let entry = c.before.before.before.before.before.before.before.before.before.before.before.before.before.before.before.before.before in
-    let a = entry.args in
+    let a = c.args in
     let t = c.equations in
     let s = c.solve_dense in
     step_solved (length a.g.now) a.m _ a.v.now a.r.now a.lambda t.new.v t.new.g s.new.a s.new.b s.result
-    t.auto.g (t.auto.v ∙ entry.requires.2) t.ensures s.ensures
+    t.auto.g (t.auto.v ∙ c.requires.2) t.ensures s.ensures
 
 pub damped_step_spec : {M : Type 1} → statement M
 damped_step_spec =

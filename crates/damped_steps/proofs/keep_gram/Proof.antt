@@ -16,10 +16,9 @@ slice-aggregate-copy c = sym (length-take-le _ _ (omega arith))
 
 copy-requires : tie.Need-copy-requires
 copy-requires c κs =
-    let entry = c.before.before.before.before.before.before.before.before.before in
-    let a = entry.args in
+    let a = c.args in
     let t = c.gram_matrix in
-    matrix_fits a.n a.m a.n t.new.v refl (t.auto.v ∙ entry.requires.1) ∙ sym (length-take-le (a.n * a.n) a.gram.now (omega arith))
+    matrix_fits a.n a.m a.n t.new.v refl (t.auto.v ∙ c.requires.1) ∙ sym (length-take-le (a.n * a.n) a.gram.now (omega arith))
 
 returns_2 : tie.Need-returns
 returns_2 c =

@@ -15,27 +15,24 @@ slice-aggregate-kept-equations c = sym (length-take-le _ _ (omega arith))
 
 kept-equations-requires : tie.Need-kept_equations-requires
 kept-equations-requires c κs =
-    let entry = c.before.before.before.before.before.before.before in
-    let a = entry.args in
+    let a = c.args in
     let n : ℕ = length a.g.now in
     let h : n * n ≤ length a.gram.now = omega arith in
-    (entry.requires.0, entry.requires.1, entry.requires.2, length-take-le (n * n) a.gram.now h, rows_take n n a.gram.now h ∙ entry.requires.3 h)
+    (c.requires.0, c.requires.1, c.requires.2, length-take-le (n * n) a.gram.now h, rows_take n n a.gram.now h ∙ c.requires.3 h)
 
 solve-dense-requires : tie.Need-solve_dense-requires
 solve-dense-requires c κs =
-    let entry = c.before.before.before.before.before.before.before.before.before.before.before.before.before.before in
     let t = c.kept_equations in
     let e = t.auto.g in
-    (omega (arith, e, entry.requires.0), matrix_fits (length entry.args.g.now) entry.args.m _ t.new.v e (t.auto.v ∙ entry.requires.2))
+    (omega (arith, e, c.requires.0), matrix_fits (length c.args.g.now) c.args.m _ t.new.v e (t.auto.v ∙ c.requires.2))
 
 returns_2 : tie.Need-returns
 returns_2 c =
-    let entry = c.before.before.before.before.before.before.before.before.before.before.before.before.before.before.before.before.before.before.before in
-    let a = entry.args in
+    let a = c.args in
     let t = c.kept_equations in
     let s = c.solve_dense in
     step_solved (length a.g.now) a.m _ a.v.now a.r.now a.lambda t.new.v t.new.g s.new.a s.new.b s.result
-    t.auto.g (t.auto.v ∙ entry.requires.2) t.ensures s.ensures
+    t.auto.g (t.auto.v ∙ c.requires.2) t.ensures s.ensures
 
 pub kept_step_spec : {M : Type 1} → statement M
 kept_step_spec =

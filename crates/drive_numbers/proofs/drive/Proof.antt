@@ -9,16 +9,14 @@ use Rattle.drive_numbers.proofs.drive.Tie as tie
 returns : tie.Need-returns-in-Refused
 unfolding drive
 returns c =
-    let f = c.before.before in
-    let a = f.args in
-    c.refused.ensures ∙ ap (λ (w : Fate). driven_by w a.made.sample a.index) (sym f.in-Refused.is)
+    let a = c.args in
+    c.refused.ensures ∙ ap (λ (w : Fate). driven_by w a.made.sample a.index) (sym c.in-Refused.is)
 
 returns_2 : tie.Need-returns-in-Going
 unfolding drive
 returns_2 c =
-    let f = c.before in
-    let a = f.args in
-    c.numbered.ensures ∙ ap (λ (w : Fate). driven_by w a.made.sample a.index) (sym f.in-Going.is)
+    let a = c.args in
+    c.numbered.ensures ∙ ap (λ (w : Fate). driven_by w a.made.sample a.index) (sym c.in-Going.is)
 
 pub drive_spec : {M : Type 1} → statement M
 drive_spec = tie.close (tie.spec (λ c. search rules) (λ c κs. search rules) (λ c. search rules) (λ c κs. search rules) returns returns_2)

@@ -41,8 +41,7 @@ returns c = c.placed.ensures ∙ (fine c.before).is ∙ ap (part _) (sym c.in-Fi
 
 returns_2 : tie.Need-returns-else-a
 returns_2 c =
-    let entry = c.before.before.before in
-    is_outside entry.args.x c.size-a.result (in_format c.before.before.before) c.size-a.ensures Unit.Fine c.if-a.false
+    is_outside c.args.x c.size-a.result (in_format c.before.before.before) c.size-a.ensures Unit.Fine c.if-a.false
     ∙ ap (part _) (sym c.in-Fine.is)
 
 returns_3 : tie.Need-returns-then-a-2
@@ -50,8 +49,7 @@ returns_3 c = c.placed-then-a-2.ensures ∙ (coarse c.before).is ∙ ap (part _)
 
 returns-4 : tie.Need-returns-else-a-2
 returns-4 c =
-    let entry = c.before.before.before in
-    is_outside entry.args.x c.size-a.result (in_format c.before.before.before) c.size-a.ensures Unit.Coarse c.if-a-2.false
+    is_outside c.args.x c.size-a.result (in_format c.before.before.before) c.size-a.ensures Unit.Coarse c.if-a-2.false
     ∙ ap (part _) (sym c.in-Coarse.is)
 
 pub part_spec : {M : Type 1} → statement M

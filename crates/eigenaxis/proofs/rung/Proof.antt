@@ -8,29 +8,26 @@ use Rattle.eigenaxis.proofs.rung.Tie as tie
 
 returns : tie.Need-returns-then-not-seeding
 returns c =
-    let entry = c.before.before.before.before.before in
     let z = c.seed_at-seeding in
-    let t = entry.args.t in
+    let t = c.args.t in
     (c.passed.ensures ∙ rung_over _ _ _ _ t z.ensures (not-true z.result.fits c.if-not-seeding.true), keeps_over _ _ _ t c.passed.ensures)
 
 returns_2 : tie.Need-returns-in-Refused
 returns_2 c =
-    let entry = c.before.before.before.before.before.before.before.before.before.before in
     let if1 = c.if-not-seeding in
     let tried = c.tried-planned in
     let z = c.seed_at-seeding in
     let e = tried.ensures in
-    let t = entry.args.t in
+    let t = c.args.t in
     (c.passed-in-Refused.ensures ∙ rung_refused _ _ _ _ t z.ensures (not-false z.result.fits if1.false) e.0.0 c.in-Refused.is, keeps_refused _ _ _ t _ c.passed-in-Refused.ensures e.1.0)
 
 returns_3 : tie.Need-returns-in-Going
 returns_3 c =
-    let entry = c.before.before.before.before.before.before.before.before.before.before in
     let if1 = c.if-not-seeding in
     let tried = c.tried-planned in
     let z = c.seed_at-seeding in
     let e = tried.ensures in
-    let t = entry.args.t in
+    let t = c.args.t in
     (c.reached.ensures ∙ rung_reached _ _ _ _ t z.ensures (not-false z.result.fits if1.false) e.0.0 c.in-Going.is, keeps_reached _ _ _ t _ c.reached.ensures e.1.0 z.ensures e.1.1)
 
 pub rung_spec : {M : Type 1} → statement M

@@ -7,10 +7,8 @@ use Rattle.eigenaxis_samples.proofs.plan_eigenaxis_course.Tie as tie
 
 returns : tie.Need-returns
 returns c =
-    let at-planned = c.before.before.before.before in
-    let at_read = at-planned.before.before.before in
-    let made = at-planned.plan_eigenaxis_read-a.ensures in
-    (course_planned _ _ _ at_read.read-read.ensures made.0 c.alpha_of.ensures c.course_of.ensures, rw (c.course_of.ensures, runs_of) made.1)
+    let made = c.plan_eigenaxis_read-a.ensures in
+    (course_planned _ _ _ c.read-read.ensures made.0 c.alpha_of.ensures c.course_of.ensures, rw (c.course_of.ensures, runs_of) made.1)
 
 pub plan_eigenaxis_course_spec : {M : Type 1} → statement M
 plan_eigenaxis_course_spec = tie.close (tie.spec (search rules) (search rules) (search rules) (search rules) (search rules) returns)

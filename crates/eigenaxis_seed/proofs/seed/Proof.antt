@@ -24,9 +24,8 @@ loop-again c = (omega arith, (c.loop-i.invariant.1.0, iter_next _ _ _ c.loop-i.i
 returns : tie.Need-returns invariant_loop decreases_loop
 unfolding Seeds.seed
 returns c =
-    let l = c.before in
-    let e : l.loop-i.i ≡ 16 = omega arith in
-    rw (← l.norm3.ensures, ← l.rising-k.ensures.0, ← l.start-s.ensures, ← e) l.loop-i.invariant.1.1
+    let e : c.loop-i.i ≡ 16 = omega arith in
+    rw (← c.norm3.ensures, ← c.rising-k.ensures.0, ← c.start-s.ensures, ← e) c.loop-i.invariant.1.1
 
 pub seed_spec : {M : Type 1} → statement M
 seed_spec = tie.close (tie.spec invariant_loop decreases_loop (λ c κs. search rules) (λ c κs. search rules) (λ c κs. search rules) loop-holds (λ c κs. (c.loop-i.invariant.1.0, omega arith)) (λ c. search rules) (λ c. search rules) loop-again returns)

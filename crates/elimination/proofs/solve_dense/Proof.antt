@@ -22,11 +22,10 @@ abbrev decreases_loop : tie.decreases-loop-k
 decreases_loop a₀ b₀ n top₀ next₀ spare₀ col₀ k₀ a b top next spare col k = length b₀ - k
 
 columns-requires : tie.Need-columns-requires invariant_loop decreases_loop
-columns-requires c κs = let s = c.before.before.before.before.before.before.before.before.before.before in
-    let l = c.loop-k in
-    let n : ℕ = length s.args.b.now in
+columns-requires c κs = let l = c.loop-k in
+    let n : ℕ = length c.args.b.now in
     let e : n ≡ length l.b = sym l.invariant.6 in (
-      record { matrix = l.invariant.5 ∙ s.requires.1 ∙ ap (λ k. k * k) e; tops = length-take-le n l.top (omega arith) ∙ e; spares = length-take-le n l.spare (omega arith) ∙ e },
+      record { matrix = l.invariant.5 ∙ c.requires.1 ∙ ap (λ k. k * k) e; tops = length-take-le n l.top (omega arith) ∙ e; spares = length-take-le n l.spare (omega arith) ∙ e },
       length-take-le n l.next (omega arith) ∙ e,
       length-take-le n l.col (omega arith) ∙ e,
       omega arith,
@@ -73,17 +72,15 @@ loop-again c = let a = c.args in
 returns_2 : tie.Need-returns-then-k-n invariant_loop decreases_loop
 unfolding Elimination.solve_dense
 returns_2 c =
-    let entry = c.before.before.before.before.before in
     let l = c.loop-k in
-    let e : l.k ≡ length entry.args.b.now = omega arith in
+    let e : l.k ≡ length c.args.b.now = omega arith in
     ap Elimination.solution_of (rw e at l.invariant.7)
 
 column-requires : tie.Need-column-requires invariant_loop decreases_loop
-column-requires c κs = let s = c.before.before.before.before.before.before.before.before.before.before in
-    let l = c.loop-k in
-    let n : ℕ = length s.args.b.now in
+column-requires c κs = let l = c.loop-k in
+    let n : ℕ = length c.args.b.now in
     let e : n ≡ length l.b = sym l.invariant.6 in (
-      record { matrix = l.invariant.5 ∙ s.requires.1 ∙ ap (λ k. k * k) e; tops = length-take-le n l.top (omega arith) ∙ e; spares = length-take-le n l.spare (omega arith) ∙ e },
+      record { matrix = l.invariant.5 ∙ c.requires.1 ∙ ap (λ k. k * k) e; tops = length-take-le n l.top (omega arith) ∙ e; spares = length-take-le n l.spare (omega arith) ∙ e },
       length-take-le n l.col (omega arith) ∙ e,
       omega arith,
     )

@@ -8,8 +8,7 @@ use Rattle.end_checks.proofs.end_checks.Tie as tie
 returns : tie.Need-returns-then-norm3
 unfolding Ends.end_fate Ieee.of_bits
 returns c =
-    let told = c.before.before.before in
-    rw (← told.rotation_between-error.ensures, told.in-By.is, ← c.norm3.ensures, c.if-norm3.true)
+    rw (← c.rotation_between-error.ensures, c.in-By.is, ← c.norm3.ensures, c.if-norm3.true)
 
 returns_2 : tie.Need-returns-in-Outside
 unfolding Ends.end_fate Ieee.of_bits
@@ -18,8 +17,7 @@ returns_2 c = rw (← c.rotation_between-error.ensures, c.in-Outside.is)
 returns_3 : tie.Need-returns-else-norm3
 unfolding Ends.end_fate Ieee.of_bits
 returns_3 c =
-    let told = c.before.before.before.before in
-    rw (← told.rotation_between-error.ensures, told.in-By.is, ← c.norm3.ensures, c.if-norm3.false) c.rest_fate.ensures
+    rw (← c.rotation_between-error.ensures, c.in-By.is, ← c.norm3.ensures, c.if-norm3.false) c.rest_fate.ensures
 
 pub end_checks_spec : {M : Type 1} → statement M
 end_checks_spec =

@@ -5,8 +5,7 @@ use Rattle.export_board.proofs.slew_board_part.Tie as tie
 
 returns : tie.Need-returns
 returns c =
-    let made = c.before.before in
-    let e = rw made.unit_of.ensures at made.part.ensures in
+    let e = rw c.unit_of.ensures at c.part.ensures in
     rw (← e) c.put_part.ensures
 
 pub slew_board_part_spec : {M : Type 1} → statement M

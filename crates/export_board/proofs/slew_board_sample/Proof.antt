@@ -6,9 +6,8 @@ use Rattle.export_board.proofs.slew_board_sample.Tie as tie
 
 returns : tie.Need-returns
 returns c =
-    let made = c.before.before.before in
-    let e = rw made.tensor-inertia.ensures at made.drive_sample-made.ensures in
-    let driven = made.drive_sample-made.result in
+    let e = rw c.tensor-inertia.ensures at c.drive_sample-made.ensures in
+    let driven = c.drive_sample-made.result in
     let told = placed (of_fate_law driven.numbers driven.fate) c.place_of.ensures c.number_of_lem.ensures in
     record { placed = rw e at told; numbers_are = rw e }
 

@@ -5,10 +5,8 @@ use Rattle.export_eigenaxis.proofs.slew_plan_eigenaxis_numbers.Tie as tie
 
 returns : tie.Need-returns
 returns c =
-    let made = c.before.before.before.before.before.before.before.before.before in
-    let problem = made.before.before in
-    let is = rw (problem.problem_of-p.ensures, problem.shape_of-shape.ensures) at made.plan_counted-planned.ensures.0 in
-    record { plan_told = rw is at c.put_planned.ensures; left = rw (made.plan_counted-planned.ensures.1.0, is) }
+    let is = rw (c.problem_of-p.ensures, c.shape_of-shape.ensures) at c.plan_counted-planned.ensures.0 in
+    record { plan_told = rw is at c.put_planned.ensures; left = rw (c.plan_counted-planned.ensures.1.0, is) }
 
 pub slew_plan_eigenaxis_numbers_spec : {M : Type 1} → statement M
 slew_plan_eigenaxis_numbers_spec =

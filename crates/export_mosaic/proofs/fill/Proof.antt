@@ -7,14 +7,11 @@ use Rattle.export_mosaic.proofs.fill.Tie as tie
 
 returns : tie.Need-returns-in-By
 returns c =
-    let made = c.before.before.before.before.before.before in
-    let by = made.before.before.before.before.before.before.before in
-    fills_by _ _ (sym by.in-By.is ∙ by.asked_of-asked.ensures) made.plan_mosaic.ensures
+    fills_by _ _ (sym c.in-By.is ∙ c.asked_of-asked.ensures) c.plan_mosaic.ensures
 
 returns_2 : tie.Need-returns-in-Unknown
 returns_2 c =
-    let told = c.before.before in
-    fills_not _ _ (sym told.in-Unknown.is ∙ told.asked_of-asked.ensures) c.start.ensures c.halted.ensures
+    fills_not _ _ (sym c.in-Unknown.is ∙ c.asked_of-asked.ensures) c.start.ensures c.halted.ensures
 
 pub fill_spec : {M : Type 1} → statement M
 fill_spec =

@@ -5,9 +5,7 @@ use Rattle.export_mosaic.proofs.slew_mosaic.Tie as tie
 
 returns : tie.Need-returns
 returns c =
-    let made = c.before.before.before.before.before.before.before.before.before in
-    let p = made.before.before.before.before.before.before in
-    let e = rw p.problem_of-p.ensures at made.fill-made.ensures in
+    let e = rw c.problem_of-p.ensures at c.fill-made.ensures in
     record { cursor_told = rw e.cursor at c.put_cursor.ensures; filled = rw e.cursor at e }
 
 pub slew_mosaic_spec : {M : Type 1} → statement M

@@ -10,12 +10,11 @@ returns c =
     let to = made.before.before in
     let from = to.before.before in
     let at = from.before.before in
-    let p = at.before.before.before.before in
-    let e = rw (p.problem_of-p.ensures, at.cursor_of-at.ensures, from.quat_of.ensures, to.quat_of-2.ensures) at made.turn-made.ensures.0 in
+    let e = rw (c.problem_of-p.ensures, c.cursor_of-at.ensures, c.quat_of.ensures, c.quat_of-2.ensures) at c.turn-made.ensures.0 in
     record {
-      counts_are = rw e at put.put_cursor.ensures.counts_are;
-      sums_are = rw e at put.put_cursor.ensures.sums_are;
-      leg_told = record { plan_told = rw e at c.put_planned.ensures; left = rw e at made.turn-made.ensures.1 };
+      counts_are = rw e at c.put_cursor.ensures.counts_are;
+      sums_are = rw e at c.put_cursor.ensures.sums_are;
+      leg_told = record { plan_told = rw e at c.put_planned.ensures; left = rw e at c.turn-made.ensures.1 };
     }
 
 pub slew_mosaic_next_spec : {M : Type 1} → statement M

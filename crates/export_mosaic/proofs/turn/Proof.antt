@@ -7,9 +7,7 @@ use Rattle.export_mosaic.proofs.turn.Tie as tie
 
 returns : tie.Need-returns-in-By
 returns c =
-    let made = c.before.before in
-    let by = made.before.before.before in
-    turn_by _ _ _ _ (sym by.in-By.is ∙ by.asked_of-asked.ensures) made.next.ensures
+    turn_by _ _ _ _ (sym c.in-By.is ∙ c.asked_of-asked.ensures) c.next.ensures
 
 returns_2 : tie.Need-returns-in-Unknown
 returns_2 c = turn_none _ _ _ _ (sym c.in-Unknown.is ∙ c.asked_of-asked.ensures) c.refused.ensures

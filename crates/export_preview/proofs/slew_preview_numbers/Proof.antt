@@ -5,12 +5,9 @@ use Rattle.export_preview.proofs.slew_preview_numbers.Tie as tie
 
 returns : tie.Need-returns
 returns c =
-    let put = c.before.before.before.before.before.before.before.before in
-    let made = put.before.before.before.before.before in
-    let momenta = made.before.before in
-    let is = rw (momenta.problem_of-p.ensures, momenta.momenta_of-m.ensures) at made.preview-made.ensures.0 in (
-      record { plan_told = rw is at c.put_planned.ensures; left = rw (made.preview-made.ensures.1.0, is) },
-      (rw (put.put_began.ensures.0, is), rw (put.put_began.ensures.1, is)),
+    let is = rw (c.problem_of-p.ensures, c.momenta_of-m.ensures) at c.preview-made.ensures.0 in (
+      record { plan_told = rw is at c.put_planned.ensures; left = rw (c.preview-made.ensures.1.0, is) },
+      (rw (c.put_began.ensures.0, is), rw (c.put_began.ensures.1, is)),
     )
 
 pub slew_preview_numbers_spec : {M : Type 1} → statement M

@@ -5,9 +5,7 @@ use Rattle.export_preview.proofs.slew_start.Tie as tie
 
 returns : tie.Need-returns
 returns c =
-    let made = c.before.before.before.before in
-    let last = made.before in
-    let is = rw (last.last_of-last.ensures, last.momenta_of-from.ensures) at made.commit-made.ensures in
+    let is = rw (c.last_of-last.ensures, c.momenta_of-from.ensures) at c.commit-made.ensures in
     record {
       number_is = rw (c.number_of_lem.ensures, is);
       place_is = rw (c.place_of.ensures, is);

@@ -6,8 +6,7 @@ use Rattle.export_samples.proofs.slew_sample_list.Tie as tie
 
 returns : tie.Need-returns
 returns c =
-    let made = c.before.before.before in
-    let e = rw made.tensor-inertia.ensures at made.sample_list-made.ensures in
+    let e = rw c.tensor-inertia.ensures at c.sample_list-made.ensures in
     (told e c.number_of_lem.ensures c.place_of.ensures, written e)
 
 pub slew_sample_list_spec : {M : Type 1} → statement M

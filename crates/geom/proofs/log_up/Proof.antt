@@ -14,20 +14,12 @@ returns c =
 returns_2 : tie.Need-returns-in-Is
 unfolding log_at of_bits neg
 returns_2 c =
-    let after-half = c.before.before.before.before in
-    let after-acos = after-half.before.before in
-    let after-clamp = after-acos.before in
-    let branch1 = after-clamp.before in
-    let after-norm3 = branch1.before in
-    rw (← after-norm3.norm3-n.ensures, branch1.if-n.false, ← after-clamp.clamp.ensures, ← after-acos.acos-half.ensures, after-half.half.given.1)
+    rw (← c.norm3-n.ensures, c.if-n.false, ← c.clamp.ensures, ← c.acos-half.ensures, c.in-Is.is)
 
 returns_3 : tie.Need-returns-in-Outside
 unfolding log_at of_bits neg
 returns_3 c =
-    let after-clamp = c.before.before in
-    let branch1 = after-clamp.before in
-    let after-norm3 = branch1.before in
-    rw (← after-norm3.norm3-n.ensures, branch1.if-n.false, ← after-clamp.clamp.ensures, ← c.acos-half.ensures, c.in-Outside.is)
+    rw (← c.norm3-n.ensures, c.if-n.false, ← c.clamp.ensures, ← c.acos-half.ensures, c.in-Outside.is)
 
 pub log_up_spec : {M : Type 1} → statement M
 log_up_spec =

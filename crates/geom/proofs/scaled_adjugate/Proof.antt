@@ -7,11 +7,7 @@ use Rattle.geom.proofs.scaled_adjugate.Tie as tie
 returns : tie.Need-returns
 unfolding scaled_adjugate
 returns c =
-    let after-scale32 = c.before.before.before in
-    let after-adjugate1 = after-scale32.before in
-    let after-scale3 = after-adjugate1.before in
-    let after-adjugate0 = after-scale3.before in
-    rw (c.flat.ensures, c.scale3-3.ensures, c.adjugate2.ensures, after-scale32.scale3-2.ensures, after-adjugate1.adjugate1.ensures, after-scale3.scale3.ensures, after-adjugate0.adjugate0.ensures)
+    rw (c.flat.ensures, c.scale3-3.ensures, c.adjugate2.ensures, c.scale3-2.ensures, c.adjugate1.ensures, c.scale3.ensures, c.adjugate0.ensures)
 
 pub scaled_adjugate_spec : {M : Type 1} → statement M
 scaled_adjugate_spec =

@@ -5,9 +5,7 @@ use Rattle.geom.proofs.symmetric.Tie as tie
 
 returns : tie.Need-returns
 returns c =
-    let after-apart2 = c.before.before.before in
-    let after-apart = after-apart2.before.before.before in
-    rw (c.apart-3.ensures, after-apart2.apart-2.ensures, after-apart.apart.ensures)
+    rw (c.apart-3.ensures, c.apart-2.ensures, c.apart.ensures)
 
 pub symmetric_spec : {M : Type 1} → statement M
 symmetric_spec =

@@ -8,16 +8,12 @@ use Rattle.gimbal_angles.proofs.put_angle.Tie as tie
 
 returns : tie.Need-returns-in-Are
 returns c =
-    let pair = c.before.before.before in
-    let s = pair.before in
-    let start = s.before in
-    rw c.put_place.ensures (filled_more _ _ _ _ _ start.requires.0 (sym s.sin_cos-pair.ensures ∙ pair.in-Are.is) start.requires.1)
+    rw c.put_place.ensures (filled_more _ _ _ _ _ c.requires.0 (sym c.sin_cos-pair.ensures ∙ c.in-Are.is) c.requires.1)
 
 returns_2 : tie.Need-returns-in-Outside
 unfolding Ieee.of_bits
 returns_2 c =
-    let start = c.before.before.before.before in
-    rw c.put_place-in-Outside.ensures (filled_more _ _ _ _ _ start.requires.0 zero_pair start.requires.1)
+    rw c.put_place-in-Outside.ensures (filled_more _ _ _ _ _ c.requires.0 zero_pair c.requires.1)
 
 pub put_angle_spec : {M : Type 1} → statement M
 put_angle_spec =

@@ -7,13 +7,11 @@ use Rattle.gimbal_angles.proofs.put_angles.Tie as tie
 
 put-angle-requires-3 : tie.Need-put_angle-requires-3
 put-angle-requires-3 c κs =
-    let entry = c.before.before.before.before.before in
-    (omega (arith, entry.requires.0), filled_fewer c.put_angle-2.ensures (omega arith))
+    (omega (arith, c.requires.0), filled_fewer c.put_angle-2.ensures (omega arith))
 
 put-angle-requires-4 : tie.Need-put_angle-requires-4
 put-angle-requires-4 c κs =
-    let entry = c.before.before.before.before.before.before.before in
-    (omega (arith, entry.requires.0), filled_fewer c.put_angle-3.ensures (omega arith))
+    (omega (arith, c.requires.0), filled_fewer c.put_angle-3.ensures (omega arith))
 
 returns : tie.Need-returns
 returns c = filled_fewer c.put_angle-4.ensures (omega arith)

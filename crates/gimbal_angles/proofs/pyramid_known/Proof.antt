@@ -7,10 +7,7 @@ use Rattle.gimbal_angles.proofs.pyramid_known.Tie as tie
 returns : tie.Need-returns
 unfolding Pyramid.pyramid_from
 returns c =
-    let fourth = c.before in
-    let third = fourth.before in
-    let second = third.before in
-    rw (← second.sin_cos_known-b0.ensures, ← second.sin_cos_known-b1.ensures, ← third.sin_cos_known-b2.ensures, ← fourth.sin_cos_known-b3.ensures) c.pyramid_by.ensures
+    rw (← c.sin_cos_known-b0.ensures, ← c.sin_cos_known-b1.ensures, ← c.sin_cos_known-b2.ensures, ← c.sin_cos_known-b3.ensures) c.pyramid_by.ensures
 
 pub pyramid_known_spec : {M : Type 1} → statement M
 pyramid_known_spec =

@@ -59,7 +59,7 @@ returns c =
     let test = c.before.before in
     let t = test.before.before.before in
     let a = (start t).args in
-    looked_up a.lut.now a.k a.g a.x (start t).requires.1 (long t) (early t) (start t).requires.0 (same_is _ _ (sym test.same_bits.ensures ∙ test.if-same_bits.true))
+    looked_up a.lut.now a.k a.g a.x (start t).requires.1 (long t) (early t) (start t).requires.0 (same_is _ _ (sym c.same_bits.ensures ∙ c.if-same_bits.true))
 
 pub sin_cos_known_spec : {M : Type 1} → statement M
 sin_cos_known_spec =

@@ -24,14 +24,11 @@ limit-in-requires c κs = rw (← c.control_dim-n.ensures) (search rules)
 
 held-at-requires : tie.Need-held_at-requires invariant_loop decreases_loop
 held-at-requires c κs =
-    let entry = c.before.before.before.before in
-    (omega (arith, c.control_dim-n.ensures, entry.requires), search rules)
+    (omega (arith, c.control_dim-n.ensures, c.requires), search rules)
 
 write : tie.Need-bounds-out-i invariant_loop decreases_loop
 write c =
-    let after-control-dim = c.before.before.before.before in
-    let start = after-control-dim.before in
-    omega (arith, after-control-dim.control_dim-n.ensures, start.requires)
+    omega (arith, c.control_dim-n.ensures, c.requires)
 
 loop-again : tie.Need-loop-i-preserved invariant_loop decreases_loop
 loop-again c =

@@ -30,8 +30,7 @@ part-limit-requires c κs = held_tables _ _ c.requires
 returns_2 : tie.Need-returns
 unfolding Limits.limit_of
 returns_2 c =
-    let entry = c.before.before.before.before in
-    rw (asked entry.args.map c.rig_of.ensures c.is_bare.ensures c.if-is_bare.false, c.part_limit.ensures)
+    rw (asked c.args.map c.rig_of.ensures c.is_bare.ensures c.if-is_bare.false, c.part_limit.ensures)
 
 pub limit_in_spec : {M : Type 1} → statement M
 limit_in_spec =

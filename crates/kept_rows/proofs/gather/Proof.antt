@@ -17,16 +17,13 @@ move-rows-requires-2 c κs = (omega arith, omega (arith, short c.before, c.requi
 returns : tie.Need-returns-then-m-eq79
 returns c =
     let if1 = c.if-m-eq79 in
-    let start = c.before.before.before.before.before.before.before.before.before.before in
     let taken = if1.true in
-    let nodes = c.before.before.before.before.before.before in
-    rw (taken, c.move_rows.ensures) (gathered_long start.args.r.now nodes.gather_nodes.new.r (omega (arith, start.requires.1)) nodes.gather_nodes.ensures)
+    rw (taken, c.move_rows.ensures) (gathered_long c.args.r.now c.gather_nodes.new.r (omega (arith, c.requires.1)) c.gather_nodes.ensures)
 
 returns_2 : tie.Need-returns-else-m-eq79
 returns_2 c =
-    let start = c.before.before.before.before.before.before in
     let few = short c.before.before.before.before in
-    rw (few, c.move_rows-else-m-eq79.ensures) (gathered_short start.args.r.now (omega (arith, start.requires.1)))
+    rw (few, c.move_rows-else-m-eq79.ensures) (gathered_short c.args.r.now (omega (arith, c.requires.1)))
 
 pub gather_spec : {M : Type 1} → statement M
 gather_spec =

@@ -18,14 +18,12 @@ loop-holds c = (search rules, upto_first 79 _)
 
 move-rows-requires : tie.Need-move_rows-requires invariant_loop decreases_loop
 move-rows-requires c κs =
-    let entry = c.before.before.before.before in
-    (omega arith, omega (arith, c.loop-k.invariant.1.size, entry.requires))
+    (omega arith, omega (arith, c.loop-k.invariant.1.size, c.requires))
 
 loop-again : tie.Need-loop-k-preserved invariant_loop decreases_loop
 loop-again c =
     let l = c.loop-k in
-    let start = c.before.before.before.before.before.before.before in
-    (omega arith, rw c.move_rows.ensures (upto_node start.args.r.now l.k l.r (omega arith) start.requires l.invariant.1))
+    (omega arith, rw c.move_rows.ensures (upto_node c.args.r.now l.k l.r (omega arith) c.requires l.invariant.1))
 
 returns : tie.Need-returns invariant_loop decreases_loop
 returns c = let e : c.loop-k.k ≡ 17 = omega arith in rw e at c.loop-k.invariant.1

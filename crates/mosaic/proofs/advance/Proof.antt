@@ -7,14 +7,11 @@ use Rattle.mosaic.proofs.advance.Tie as tie
 
 moved-requires : tie.Need-moved-requires
 moved-requires c κs =
-    let planned = c.before.before in
-    let start = planned.before.before.before.before.before in
-    (start.requires, rw planned.plan_by-planned.ensures.0 (runs_most _ _ _))
+    (c.requires, rw c.plan_by-planned.ensures.0 (runs_most _ _ _))
 
 returns : tie.Need-returns
 returns c =
-    let planned = c.before.before.before in
-    turned planned.leg_problem.ensures planned.plan_by-planned.ensures.0 planned.plan_by-planned.ensures.1.0 planned.plan_by-planned.ensures.1.1 c.moved.ensures
+    turned c.leg_problem.ensures c.plan_by-planned.ensures.0 c.plan_by-planned.ensures.1.0 c.plan_by-planned.ensures.1.1 c.moved.ensures
 
 pub advance_spec : {M : Type 1} → statement M
 advance_spec = tie.close (tie.spec (λ c κs. search rules) (λ c κs. search rules) moved-requires (λ c. search rules) returns)

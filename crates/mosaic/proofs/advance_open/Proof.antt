@@ -6,17 +6,14 @@ use Rattle.mosaic.proofs.advance_open.Tie as tie
 
 returns : tie.Need-returns-then-is_full
 returns c =
-    let test = c.before.before in
-    turned_full _ test.is_full.ensures test.if-is_full.true c.halted.ensures c.refused.ensures
+    turned_full _ c.is_full.ensures c.if-is_full.true c.halted.ensures c.refused.ensures
 
 advance-requires : tie.Need-advance-requires
 advance-requires c κs = open_of _ c.is_full.ensures c.if-is_full.false
 
 returns_2 : tie.Need-returns
 returns_2 c =
-    let advanced = c.before.before in
-    let test = advanced.before.before in
-    turned_open _ test.is_full.ensures test.if-is_full.false advanced.advance.ensures
+    turned_open _ c.is_full.ensures c.if-is_full.false c.advance.ensures
 
 pub advance_open_spec : {M : Type 1} → statement M
 advance_open_spec =

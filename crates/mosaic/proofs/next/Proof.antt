@@ -9,8 +9,7 @@ returns c = advances_not c.in-Refused.is c.refused.ensures
 
 returns_2 : tie.Need-returns-in-Going
 returns_2 c =
-    let advanced = c.before.before in
-    advances advanced.in-Going.is advanced.advance_open.ensures
+    advances c.in-Going.is c.advance_open.ensures
 
 pub next_spec : {M : Type 1} → statement M
 next_spec =

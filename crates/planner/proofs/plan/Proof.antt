@@ -21,17 +21,15 @@ with-profile-requires c κs = sized_as _ c.check-checked.ensures c.in-Going.is
 returns : tie.Need-returns-in-Refused
 unfolding Plans.plan
 returns c =
-    let entry = c.before.before.before.before in
     let good = c.before.before.before.before.well_formed in
-    entry_refused (λ r. Answers entry.args.p (own_seed (check entry.args.p).problem) r) _ [] c.refused.ensures (rw (← c.check-checked.ensures, c.in-Refused.is) refl) (λ fit. plan_answers _ (problem_held entry.args.p _ good.0) _)
+    entry_refused (λ r. Answers c.args.p (own_seed (check c.args.p).problem) r) _ [] c.refused.ensures (rw (← c.check-checked.ensures, c.in-Refused.is) refl) (λ fit. plan_answers _ (problem_held c.args.p _ good.0) _)
 
 returns_2 : tie.Need-returns-in-Going
 unfolding Plans.plan
 returns_2 c =
-    let entry = c.before.before.before.before.before.before.before.before in
     let good = c.before.before.before.before.before.before.before.before.well_formed in
     let enum_told = c.enum_told-1 in
-    entry_as (λ r. Answers entry.args.p (own_seed (check entry.args.p).problem) r) (outcome_as c.with_profile.ensures (rw (← c.check-checked.ensures, enum_told.given.1) refl)) (λ fit. plan_answers _ (problem_held entry.args.p _ good.0) _)
+    entry_as (λ r. Answers c.args.p (own_seed (check c.args.p).problem) r) (outcome_as c.with_profile.ensures (rw (← c.check-checked.ensures, enum_told.given.1) refl)) (λ fit. plan_answers _ (problem_held c.args.p _ good.0) _)
 
 pub plan_spec : {M : Type 1} → statement M
 plan_spec =

@@ -16,23 +16,20 @@ enum_told c = search rules
 
 with-seed-requires : tie.Need-with_seed-requires
 with-seed-requires c κs =
-    let entry = c.before.before.before.before.before.before.before.before in
-    (sized_as _ c.check-checked.ensures c.in-Going.is, λ h. counted_long entry.args.rates.now entry.args.torques.now (sym c.counted.ensures ∙ h))
+    (sized_as _ c.check-checked.ensures c.in-Going.is, λ h. counted_long c.args.rates.now c.args.torques.now (sym c.counted.ensures ∙ h))
 
 returns : tie.Need-returns-in-Refused
 unfolding Plans.plan_from
 returns c =
-    let entry = c.before.before.before.before.before.before in
     let good = c.before.before.before.before.before.before.well_formed in
-    entry_refused (λ r. Answers entry.args.p (Plans.seed_of (check entry.args.p).problem entry.args.duration entry.args.torques.now) r) _ (Plans.seed_of (check entry.args.p).problem entry.args.duration entry.args.torques.now) c.refused.ensures (rw (← c.check-checked.ensures, c.in-Refused.is) refl) (λ fit. plan_from_answers _ (problem_held entry.args.p _ good.0) _ _ _ _ fit)
+    entry_refused (λ r. Answers c.args.p (Plans.seed_of (check c.args.p).problem c.args.duration c.args.torques.now) r) _ (Plans.seed_of (check c.args.p).problem c.args.duration c.args.torques.now) c.refused.ensures (rw (← c.check-checked.ensures, c.in-Refused.is) refl) (λ fit. plan_from_answers _ (problem_held c.args.p _ good.0) _ _ _ _ fit)
 
 returns_2 : tie.Need-returns-in-Going
 returns_2 c =
-    let entry = c.before.before.before.before.before.before.before.before.before.before.before in
     let good = c.before.before.before.before.before.before.before.before.before.before.before.well_formed in
     let enum_told = c.enum_told-1 in
     let counted = c.counted in
-    entry_as (λ r. Answers entry.args.p (Plans.seed_of (check entry.args.p).problem entry.args.duration entry.args.torques.now) r) (from_as entry.args.p entry.args.duration entry.args.rates.now entry.args.torques.now _ c.check-checked.ensures enum_told.given.1 counted.ensures c.with_seed.ensures) (λ fit. plan_from_answers _ (problem_held entry.args.p _ good.0) _ _ _ _ fit)
+    entry_as (λ r. Answers c.args.p (Plans.seed_of (check c.args.p).problem c.args.duration c.args.torques.now) r) (from_as c.args.p c.args.duration c.args.rates.now c.args.torques.now _ c.check-checked.ensures enum_told.given.1 counted.ensures c.with_seed.ensures) (λ fit. plan_from_answers _ (problem_held c.args.p _ good.0) _ _ _ _ fit)
 
 pub plan_from_spec : {M : Type 1} → statement M
 plan_from_spec =

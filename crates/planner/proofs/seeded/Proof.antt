@@ -20,9 +20,8 @@ returns_3 c =
 
 seed-decision-requires : tie.Need-seed_decision-seed-requires
 seed-decision-requires c κs =
-    let entry = c.before.before.before.before.before.before.before.before.before in
     let if1 = c.if-not-counted in
-    (entry.requires.1.0, entry.requires.1.1 (if1.false))
+    (c.requires.1.0, c.requires.1.1 (if1.false))
 
 returns-4 : tie.Need-returns
 returns-4 c =

@@ -9,10 +9,9 @@ use Rattle.planner.proofs.solve.Tie as tie
 returns : tie.Need-returns
 unfolding Ieee.of_bits
 returns c =
-    let entry = c.before.before.before.before.before.before.before.before.before.before in
     let good = c.before.before.before.before.before.before.before.before.before.before.well_formed in
     let search = c.search-found in
-    (c.answered.ensures ∙ rw search.ensures.0 refl, (c.clear.ensures ∙ rw search.ensures.1 refl, array_held 193 entry.args.seed _ good.1.0))
+    (c.answered.ensures ∙ rw search.ensures.0 refl, (c.clear.ensures ∙ rw search.ensures.1 refl, array_held 193 c.args.seed _ good.1.0))
 
 pub solve_spec : {M : Type 1} → statement M
 solve_spec =

@@ -7,9 +7,8 @@ use Rattle.planner.proofs.with_profile_seed.Tie as tie
 
 with-seed-requires : tie.Need-with_seed-requires
 with-seed-requires c κs =
-    let entry = c.before.before.before.before in
     let good = c.before.before.before.before.well_formed in
-    (entry.requires, λ e. omega (arith, field_count 51 entry.args.seed.torques _ good.1.0.1.1.1.1.0))
+    (c.requires, λ e. omega (arith, field_count 51 c.args.seed.torques _ good.1.0.1.1.1.1.0))
 
 pub with_profile_seed_spec : {M : Type 1} → statement M
 with_profile_seed_spec =

@@ -12,8 +12,7 @@ enum_told c = search rules
 
 seeded-requires : tie.Need-seeded-requires
 seeded-requires c κs =
-    let entry = c.before.before.before.before.before.before in
-    (entry.requires.0, (served_narrow _ entry.requires.0 (sym c.served-fate.ensures ∙ c.in-Going.is), entry.requires.1))
+    (c.requires.0, (served_narrow _ c.requires.0 (sym c.served-fate.ensures ∙ c.in-Going.is), c.requires.1))
 
 returns : tie.Need-returns-in-Refused
 unfolding Plans.with_seed

@@ -12,14 +12,12 @@ returns c = rw (unmet c.numbers_fit.ensures c.if-not-numbers_fit.true) c.refused
 returns_2 : tie.Need-returns-in-Refused
 unfolding Problems.with_map
 returns_2 c =
-    let t = c.before.before in
-    rw (met t.numbers_fit.ensures t.if-not-numbers_fit.false, ← t.check_starts-fate.ensures, c.in-Refused.is) c.refused-in-Refused.ensures
+    rw (met c.numbers_fit.ensures c.if-not-numbers_fit.false, ← c.check_starts-fate.ensures, c.in-Refused.is) c.refused-in-Refused.ensures
 
 returns_3 : tie.Need-returns-in-Going
 unfolding Problems.with_map
 returns_3 c =
-    let t = c.before.before in
-    rw (met t.numbers_fit.ensures t.if-not-numbers_fit.false, ← t.check_starts-fate.ensures, c.in-Going.is) c.with_starts.ensures
+    rw (met c.numbers_fit.ensures c.if-not-numbers_fit.false, ← c.check_starts-fate.ensures, c.in-Going.is) c.with_starts.ensures
 
 pub with_map_spec : {M : Type 1} → statement M
 with_map_spec =

@@ -7,9 +7,7 @@ use Rattle.problem_numbers.proofs.actuators_of.Tie as tie
 returns : tie.Need-returns
 unfolding actuators
 returns c =
-    let pyramid = c.before.before in
-    let thrusters = pyramid.before.before.before.before.before.before in
-    rw (pyramid.cmgs_of-cmgs.ensures, thrusters.thrusters_of-thrusters.ensures, thrusters.wheels_of-wheels.ensures)
+    rw (c.cmgs_of-cmgs.ensures, c.thrusters_of-thrusters.ensures, c.wheels_of-wheels.ensures)
 
 pub actuators_of_spec : {M : Type 1} → statement M
 actuators_of_spec =

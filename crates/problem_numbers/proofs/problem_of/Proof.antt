@@ -7,10 +7,7 @@ use Rattle.problem_numbers.proofs.problem_of.Tie as tie
 returns : tie.Need-returns
 unfolding problem
 returns c =
-    let momenta = c.before.before in
-    let actuators = momenta.before in
-    let weights = actuators.before in
-    rw (momenta.momenta_of-momenta.ensures, actuators.actuators_of-actuators.ensures, weights.weights_of-weights.ensures, weights.limit_of-slew.ensures)
+    rw (c.momenta_of-momenta.ensures, c.actuators_of-actuators.ensures, c.weights_of-weights.ensures, c.limit_of-slew.ensures)
 
 pub problem_of_spec : {M : Type 1} → statement M
 problem_of_spec =

@@ -12,22 +12,12 @@ returns c = rw (c.refused.ensures, ← c.relative-rel.ensures, ← c.norm3-n.ens
 returns_2 : tie.Need-returns-then-abs-tie
 unfolding bang_coast_bang with_relative of_bits neg
 returns_2 c =
-    let after-clamp = c.before.before.before in
-    let branch1 = after-clamp.before in
-    let after-norm3 = branch1.before in
-    let after-relative = after-norm3.before in
-    rw (c.refused-then-abs-tie.ensures, ← after-relative.relative-rel.ensures, ← after-norm3.norm3-n.ensures, branch1.if-n.false, ← after-clamp.clamp-dotted.ensures, ← c.abs.ensures, c.if-abs-tie.true)
+    rw (c.refused-then-abs-tie.ensures, ← c.relative-rel.ensures, ← c.norm3-n.ensures, c.if-n.false, ← c.clamp-dotted.ensures, ← c.abs.ensures, c.if-abs-tie.true)
 
 returns_3 : tie.Need-returns
 unfolding bang_coast_bang with_relative of_bits neg
 returns_3 c =
-    let branch2 = c.before.before.before.before.before in
-    let after-abs = branch2.before in
-    let after-clamp = after-abs.before in
-    let branch1 = after-clamp.before in
-    let after-norm3 = branch1.before in
-    let after-relative = after-norm3.before in
-    rw (c.with_half.ensures, c.acos.ensures, ← after-relative.relative-rel.ensures, ← after-norm3.norm3-n.ensures, branch1.if-n.false, ← after-clamp.clamp-dotted.ensures, ← after-abs.abs.ensures, branch2.if-abs-tie.false)
+    rw (c.with_half.ensures, c.acos.ensures, ← c.relative-rel.ensures, ← c.norm3-n.ensures, c.if-n.false, ← c.clamp-dotted.ensures, ← c.abs.ensures, c.if-abs-tie.false)
 
 pub bang_coast_bang_spec : {M : Type 1} → statement M
 bang_coast_bang_spec =

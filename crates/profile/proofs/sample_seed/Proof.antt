@@ -28,16 +28,14 @@ loop-holds c = (search rules, (search rules, search rules), search rules, (iter_
 loop-again : tie.Need-loop-i-preserved invariant_loop decreases_loop
 unfolding rates_to torques_to
 loop-again c =
-    let turned = c.before.before in
-    let timed = turned.before.before in
-    let l = timed.loop-i in
-    let p = timed.args.p in (
+    let l = c.loop-i in
+    let p = c.args.p in (
       search rules,
       (search rules, search rules),
       search rules,
       (
-        next_node (λ k. omega_vec p (node_time p.duration k)) _ _ _ l.invariant.3.0 (rw (turned.with_node-next_rates.ensures, turned.omega_vec.ensures, timed.node_time-t.ensures, l.invariant.2)),
-        next_node (λ k. torque_vec p (node_time p.duration k)) _ _ _ l.invariant.3.1 (rw (c.with_node-next_torques.ensures, c.torque_vec.ensures, timed.node_time-t.ensures, l.invariant.2)),
+        next_node (λ k. omega_vec p (node_time p.duration k)) _ _ _ l.invariant.3.0 (rw (c.with_node-next_rates.ensures, c.omega_vec.ensures, c.node_time-t.ensures, l.invariant.2)),
+        next_node (λ k. torque_vec p (node_time p.duration k)) _ _ _ l.invariant.3.1 (rw (c.with_node-next_torques.ensures, c.torque_vec.ensures, c.node_time-t.ensures, l.invariant.2)),
       ),
     )
 

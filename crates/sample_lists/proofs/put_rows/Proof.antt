@@ -25,16 +25,13 @@ decreases_loop inertia tolerance duration nodes count out₀ steps placed₀ tur
 
 loop-holds : tie.Need-loop-j-init invariant_loop decreases_loop
 loop-holds c =
-    let first = c.before in
-    let e = first.unplaced-placed.ensures in
-    (omega arith, refl, rw e (omega arith), rw e (passed_none first.args.nodes.now first.unplaced-placed.result.t), rw c.unturned-turning.ensures (omega arith), (λ a b. absurd (omega (arith, a))), (λ a b. absurd (omega (arith, a))), goes_first _ _)
+    let e = c.unplaced-placed.ensures in
+    (omega arith, refl, rw e (omega arith), rw e (passed_none c.args.nodes.now c.unplaced-placed.result.t), rw c.unturned-turning.ensures (omega arith), (λ a b. absurd (omega (arith, a))), (λ a b. absurd (omega (arith, a))), goes_first _ _)
 
 returns : tie.Need-returns-in-Refused invariant_loop decreases_loop
 returns c =
-    let made = c.before in
-    let then = made.before.before in
-    let l = then.loop-j in
-    goes_cut _ l.invariant.7 (finish_is _ _ _ _ _ _ _ then.step_rows-steps.ensures l.invariant.6 then.if-j-ge2.true (omega arith) made.finish-made.ensures) (omega arith) c.in-Refused.is
+    let l = c.loop-j in
+    goes_cut _ l.invariant.7 (finish_is _ _ _ _ _ _ _ c.step_rows-steps.ensures l.invariant.6 c.if-j-ge2.true (omega arith) c.finish-made.ensures) (omega arith) c.in-Refused.is
 
 -- where a row is written: the loop's turn
 abbrev turn_of_law : tie.After-numbers-row invariant_loop decreases_loop → tie.At-loop-j invariant_loop decreases_loop
@@ -48,32 +45,28 @@ slice-set-from-row c = omega (arith, (turn_of_law c).requires, (turn_of_law c).l
 
 loop-again : tie.Need-loop-j-preserved invariant_loop decreases_loop
 loop-again c =
-    let place = c.before in
-    let hold = place.before in
-    let turn = hold.before.before in
-    let l = turn.loop-j in
-    let s = turn.before.before.before.before.before in (
+    let l = c.loop-j in
+    (
       omega arith,
       ⊎_elim (λ w. rw w.7 (length-set l.out (l.j - 2) w.6.result ∙ l.invariant.1)) (λ w. rw w.1 l.invariant.1) c.if-j-ge2.branch,
-      place.place-next.ensures.1,
-      place.place-next.ensures.2,
-      rw (turn.turn-turned.ensures, turning_node l.placed) l.invariant.2,
-      place_next _ _ _ _ l.j place.place-next.ensures.0 hold.held_index.ensures.1,
-      turn_next _ _ _ _ l.j l.invariant.5 turn.turn-turned.ensures,
+      c.place-next.ensures.1,
+      c.place-next.ensures.2,
+      rw (c.turn-turned.ensures, turning_node l.placed) l.invariant.2,
+      place_next _ _ _ _ l.j c.place-next.ensures.0 c.held_index.ensures.1,
+      turn_next _ _ _ _ l.j l.invariant.5 c.turn-turned.ensures,
       ⊎_elim
           (λ w.
           let e : l.j - 2 + 1 ≡ l.j + 1 - 2 = omega (arith, w.0.taken) in
-          let is = finish_is _ _ _ _ _ _ _ s.step_rows-steps.ensures l.invariant.6 w.0.taken (omega arith) w.2.ensures in
-          rw (w.7, ← e) (goes_next _ l.invariant.7 is (omega (arith, s.requires, w.0.taken)) w.4.given.1 w.6.ensures))
+          let is = finish_is _ _ _ _ _ _ _ c.step_rows-steps.ensures l.invariant.6 w.0.taken (omega arith) w.2.ensures in
+          rw (w.7, ← e) (goes_next _ l.invariant.7 is (omega (arith, c.requires, w.0.taken)) w.4.given.1 w.6.ensures))
           (λ w. let e : l.j - 2 ≡ l.j + 1 - 2 = omega (arith, w.0.left) in rw (w.1, ← e) l.invariant.7)
           c.if-j-ge2.branch,
     )
 
 returns_2 : tie.Need-returns invariant_loop decreases_loop
 returns_2 c =
-    let entry = c.before.before.before.before.before in
     let l = c.loop-j in
-    let e : l.j - 2 ≡ entry.args.count = omega arith in
+    let e : l.j - 2 ≡ c.args.count = omega arith in
     rw e at (goes_whole _ l.invariant.7)
 
 pub put_rows_spec : {M : Type 1} → statement M

@@ -13,8 +13,7 @@ returns c =
 
 put-rows-requires : tie.Need-put_rows-requires
 put-rows-requires c κs =
-    let n = c.before.before.before in
-    let e = sym n.sample_count-counted.ensures ∙ n.in-Of.is in
+    let e = sym c.sample_count-counted.ensures ∙ c.in-Of.is in
     (some_count _ _ _ e, given_count _ _ _ e, c.if-count-out.false)
 
 returns_2 : tie.Need-returns-in-TooMany
@@ -22,10 +21,7 @@ returns_2 c = lists_many _ _ _ _ _ _ _ (rw (← c.sample_count-counted.ensures, 
 
 returns_3 : tie.Need-returns-else-count-out
 returns_3 c =
-    let put = c.before in
-    let room = put.before.before in
-    let counted = room.before.before in
-    lists_room _ _ _ _ _ _ _ (rw (← counted.sample_count-counted.ensures, counted.in-Of.is)) room.if-count-out.false put.put_rows.ensures
+    lists_room _ _ _ _ _ _ _ (rw (← c.sample_count-counted.ensures, c.in-Of.is)) c.if-count-out.false c.put_rows.ensures
 
 pub sample_list_spec : {M : Type 1} → statement M
 sample_list_spec =

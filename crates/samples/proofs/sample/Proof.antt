@@ -15,13 +15,11 @@ returns c = c.refused.ensures ∙ too_many _ _ _ _ _ _ _ (sym c.sample_count-cou
 
 returns_2 : tie.Need-returns-then-index-count
 returns_2 c =
-    let n = c.before.before.before.before in
-    rw (c.interpolate.ensures, c.time_of-t.ensures) (in_count _ _ _ _ _ _ _ (sym n.sample_count-counted.ensures ∙ n.in-Of.is) c.if-index-count.true)
+    rw (c.interpolate.ensures, c.time_of-t.ensures) (in_count _ _ _ _ _ _ _ (sym c.sample_count-counted.ensures ∙ c.in-Of.is) c.if-index-count.true)
 
 returns_3 : tie.Need-returns-else-index-count
 returns_3 c =
-    let n = c.before.before.before in
-    c.refused-else-index-count.ensures ∙ past_count _ _ _ _ _ _ _ (sym n.sample_count-counted.ensures ∙ n.in-Of.is) c.if-index-count.false
+    c.refused-else-index-count.ensures ∙ past_count _ _ _ _ _ _ _ (sym c.sample_count-counted.ensures ∙ c.in-Of.is) c.if-index-count.false
 
 pub sample_spec : {M : Type 1} → statement M
 sample_spec =

@@ -13,25 +13,19 @@ returns_2 c = many_steps _ _ _ c.spacing.ensures c.larger-least.ensures c.if-ste
 
 whole-above-requires : tie.Need-whole_above-requires
 whole-above-requires c κs =
-    let v = c.before.before.before in
-    steps_most _ _ _ v.spacing.ensures v.larger-least.ensures v.if-least-gt-MAX_SAMPLES.false c.whole.ensures c.if-steps-whole.true c.if-steps.false
+    steps_most _ _ _ c.spacing.ensures c.larger-least.ensures c.if-least-gt-MAX_SAMPLES.false c.whole.ensures c.if-steps-whole.true c.if-steps.false
 
 add-t11 : tie.Need-overflow_add-result
 add-t11 c =
-    let w = c.before.before in
-    let v = w.before.before in
-    omega (arith, steps_few _ _ _ v.spacing.ensures v.larger-least.ensures v.if-least-gt-MAX_SAMPLES.false w.whole.ensures c.if-steps-whole.true w.if-steps.false, c.whole_above.ensures)
+    omega (arith, steps_few _ _ _ c.spacing.ensures c.larger-least.ensures c.if-least-gt-MAX_SAMPLES.false c.whole.ensures c.if-steps-whole.true c.if-steps.false, c.whole_above.ensures)
 
 returns_3 : tie.Need-returns-then-steps-whole
 returns_3 c =
-    let w = c.before.before in
-    let v = w.before.before in
-    by_rate _ _ _ v.spacing.ensures v.larger-least.ensures v.if-least-gt-MAX_SAMPLES.false w.whole.ensures c.if-steps-whole.true w.if-steps.false c.whole_above.ensures
+    by_rate _ _ _ c.spacing.ensures c.larger-least.ensures c.if-least-gt-MAX_SAMPLES.false c.whole.ensures c.if-steps-whole.true c.if-steps.false c.whole_above.ensures
 
 returns-4 : tie.Need-returns-else-steps-whole
 returns-4 c =
-    let v = c.before.before.before in
-    as_requested _ _ _ v.spacing.ensures v.larger-least.ensures v.if-least-gt-MAX_SAMPLES.false c.whole.ensures c.if-steps-whole.false
+    as_requested _ _ _ c.spacing.ensures c.larger-least.ensures c.if-least-gt-MAX_SAMPLES.false c.whole.ensures c.if-steps-whole.false
 
 pub sample_count_spec : {M : Type 1} → statement M
 sample_count_spec =

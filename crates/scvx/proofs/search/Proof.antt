@@ -14,44 +14,37 @@ use Rattle.scvx.proofs.search.Tie as tie
 
 start-requires : tie.Need-start-requires
 start-requires c κs =
-    let entry = c.before.before.before.before.before.before.before in
-    let w = width_most entry.args.p in omega (arith, c.width-m.ensures)
+    omega (arith, c.width-m.ensures)
 
 turns-requires : tie.Need-turns-requires
 turns-requires c κs =
-    let entry = c.before.before.before.before.before.before.before.before in
     let residuals-of = c.residuals_of-e in
     let enum_told = c.enum_told-1 in
     let numbers = c.numbers-n in (
-      sizes_of entry.args.p _ _ _ entry.requires.0 entry.requires.1 numbers.ensures c.width-m.ensures entry.requires.2,
+      sizes_of c.args.p _ _ _ c.requires.0 c.requires.1 numbers.ensures c.width-m.ensures c.requires.2,
       (rw c.start.ensures refl, (rw c.start.ensures refl, (rw c.start.ensures refl, rw c.start.ensures (known_of _ residuals-of.ensures enum_told.given.1 c.width-m.ensures refl)))),
     )
 
 conclude-requires : tie.Need-conclude-requires
 conclude-requires c κs =
-    let entry = c.before.before.before.before.before.before.before.before.before.before.before in
-    let n = numbers_most entry.args.p entry.requires.1 in
     let one : c.start.result.state.runs ≡ 1 = ap (λ (x : Progress). x.state.runs) c.start.ensures in
     let q = ap (λ (x : SearchState). x.runs) c.turns.ensures in
-    let most = turns_le entry.args.p c.start.result.state 40 in
-    (entry.requires.0, (entry.requires.1, omega arith))
+    (c.requires.0, (c.requires.1, omega arith))
 
 returns : tie.Need-returns-in-Refused
 returns c =
-    let entry = c.before.before.before.before in
     let residuals-of = c.residuals_of-e in
-    (c.not_found.ensures ∙ search_refused entry.args.p entry.args.seed residuals-of.ensures c.in-Refused.is, refl)
+    (c.not_found.ensures ∙ search_refused c.args.p c.args.seed residuals-of.ensures c.in-Refused.is, refl)
 
 returns_2 : tie.Need-returns-in-Going
 unfolding Search.search Search.searched
 returns_2 c =
-    let entry = c.before.before.before.before.before.before.before.before.before.before.before.before in
     let residuals-of = c.residuals_of-e in
     let enum_told = c.enum_told-1 in
     let width = c.width-m in
     let start = c.start in
-    let first = ap (λ (x : Progress). x.state) start.ensures ∙ start_going entry.args.p entry.args.seed residuals-of.ensures width.ensures enum_told.given.1 in
-    (c.conclude.ensures ∙ ap (λ (s : SearchState). Search.conclude entry.args.p s) (c.turns.ensures ∙ ap (λ (s : SearchState). iter (Search.turn entry.args.p) s 40) first), c.turns.auto.ws)
+    let first = ap (λ (x : Progress). x.state) start.ensures ∙ start_going c.args.p c.args.seed residuals-of.ensures width.ensures enum_told.given.1 in
+    (c.conclude.ensures ∙ ap (λ (s : SearchState). Search.conclude c.args.p s) (c.turns.ensures ∙ ap (λ (s : SearchState). iter (Search.turn c.args.p) s 40) first), c.turns.auto.ws)
 
 pub search_spec : {M : Type 1} → statement M
 search_spec =

@@ -36,37 +36,26 @@ add-end c = omega (arith, room c.loop-k.k c.args.n (search rules) c.requires.1.0
 
 mul-out : tie.Need-offset_bounds-out-at invariant_loop decreases_loop
 mul-out c =
-    let start = c.before.before.before.before in
-    omega (arith, room c.loop-k.k start.args.n (search rules) start.requires.1.0)
+    omega (arith, room c.loop-k.k c.args.n (search rules) c.requires.1.0)
 
 part-out-end : tie.Need-slice_bounds-out-end invariant_loop decreases_loop
 part-out-end c =
-    let start = c.before.before.before.before in
-    omega (arith, room c.loop-k.k start.args.n (search rules) start.requires.1.0)
+    omega (arith, room c.loop-k.k c.args.n (search rules) c.requires.1.0)
 
 put-row-requires : tie.Need-put_row-requires invariant_loop decreases_loop
 put-row-requires c κs =
-    let looped = c.before.before.before in
-    let start = looped.before.before in
-    let n = start.args.n in
-    let h = start.requires.1.0 in
-    let l = looped.loop-k in
-    let r = room l.k n (omega arith) h in
+    let n = c.args.n in
+    let l = c.loop-k in
     omega (arith, length_slice l.out (1 + l.k * n) (1 + l.k * n + n) (omega arith))
 
 loop-again : tie.Need-loop-k-preserved invariant_loop decreases_loop
 loop-again c =
-    let after-row-of = c.before.before.before in
-    let looped = after-row-of.before.before in
-    let start = looped.before.before in
-    let s = start in
-    let n = s.args.n in
-    let l = looped.loop-k in
+    let n = c.args.n in
+    let l = c.loop-k in
     let f = c.put_row in
-    let r = room l.k n (omega arith) s.requires.1.0 in
     let g = length_slice l.out (1 + l.k * n) (1 + l.k * n + n) (omega arith) in
     let e : 1 + l.k * n + n - (1 + l.k * n) ≡ n = omega arith in
-    (omega arith, (length_pasted l.out f.new.row (1 + l.k * n) (1 + l.k * n + n) (omega arith) (omega arith) f.auto.row ∙ l.invariant.1.0, iter_next _ _ _ l.invariant.1.1 (rw (← s.requires.0, f.ensures, g, e, after-row-of.row_of-u.ensures))))
+    (omega arith, (length_pasted l.out f.new.row (1 + l.k * n) (1 + l.k * n + n) (omega arith) (omega arith) f.auto.row ∙ l.invariant.1.0, iter_next _ _ _ l.invariant.1.1 (rw (← c.requires.0, f.ensures, g, e, c.row_of-u.ensures))))
 
 returns : tie.Need-returns invariant_loop decreases_loop
 returns c = let e : c.loop-k.k ≡ 16 = omega arith in rw (← e) c.loop-k.invariant.1.1

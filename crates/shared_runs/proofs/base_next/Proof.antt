@@ -11,30 +11,23 @@ use Rattle.shared_runs.proofs.base_next.Tie as tie
 
 steps-under-requires : tie.Need-steps_under-w-requires
 steps-under-requires c κs =
-    let e = c.before.before in
-    let pre = e.requires in
-    let k = pre.1.1.1.1 (e.if-not-b.false) in
+    let pre = c.requires in
+    let k = pre.1.1.1.1 (c.if-not-b.false) in
     (record { sized = pre.0; narrow = pre.1.0; angles = (k.skew, pre.1.1.0); sound = k.sound }, (omega arith, omega arith))
 
 sums-next-requires : tie.Need-sums_next-sums-requires
 unfolding Ieee.of_bits
 sums-next-requires c κs =
-    let t = c.before.before in
-    let e = t.before.before.before in
-    let start = e.before.before.before.before.before in
-    let a = start.args in
+    let a = c.args in
     let r = c.steps_under-w.ensures in
-    let k = start.requires.1.1.1.1 (c.if-not-b.false) in
+    let k = c.requires.1.1.1.1 (c.if-not-b.false) in
     (omega arith, (kept_same a.p a.z.now a.b a.nodes.now c.steps_under-w.new.nodes a.errors.now r.size r.below k).begins.sums)
 
 keep-error-requires : tie.Need-keep_error-known-requires
 keep-error-requires c κs =
-    let t = c.before.before.before.before.before.before in
-    let e = t.before.before.before in
-    let start = e.before.before.before.before in
-    let a = start.args in
+    let a = c.args in
     let r = c.steps_under-w.ensures in
-    let held = start.requires.1.1.1 in
+    let held = c.requires.1.1.1 in
     let k = held.1 (c.if-not-b.false) in
     rw c.target_of.ensures
     (omega arith, (r.size ∙ held.0.nodes, (held.0.errors, (kept_same a.p a.z.now a.b a.nodes.now c.steps_under-w.new.nodes a.errors.now r.size r.below k).begins.kept)))
@@ -45,19 +38,17 @@ returns_3 c =
     let kept = c.before.before in
     let target = kept.before.before.before in
     let sums = target.before in
-    let t = sums.before.before.before in
-    let e = t.before.before.before in
-    let held = e.requires.1.1.1 in
+    let held = c.requires.1.1.1 in
     let r = c.steps_under-w.ensures in
     let k = held.1 (c.if-not-b.false) in (
-      record { nodes = r.size ∙ held.0.nodes; errors = kept.keep_error-known.ensures.1 },
+      record { nodes = r.size ∙ held.0.nodes; errors = c.keep_error-known.ensures.1 },
       λ h.
           let g = c.goes.ensures h in
           record {
             skew = k.skew;
             sound = r.sound g.0;
             after = stands_on _ _ _ _ k.after (omega arith) (omega arith) r g.0;
-            begins = record { sums = c.sums_next-sums.ensures; kept = rw c.target_of.ensures at (kept.keep_error-known.ensures.0 g.1) };
+            begins = record { sums = c.sums_next-sums.ensures; kept = rw c.target_of.ensures at (c.keep_error-known.ensures.0 g.1) };
           },
     )
 

@@ -14,20 +14,16 @@ use Rattle.shared_runs.proofs.base_start.Tie as tie
 
 start-requires : tie.Need-start-from-requires
 start-requires c κs =
-    let entry = c.before.before.before.before in
-    (dim_sized Once _ entry.requires).wheels
+    (dim_sized Once _ c.requires).wheels
 
 returns : tie.Need-returns
 unfolding Runs.start Ieee.of_bits
 returns c = λ z v errors long h.
-    let u = c.before in
-    let l = u.before.before.before in
-    let s = l.before in
-    let made = start_goes _ l.start_gimbals-l.ensures (c.goes.ensures h).0 in
+    let made = start_goes _ c.start_gimbals-l.ensures (c.goes.ensures h).0 in
     record {
       skew = made.0;
-      sound = rw (u.unbegun-at.ensures, s.start-from.ensures) (record { matrix = made.1; plus = tt });
-      after = rw (u.unbegun-at.ensures, s.start-from.ensures) (stands_first _ _ _ _ l.start_gimbals-l.result.a v long);
+      sound = rw (c.unbegun-at.ensures, c.start-from.ensures) (record { matrix = made.1; plus = tt });
+      after = rw (c.unbegun-at.ensures, c.start-from.ensures) (stands_first _ _ _ _ c.start_gimbals-l.result.a v long);
       begins = record {
         sums = record { few = omega arith; long = long; energy = iter_none _ _; smooth = iter_none _ _ };
         kept = λ p j b. absurd (omega arith);

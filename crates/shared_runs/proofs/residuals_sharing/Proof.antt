@@ -21,24 +21,19 @@ residuals-of-requires c κs = let pre = c.requires in (pre.0, pre.1.0)
 
 returns : tie.Need-returns-then-not-shares
 returns c =
-    let entry = c.before.before.before.before.before in
-    (c.residuals_of.ensures, entry.requires.1.1.1.1)
+    (c.residuals_of.ensures, c.requires.1.1.1.1)
 
 run-on-requires : tie.Need-run_on-w-requires
 run-on-requires c κs =
-    let e = c.before.before.before in
-    let pre = e.requires in
-    let k = pre.1.1.1.1.1 (e.shares.ensures (e.if-not-shares.false)).0 in
+    let pre = c.requires in
+    let k = pre.1.1.1.1.1 (c.shares.ensures (c.if-not-shares.false)).0 in
     (record { sized = pre.0; narrow = pre.1.0; angles = (k.skew, pre.1.1.1.0); sound = k.sound }, k.begins.sums.few)
 
 of-rows-requires : tie.Need-of_rows-requires
 of-rows-requires c κs =
-    let t = c.before.before.before.before.before in
-    let e = t.before.before.before.before in
-    let start = e.before.before in
-    let a = start.args in
-    let pre = start.requires in
-    let s = e.shares.ensures (c.if-not-shares.false) in
+    let a = c.args in
+    let pre = c.requires in
+    let s = c.shares.ensures (c.if-not-shares.false) in
     let k = pre.1.1.1.1.1 s.0 in
     let r = c.run_on-w.ensures in
     let known = begins_shared a.p a.n a.z.now a.y.now a.b a.nodes.now a.errors.now pre.1.1.0 k s.1 in
@@ -52,17 +47,14 @@ of-rows-requires c κs =
 returns_2 : tie.Need-returns-in-Refused
 unfolding Runs.run_under
 returns_2 c =
-    let t = c.before.before in
-    let e = t.before.before.before.before in
-    let start = e.before.before.before in
-    let a = start.args in
-    let pre = start.requires in
-    let s = e.shares.ensures (e.if-not-shares.false) in
+    let a = c.args in
+    let pre = c.requires in
+    let s = c.shares.ensures (c.if-not-shares.false) in
     let held = pre.1.1.1.1 in
-    let r = t.run_on-w.ensures in
-    let u = t.run_on-w.new.nodes in
+    let r = c.run_on-w.ensures in
+    let u = c.run_on-w.new.nodes in
     let whole = r.whole (Runs.start_of a.p) (after_shared a.p a.n a.z.now a.y.now a.b a.nodes.now a.errors.now pre.1.1.0 (held.1 s.0) s.1) in (
-      c.refused_residuals.ensures ∙ told_refused a.p a.y.now t.run_on-w.result u whole c.in-Refused.is,
+      c.refused_residuals.ensures ∙ told_refused a.p a.y.now c.run_on-w.result u whole c.in-Refused.is,
       (record { nodes = r.size ∙ held.0.nodes; errors = held.0.errors }, λ on. kept_same a.p a.z.now a.b a.nodes.now u a.errors.now r.size r.below (held.1 on)),
     )
 
@@ -70,12 +62,9 @@ returns_3 : tie.Need-returns-in-Going
 unfolding Runs.run_under
 returns_3 c =
     let enum_told = c.enum_told-1 in
-    let t = c.before.before.before.before.before.before in
-    let e = t.before.before.before.before in
-    let start = e.before.before in
-    let a = start.args in
-    let pre = start.requires in
-    let s = e.shares.ensures (c.if-not-shares.false) in
+    let a = c.args in
+    let pre = c.requires in
+    let s = c.shares.ensures (c.if-not-shares.false) in
     let held = pre.1.1.1.1 in
     let r = c.run_on-w.ensures in
     let u = c.run_on-w.new.nodes in

@@ -31,8 +31,7 @@ loop-again c =
 
 returns_2 : tie.Need-returns invariant_loop decreases_loop
 returns_2 c =
-    let entry = c.before.before.before.before in
-    λ h. let l = c.loop-i in let e : l.i ≡ entry.args.e = omega arith in rw e at l.invariant.1
+    λ h. let l = c.loop-i in let e : l.i ≡ c.args.e = omega arith in rw e at l.invariant.1
 
 pub same_front_spec : {M : Type 1} → statement M
 same_front_spec =

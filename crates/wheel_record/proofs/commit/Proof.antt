@@ -12,18 +12,16 @@ returns c = rw (not-true c.args.answered c.if-not-answered.true) c.not_started.e
 returns_2 : tie.Need-returns-then-k-on_record
 unfolding Commits.commit
 returns_2 c =
-    let entry = c.before.before.before.before.before in
     let if1 = c.if-not-answered in
-    rw (not-false entry.args.answered if1.false, ← c.leading_same-k.ensures, ne_eqb _ _ c.if-k-on_record.true) c.not_started-then-k-on_record.ensures
+    rw (not-false c.args.answered if1.false, ← c.leading_same-k.ensures, ne_eqb _ _ c.if-k-on_record.true) c.not_started-then-k-on_record.ensures
 
 returns_3 : tie.Need-returns-then-k-began
 unfolding Commits.commit
 returns_3 c =
-    let entry = c.before.before.before.before.before.before.before in
     let if1 = c.if-not-answered in
     let leading-same = c.leading_same-k in
     rw (
-      not-false entry.args.answered if1.false,
+      not-false c.args.answered if1.false,
       ← leading-same.ensures,
       eq-eqb _ _ c.if-k-on_record.false,
       ne_eqb _ _ c.if-k-began.true,
@@ -33,11 +31,10 @@ returns_3 c =
 returns-4 : tie.Need-returns
 unfolding Commits.commit
 returns-4 c =
-    let entry = c.before.before.before.before.before.before in
     let if1 = c.if-not-answered in
     let leading-same = c.leading_same-k in
     rw (
-      not-false entry.args.answered if1.false,
+      not-false c.args.answered if1.false,
       ← leading-same.ensures,
       eq-eqb _ _ c.if-k-on_record.false,
       eq-eqb _ _ c.if-k-began.false,

@@ -8,7 +8,7 @@ use Rattle.whole_mosaic.proofs.check_tiles.Statement.{statement}
 use Rattle.whole_mosaic.proofs.check_tiles.Tie as tie
 
 sub-check-rows : tie.Need-overflow_sub-tiles
-sub-check-rows c = let counted = c.before in omega (arith, count_least counted.args.tiles (sym counted.check_count-fate.ensures ∙ c.in-Going.is))
+sub-check-rows c = omega (arith, count_least c.args.tiles (sym c.check_count-fate.ensures ∙ c.in-Going.is))
 
 returns : tie.Need-returns-in-Refused
 returns c = tiles_refused _ _ _ _ _ c.check_count-fate.ensures c.in-Refused.is

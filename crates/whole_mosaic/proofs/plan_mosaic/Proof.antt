@@ -10,8 +10,7 @@ sub-put-legs c = lends_tile _ _ _ _ _ c.check_tiles-fate.ensures c.in-Going.is
 
 put-legs-requires : tie.Need-put_legs-requires
 put-legs-requires c κs =
-    let told = c.before.before.before.before.before in
-    lends _ _ _ _ _ told.check_tiles-fate.ensures told.in-Going.is
+    lends _ _ _ _ _ c.check_tiles-fate.ensures c.in-Going.is
 
 returns : tie.Need-returns-in-Refused
 returns c =
@@ -20,9 +19,7 @@ returns c =
 
 returns_2 : tie.Need-returns-in-Going
 returns_2 c =
-    let put = c.before.before.before.before.before.before in
-    let told = put.before.before.before.before.before.before in
-    filled_all _ _ _ _ _ _ _ _ _ _ told.check_tiles-fate.ensures told.in-Going.is put.put_legs.ensures
+    filled_all _ _ _ _ _ _ _ _ _ _ c.check_tiles-fate.ensures c.in-Going.is c.put_legs.ensures
 
 pub plan_mosaic_spec : {M : Type 1} → statement M
 plan_mosaic_spec =

@@ -23,40 +23,28 @@ loop-holds c = (omega arith, refl, refl, refl, refl, refl, filling_first _ _ _ _
 
 returns : tie.Need-returns-in-Refused invariant_loop decreases_loop
 returns c =
-    let made = c.before.before.before.before.before in
-    let to = made.before.before in
-    let from = to.before.before in
-    let turn = from.before.before in
-    let l = turn.before in
-    filled_from _ _ _ _ _ (ap (λ (x : Cursor). x.momenta) l.start-c.ensures)
-    (filling_cut _ _ _ _ _ l.loop-k.invariant.6 (omega (arith, turn.loop-k-test.true, l.requires.most)) from.quat_of-from.ensures to.quat_of-to.ensures made.next-made.ensures c.in-Refused.is turn.loop-k-test.true)
+    filled_from _ _ _ _ _ (ap (λ (x : Cursor). x.momenta) c.start-c.ensures)
+    (filling_cut _ _ _ _ _ c.loop-k.invariant.6 (omega (arith, c.loop-k-test.true, c.requires.most)) c.quat_of-from.ensures c.quat_of-to.ensures c.next-made.ensures c.in-Refused.is c.loop-k-test.true)
 
 loop-again : tie.Need-loop-k-preserved invariant_loop decreases_loop
 loop-again c =
-    let told = c.before.before.before.before.before.before in
-    let made = told.before.before.before.before.before in
-    let to = made.before.before in
-    let from = to.before.before in
-    let turn = from.before.before in
-    let l = turn.before in
-    let lent = l.requires in
-    let less = turn.loop-k-test.true in
-    let next = filling_next _ _ _ _ _ l.loop-k.invariant.6 (omega (arith, less, lent.most)) from.quat_of-from.ensures to.quat_of-to.ensures made.next-made.ensures told.in-Going.is c.counts_of-count.ensures c.times_of-time.ensures c.rows-node.ensures
+    let lent = c.requires in
+    let less = c.loop-k-test.true in
+    let next = filling_next _ _ _ _ _ c.loop-k.invariant.6 (omega (arith, less, lent.most)) c.quat_of-from.ensures c.quat_of-to.ensures c.next-made.ensures c.in-Going.is c.counts_of-count.ensures c.times_of-time.ensures c.rows-node.ensures
     (omega (arith, less, lent.counts)) (omega (arith, less, lent.times)) (omega (arith, less, lent.decisions)) (omega (arith, less, lent.nodes)) in (
       omega (arith, less),
-      length-set l.loop-k.counts l.loop-k.k c.counts_of-count.result ∙ l.loop-k.invariant.1,
-      length-set l.loop-k.times l.loop-k.k c.times_of-time.result ∙ l.loop-k.invariant.2,
-      length-set l.loop-k.decisions l.loop-k.k made.next-made.result.planned.path.z ∙ l.loop-k.invariant.3,
-      length-set l.loop-k.nodes l.loop-k.k c.rows-node.result ∙ l.loop-k.invariant.4,
+      length-set c.loop-k.counts c.loop-k.k c.counts_of-count.result ∙ c.loop-k.invariant.1,
+      length-set c.loop-k.times c.loop-k.k c.times_of-time.result ∙ c.loop-k.invariant.2,
+      length-set c.loop-k.decisions c.loop-k.k c.next-made.result.planned.path.z ∙ c.loop-k.invariant.3,
+      length-set c.loop-k.nodes c.loop-k.k c.rows-node.result ∙ c.loop-k.invariant.4,
       filling_size _ _ _ _ _ next,
       next,
     )
 
 returns_2 : tie.Need-returns invariant_loop decreases_loop
 returns_2 c =
-    let l = c.before in
-    let e : l.loop-k.k ≡ l.args.legs = omega (arith, c.loop-k-test.false, l.loop-k.invariant.0) in
-    filled_from _ _ _ _ _ (ap (λ (x : Cursor). x.momenta) l.start-c.ensures) (rw (← e) (filling_whole _ _ _ _ _ l.loop-k.invariant.6))
+    let e : c.loop-k.k ≡ c.args.legs = omega (arith, c.loop-k-test.false, c.loop-k.invariant.0) in
+    filled_from _ _ _ _ _ (ap (λ (x : Cursor). x.momenta) c.start-c.ensures) (rw (← e) (filling_whole _ _ _ _ _ c.loop-k.invariant.6))
 
 pub put_legs_spec : {M : Type 1} → statement M
 put_legs_spec =

@@ -13,23 +13,17 @@ returns c = rw (← c.is_empty.ensures, c.if-is_empty.true) c.three.ensures
 returns_2 : tie.Need-returns-in-Without
 unfolding Allocate.allocate
 returns_2 c =
-    let some = c.before.before in
-    let start = some.before.before in
-    rw (← some.is_empty.ensures, some.if-is_empty.false) (c.axes_alone.ensures ∙ sym (ap (λ (x : Cmgs). Allocate.served_by x start.args.map start.args.tau) c.in-Without.is))
+    rw (← c.is_empty.ensures, c.if-is_empty.false) (c.axes_alone.ensures ∙ sym (ap (λ (x : Cmgs). Allocate.served_by x c.args.map c.args.tau) c.in-Without.is))
 
 returns_3 : tie.Need-returns-then-map
 unfolding Allocate.allocate
 returns_3 c =
-    let known = c.before.before.before.before.before in
-    let some = known.before in
-    rw (← some.is_empty.ensures, some.if-is_empty.false, known.in-With.is, c.if-map.true) c.pyramid_alone.ensures
+    rw (← c.is_empty.ensures, c.if-is_empty.false, c.in-With.is, c.if-map.true) c.pyramid_alone.ensures
 
 returns-4 : tie.Need-returns-else-map
 unfolding Allocate.allocate
 returns-4 c =
-    let known = c.before.before.before.before.before in
-    let some = known.before in
-    rw (← some.is_empty.ensures, some.if-is_empty.false, known.in-With.is, c.if-map.false) c.unserved.ensures
+    rw (← c.is_empty.ensures, c.if-is_empty.false, c.in-With.is, c.if-map.false) c.unserved.ensures
 
 pub allocate_body_torque_spec : {M : Type 1} → statement M
 allocate_body_torque_spec =

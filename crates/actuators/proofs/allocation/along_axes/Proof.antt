@@ -13,9 +13,7 @@ returns c =
 returns_2 : tie.Need-returns-in-Going
 unfolding Allocate.along_axes
 returns_2 c =
-    let after-enum-told2 = c.before.before.before in
-    let after-invert3 = after-enum-told2.before.before.before in
-    rw (← after-invert3.invert3-inverse.ensures, after-enum-told2.enum-told2.given.1, c.three.ensures, c.apply_tensor.ensures, c.tensor.ensures)
+    rw (← c.invert3-inverse.ensures, c.in-Going.is, c.three.ensures, c.apply_tensor.ensures, c.tensor.ensures)
 
 pub along_axes_spec : {M : Type 1} → statement M
 along_axes_spec =

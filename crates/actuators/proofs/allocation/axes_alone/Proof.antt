@@ -10,33 +10,26 @@ use Rattle.actuators.proofs.allocation.axes_alone.Tie as tie
 
 columns-requires : tie.Need-columns-requires
 columns-requires c κs =
-    let entry = c.before.before.before.before in
-    let l : length entry.args.map.wheel_axes ≡ 24 = search rules in omega arith
+    let l : length c.args.map.wheel_axes ≡ 24 = search rules in omega arith
 
 returns : tie.Need-returns-then-alone
 unfolding Allocate.axes_alone Ieee.of_bits Ieee.neg
 returns c =
-    let told = c.before.before.before.before.before in
-    rw (← told.alone.ensures, told.if-alone.true, c.along_axes.ensures, c.scale3.ensures, c.columns.ensures)
+    rw (← c.alone.ensures, c.if-alone.true, c.along_axes.ensures, c.scale3.ensures, c.columns.ensures)
 
 columns-requires-2 : tie.Need-columns-requires-then-alone-2
 columns-requires-2 c κs =
-    let entry = c.before.before.before.before.before.before in
-    let l : length entry.args.map.thruster_axes ≡ 36 = search rules in omega arith
+    let l : length c.args.map.thruster_axes ≡ 36 = search rules in omega arith
 
 returns_2 : tie.Need-returns-then-alone-2
 unfolding Allocate.axes_alone
 returns_2 c =
-    let told = c.before.before.before.before in
-    let other = told.before.before in
-    rw (← other.alone.ensures, other.if-alone.false, ← told.alone-2.ensures, told.if-alone-2.true, c.along_axes-then-alone-2.ensures, c.columns-then-alone-2.ensures)
+    rw (← c.alone.ensures, c.if-alone.false, ← c.alone-2.ensures, c.if-alone-2.true, c.along_axes-then-alone-2.ensures, c.columns-then-alone-2.ensures)
 
 returns_3 : tie.Need-returns
 unfolding Allocate.axes_alone
 returns_3 c =
-    let told = c.before in
-    let other = told.before.before in
-    rw (← other.alone.ensures, other.if-alone.false, ← told.alone-2.ensures, told.if-alone-2.false) c.unserved.ensures
+    rw (← c.alone.ensures, c.if-alone.false, ← c.alone-2.ensures, c.if-alone-2.false) c.unserved.ensures
 
 pub axes_alone_spec : {M : Type 1} → statement M
 axes_alone_spec =

@@ -7,17 +7,12 @@ use Rattle.actuators.proofs.allocation.least_rates.Tie as tie
 returns : tie.Need-returns-in-Refused
 unfolding Allocate.least_rates
 returns c =
-    let after-invert3 = c.before.before.before in
-    let after-gram = after-invert3.before in
-    let h = rw after-gram.gram.ensures at after-invert3.invert3-inverse.ensures in rw (← h, c.in-Refused.is) c.unserved.ensures
+    let h = rw c.gram.ensures at c.invert3-inverse.ensures in rw (← h, c.in-Refused.is) c.unserved.ensures
 
 returns_2 : tie.Need-returns-in-Going
 unfolding Allocate.least_rates
 returns_2 c =
-    let after-enum-told2 = c.before.before.before in
-    let after-invert3 = after-enum-told2.before.before.before in
-    let after-gram = after-invert3.before in
-    let h = rw after-gram.gram.ensures at after-invert3.invert3-inverse.ensures in rw (← h, after-enum-told2.enum-told2.given.1, c.four.ensures, c.apply_tensor.ensures, c.tensor.ensures)
+    let h = rw c.gram.ensures at c.invert3-inverse.ensures in rw (← h, c.in-Going.is, c.four.ensures, c.apply_tensor.ensures, c.tensor.ensures)
 
 pub least_rates_spec : {M : Type 1} → statement M
 least_rates_spec =

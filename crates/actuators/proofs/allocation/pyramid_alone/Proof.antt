@@ -14,9 +14,7 @@ returns c =
 returns_2 : tie.Need-returns-in-Going
 unfolding Allocate.pyramid_alone Ieee.of_bits Ieee.neg
 returns_2 c =
-    let after-enum-told2 = c.before.before.before.before in
-    let after-pyramid-a = after-enum-told2.before.before.before in
-    rw (← after-pyramid-a.pyramid_a-jacobian.ensures, after-enum-told2.enum-told2.given.1, c.least_rates.ensures, c.rows.ensures, c.scale3-v.ensures)
+    rw (← c.pyramid_a-jacobian.ensures, c.in-Going.is, c.least_rates.ensures, c.rows.ensures, c.scale3-v.ensures)
 
 pub pyramid_alone_spec : {M : Type 1} → statement M
 pyramid_alone_spec =

@@ -17,16 +17,12 @@ returns_2 c =
 returns_3 : tie.Need-returns-then-pyramid_outside
 unfolding Prepare.cmgs_next
 returns_3 c =
-    let tested = c.before.before in
-    let known = tested.before.before in
-    rw (known.in-Going.is, known.in-With.is, ← tested.pyramid_outside.ensures, c.if-pyramid_outside.true) c.refused.ensures
+    rw (c.in-Going.is, c.in-With.is, ← c.pyramid_outside.ensures, c.if-pyramid_outside.true) c.refused.ensures
 
 returns-4 : tie.Need-returns-else-pyramid_outside
 unfolding Prepare.cmgs_next
 returns-4 c =
-    let tested = c.before.before in
-    let known = tested.before.before in
-    rw (known.in-Going.is, known.in-With.is, ← tested.pyramid_outside.ensures, c.if-pyramid_outside.false) c.so_far-else-pyramid_outside.ensures
+    rw (c.in-Going.is, c.in-With.is, ← c.pyramid_outside.ensures, c.if-pyramid_outside.false) c.so_far-else-pyramid_outside.ensures
 
 pub cmgs_turn_spec : {M : Type 1} → statement M
 cmgs_turn_spec =

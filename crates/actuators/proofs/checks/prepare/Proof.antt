@@ -16,15 +16,11 @@ returns_2 c = rw (le-ltb _ _ c.if-wheel_count-gt-MAX_WHEELS.false, lt-ltb _ _ c.
 returns_3 : tie.Need-returns
 unfolding Prepare.prepare Prepare.filled
 returns_3 c =
-    let after-so-far = c.before.before.before in
-    let after-unfilled = after-so-far.before in
-    let branch2 = after-unfilled.before.before.before in
-    let branch1 = branch2.before in
     rw (
-      le-ltb _ _ branch1.if-wheel_count-gt-MAX_WHEELS.false,
-      le-ltb _ _ branch2.if-thruster_count-gt-MAX_THRUSTERS.false,
-      ← after-unfilled.unfilled.ensures,
-      ← after-so-far.so_far-start.ensures,
+      le-ltb _ _ c.if-wheel_count-gt-MAX_WHEELS.false,
+      le-ltb _ _ c.if-thruster_count-gt-MAX_THRUSTERS.false,
+      ← c.unfilled.ensures,
+      ← c.so_far-start.ensures,
       ← c.wheels_checked-wheeled.ensures,
       ← c.thrusters_checked-thrusting.ensures,
     )

@@ -11,24 +11,17 @@ returns c = rw c.in_default.is
 returns_2 : tie.Need-returns-then-outside
 unfolding Prepare.thruster_next Prepare.thruster_checked
 returns_2 c =
-    let tested = c.before.before in
-    rw (tested.in-Going.is, ← tested.outside.ensures, c.if-outside.true) c.refused.ensures
+    rw (c.in-Going.is, ← c.outside.ensures, c.if-outside.true) c.refused.ensures
 
 returns_3 : tie.Need-returns-in-Not
 unfolding Prepare.thruster_next Prepare.thruster_checked
 returns_3 c =
-    let measured = c.before.before in
-    let inside = measured.before.before.before in
-    let tested = inside.before in
-    rw (tested.in-Going.is, ← tested.outside.ensures, inside.if-outside.false, ← measured.unit3-unit.ensures, c.in-Not.is) c.refused-in-Not.ensures
+    rw (c.in-Going.is, ← c.outside.ensures, c.if-outside.false, ← c.unit3-unit.ensures, c.in-Not.is) c.refused-in-Not.ensures
 
 returns-4 : tie.Need-returns-in-Is
 unfolding Prepare.thruster_next Prepare.thruster_checked
 returns-4 c =
-    let measured = c.before.before.before in
-    let inside = measured.before.before.before in
-    let tested = inside.before in
-    rw (tested.in-Going.is, ← tested.outside.ensures, inside.if-outside.false, ← measured.unit3-unit.ensures, c.in-Is.is, ← c.with_thruster.ensures) c.so_far.ensures
+    rw (c.in-Going.is, ← c.outside.ensures, c.if-outside.false, ← c.unit3-unit.ensures, c.in-Is.is, ← c.with_thruster.ensures) c.so_far.ensures
 
 pub thruster_turn_spec : {M : Type 1} → statement M
 thruster_turn_spec =

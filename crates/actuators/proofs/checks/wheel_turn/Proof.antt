@@ -11,24 +11,17 @@ returns c = rw c.in_default.is
 returns_2 : tie.Need-returns-then-wheel_outside
 unfolding Prepare.wheel_next Prepare.wheel_checked
 returns_2 c =
-    let tested = c.before.before in
-    rw (tested.in-Going.is, ← tested.wheel_outside.ensures, c.if-wheel_outside.true) c.refused.ensures
+    rw (c.in-Going.is, ← c.wheel_outside.ensures, c.if-wheel_outside.true) c.refused.ensures
 
 returns_3 : tie.Need-returns-in-Not
 unfolding Prepare.wheel_next Prepare.wheel_checked
 returns_3 c =
-    let measured = c.before.before in
-    let inside = measured.before.before.before in
-    let tested = inside.before in
-    rw (tested.in-Going.is, ← tested.wheel_outside.ensures, inside.if-wheel_outside.false, ← measured.unit3-unit.ensures, c.in-Not.is) c.refused-in-Not.ensures
+    rw (c.in-Going.is, ← c.wheel_outside.ensures, c.if-wheel_outside.false, ← c.unit3-unit.ensures, c.in-Not.is) c.refused-in-Not.ensures
 
 returns-4 : tie.Need-returns-in-Is
 unfolding Prepare.wheel_next Prepare.wheel_checked
 returns-4 c =
-    let measured = c.before.before.before in
-    let inside = measured.before.before.before in
-    let tested = inside.before in
-    rw (tested.in-Going.is, ← tested.wheel_outside.ensures, inside.if-wheel_outside.false, ← measured.unit3-unit.ensures, c.in-Is.is, ← c.with_wheel.ensures) c.so_far.ensures
+    rw (c.in-Going.is, ← c.wheel_outside.ensures, c.if-wheel_outside.false, ← c.unit3-unit.ensures, c.in-Is.is, ← c.with_wheel.ensures) c.so_far.ensures
 
 pub wheel_turn_spec : {M : Type 1} → statement M
 wheel_turn_spec =

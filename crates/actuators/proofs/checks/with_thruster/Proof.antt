@@ -9,8 +9,7 @@ use Rattle.actuators.proofs.checks.with_thruster.Tie as tie
 
 put-axis-requires : tie.Need-put_axis-requires
 put-axis-requires c κs =
-    let entry = c.before.before.before.before.before.before in
-    let l : length entry.args.map.thruster_axes ≡ 36 = search rules in omega arith
+    let l : length c.args.map.thruster_axes ≡ 36 = search rules in omega arith
 
 returns : tie.Need-returns
 unfolding Prepare.with_thruster

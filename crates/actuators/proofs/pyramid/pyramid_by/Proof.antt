@@ -8,29 +8,19 @@ returns c = rw c.in_default.is c.beyond.ensures
 
 returns_2 : tie.Need-returns-in_default-b1
 returns_2 c =
-    let after-b0 = c.before.before.before.before in
-    rw (after-b0.b0.given.1, c.in_default-b1.is) c.beyond-in_default-b1.ensures
+    rw (c.in-Are.is, c.in_default-b1.is) c.beyond-in_default-b1.ensures
 
 returns_3 : tie.Need-returns-in_default-b2
 returns_3 c =
-    let after-b1 = c.before.before.before.before in
-    let after-b0 = after-b1.before.before.before in
-    rw (after-b0.b0.given.1, after-b1.b1.given.1, c.in_default-b2.is) c.beyond-in_default-b2.ensures
+    rw (c.in-Are.is, c.in-Are-b1.is, c.in_default-b2.is) c.beyond-in_default-b2.ensures
 
 returns-4 : tie.Need-returns-in_default-b3
 returns-4 c =
-    let after-b2 = c.before.before.before.before in
-    let after-b1 = after-b2.before.before.before in
-    let after-b0 = after-b1.before.before.before in
-    rw (after-b0.b0.given.1, after-b1.b1.given.1, after-b2.b2.given.1, c.in_default-b3.is) c.beyond-in_default-b3.ensures
+    rw (c.in-Are.is, c.in-Are-b1.is, c.in-Are-b2.is, c.in_default-b3.is) c.beyond-in_default-b3.ensures
 
 returns-5 : tie.Need-returns
 returns-5 c =
-    let after-b3 = c.before in
-    let after-b2 = after-b3.before.before.before in
-    let after-b1 = after-b2.before.before.before in
-    let after-b0 = after-b1.before.before.before in
-    rw (after-b0.b0.given.1, after-b1.b1.given.1, after-b2.b2.given.1, after-b3.b3.given.1)
+    rw (c.in-Are.is, c.in-Are-b1.is, c.in-Are-b2.is, c.in-Are-b3.is)
 
 pub pyramid_by_spec : {M : Type 1} → statement M
 pyramid_by_spec =

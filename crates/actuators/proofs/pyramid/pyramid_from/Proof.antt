@@ -7,10 +7,7 @@ use Rattle.actuators.proofs.pyramid.pyramid_from.Tie as tie
 returns : tie.Need-returns
 unfolding Pyramid.pyramid_from
 returns c =
-    let after-sin-cos4 = c.before in
-    let after-sin-cos3 = after-sin-cos4.before in
-    let after-sin-cos2 = after-sin-cos3.before in
-    rw (← after-sin-cos2.sin_cos-b0.ensures, ← after-sin-cos2.sin_cos-b1.ensures, ← after-sin-cos3.sin_cos-b2.ensures, ← after-sin-cos4.sin_cos-b3.ensures) c.pyramid_by.ensures
+    rw (← c.sin_cos-b0.ensures, ← c.sin_cos-b1.ensures, ← c.sin_cos-b2.ensures, ← c.sin_cos-b3.ensures) c.pyramid_by.ensures
 
 pub pyramid_from_spec : {M : Type 1} → statement M
 pyramid_from_spec =

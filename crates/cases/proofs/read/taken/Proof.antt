@@ -13,15 +13,13 @@ returns_2 c = past _ _ c.if-not-w.false c.if-at-s.true
 
 returns_3 : tie.Need-returns-then-d-lt16
 returns_3 c =
-    let read = c.before.before.before in
-    let is = c.digit-d.ensures ∙ ap digit read.byte.ensures in
-    by_digit _ _ read.if-not-w.false read.if-at-s.false _ is c.if-d-lt16.true
+    let is = c.digit-d.ensures ∙ ap digit c.byte.ensures in
+    by_digit _ _ c.if-not-w.false c.if-at-s.false _ is c.if-d-lt16.true
 
 returns-4 : tie.Need-returns
 returns-4 c =
-    let read = c.before.before in
-    let is = c.digit-d.ensures ∙ ap digit read.byte.ensures in
-    by_other _ _ read.if-not-w.false read.if-at-s.false _ is c.if-d-lt16.false
+    let is = c.digit-d.ensures ∙ ap digit c.byte.ensures in
+    by_other _ _ c.if-not-w.false c.if-at-s.false _ is c.if-d-lt16.false
 
 pub taken_spec : {M : Type 1} → statement M
 taken_spec =

@@ -14,10 +14,7 @@ returns_2 c = lists_many _ _ _ _ _ _ _ (rw (← c.sample_count-counted.ensures, 
 
 returns_3 : tie.Need-returns-else-count-out
 returns_3 c =
-    let put = c.before in
-    let room = put.before.before in
-    let counted = room.before.before in
-    lists_room _ _ _ _ _ _ _ (rw (← counted.sample_count-counted.ensures, counted.in-Of.is)) room.if-count-out.false put.put_rows.ensures
+    lists_room _ _ _ _ _ _ _ (rw (← c.sample_count-counted.ensures, c.in-Of.is)) c.if-count-out.false c.put_rows.ensures
 
 pub drive_list_spec : {M : Type 1} → statement M
 drive_list_spec =

@@ -20,16 +20,13 @@ loop-holds c = (omega arith, refl, goes_first _ _)
 
 returns : tie.Need-returns-in-Refused invariant_loop decreases_loop
 returns c =
-    let driven = c.before.before in
-    let l = driven.loop-k in
-    goes_cut _ l.invariant.2 driven.drive_sample-d.ensures (omega arith) c.in-Refused.is
+    let l = c.loop-k in
+    goes_cut _ l.invariant.2 c.drive_sample-d.ensures (omega arith) c.in-Refused.is
 
 loop-again : tie.Need-loop-k-preserved invariant_loop decreases_loop
 loop-again c =
-    let driven = c.before.before in
-    let l = driven.loop-k in
-    let start = driven.before.before.before in
-    (omega arith, length-set l.out l.k driven.drive_sample-d.result.numbers ∙ l.invariant.1, goes_next _ l.invariant.2 driven.drive_sample-d.ensures (omega (arith, start.requires)) c.in-Going.is)
+    let l = c.loop-k in
+    (omega arith, length-set l.out l.k c.drive_sample-d.result.numbers ∙ l.invariant.1, goes_next _ l.invariant.2 c.drive_sample-d.ensures (omega (arith, c.requires)) c.in-Going.is)
 
 returns_2 : tie.Need-returns invariant_loop decreases_loop
 returns_2 c = let e : c.loop-k.k ≡ c.args.count = omega arith in rw (← e) (goes_whole _ c.loop-k.invariant.2)

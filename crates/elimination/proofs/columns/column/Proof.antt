@@ -21,23 +21,21 @@ returns c = let a = c.args in
     f.ensures.stage ∙ ap (λ r. Elimination.after r (Elimination.eliminate n a.k (rows n n f.new.a)) f.new.b) g
 
 eliminate-requires : tie.Need-eliminate-requires
-eliminate-requires c κs = let s = c.before.before.before.before.before.before.before.before.before.before.before.before.before.before.before.before.before.before.before.before.before.before.before in
-    let f = c.begin in
-    let e : length s.args.b.now ≡ length f.new.top = sym (f.auto.top ∙ s.requires.0.tops) in
+eliminate-requires c κs = let f = c.begin in
+    let e : length c.args.b.now ≡ length f.new.top = sym (f.auto.top ∙ c.requires.0.tops) in
     let g : f.result ≡ true = c.if-not-begin.false in
-    (omega arith, f.auto.a ∙ s.requires.0.matrix ∙ ap (λ k. k * k) e, f.ensures.first g ∙ ap (λ w. row w f.new.a s.args.k) e)
+    (omega arith, f.auto.a ∙ c.requires.0.matrix ∙ ap (λ k. k * k) e, f.ensures.first g ∙ ap (λ w. row w f.new.a c.args.k) e)
 
 returns_2 : tie.Need-returns
 returns_2 c =
     let if1 = c.if-not-begin in
-    let s = c.before.before.before.before.before.before.before.before.before.before.before.before.before.before.before.before.before.before.before.before.before.before.before.before.before.before in
-    let n : ℕ = length s.args.b.now in
-    let k : ℕ = s.args.k in
+    let n : ℕ = length c.args.b.now in
+    let k : ℕ = c.args.k in
     let f = c.begin in
     let e = c.eliminate in
     let g : f.result ≡ true = if1.false in
     let done : rows n n e.new.a ≡ Elimination.eliminate n k (rows n n f.new.a) =
-    subst (λ w. rows w w e.new.a ≡ Elimination.eliminate w k (rows w w f.new.a)) (f.auto.top ∙ s.requires.0.tops) e.ensures in
+    subst (λ w. rows w w e.new.a ≡ Elimination.eliminate w k (rows w w f.new.a)) (f.auto.top ∙ c.requires.0.tops) e.ensures in
     f.ensures.stage ∙ ap (λ r. Elimination.after r (Elimination.eliminate n k (rows n n f.new.a)) f.new.b) g
     ∙ ap (λ x. Elimination.going x f.new.b) (sym done)
 

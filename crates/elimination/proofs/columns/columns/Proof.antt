@@ -23,15 +23,14 @@ returns c = let a = c.args in
 finish-requires : tie.Need-finish-requires
 finish-requires c κs =
     let if1 = c.if-not-begin in
-    let s = c.before.before.before.before.before.before.before.before.before.before.before.before.before.before.before.before.before.before.before.before.before.before.before.before.before.before.before.before in
     let f = c.begin in
-    let e : length s.args.b.now ≡ length f.new.b = sym f.auto.b in
+    let e : length c.args.b.now ≡ length f.new.b = sym f.auto.b in
     let g : f.result ≡ true = if1.false in (
-      record { matrix = f.auto.a ∙ s.requires.0.matrix ∙ ap (λ k. k * k) e; tops = s.requires.1 ∙ e; spares = f.auto.spare ∙ s.requires.0.spares ∙ e },
-      f.auto.col ∙ s.requires.2 ∙ e,
+      record { matrix = f.auto.a ∙ c.requires.0.matrix ∙ ap (λ k. k * k) e; tops = c.requires.1 ∙ e; spares = f.auto.spare ∙ c.requires.0.spares ∙ e },
+      f.auto.col ∙ c.requires.2 ∙ e,
       omega arith,
-      f.auto.top ∙ s.requires.0.tops ∙ e,
-      f.ensures.first g ∙ ap (λ w. row w f.new.a s.args.k) e,
+      f.auto.top ∙ c.requires.0.tops ∙ e,
+      f.ensures.first g ∙ ap (λ w. row w f.new.a c.args.k) e,
     )
 
 returns_2 : tie.Need-returns

@@ -14,14 +14,12 @@ use Rattle.elimination.proofs.columns.place.Tie as tie
 
 take-right-requires : tie.Need-take_right-requires
 take-right-requires c κs =
-    let entry = c.before.before.before.before.before.before.before.before.before.before.before.before.before.before.before.before.before.before.before.before.before in
     let r = c.scale_right in
-    let a = entry.args in
-    (omega (arith, r.auto.b), length-set a.col.now a.p (at a.col.now a.k) ∙ entry.requires.1 ∙ sym r.auto.b)
+    let a = c.args in
+    (omega (arith, r.auto.b), length-set a.col.now a.p (at a.col.now a.k) ∙ c.requires.1 ∙ sym r.auto.b)
 
 returns : tie.Need-returns
-returns c = let st = c.before.before.before.before.before.before.before.before.before.before.before.before.before.before.before.before.before.before.before.before.before.before.before.before in
-    let a = st.args in
+returns c = let a = c.args in
     let n : ℕ = length a.b.now in
     let k : ℕ = a.k in
     let r = c.place_rows-d in
@@ -29,7 +27,7 @@ returns c = let st = c.before.before.before.before.before.before.before.before.b
     let t = c.take_right in
     let col : List Float = set a.col.now a.p (at a.col.now k) in
     let pl : Inner.Placed n k a.p a.a.now r.new.a r.new.top r.result =
-    subst (λ w. Inner.Placed w k a.p a.a.now r.new.a r.new.top r.result) st.requires.0.tops r.ensures in
+    subst (λ w. Inner.Placed w k a.p a.a.now r.new.a r.new.top r.result) c.requires.0.tops r.ensures in
     record {
       matrix = record { size = pl.size; by = refl; placed = pl.placed; first = pl.first };
       right = t.ensures ∙ ap (λ w. Inner.right_less w k col s.new.b) s.auto.b

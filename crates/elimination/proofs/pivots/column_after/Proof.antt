@@ -24,9 +24,8 @@ loop-again c = let l = c.loop-i in
 
 returns : tie.Need-returns invariant_loop decreases_loop
 returns c = let l = c.loop-i in
-    let s = c.before.before.before in
-    let a = s.args in
-    column_put (length a.col.now) a.k a.a.now a.top.now l.col s.requires.0 l.invariant.1 s.requires.3 (λ x h. l.invariant.2.done x (omega arith) (omega arith))
+    let a = c.args in
+    column_put (length a.col.now) a.k a.a.now a.top.now l.col c.requires.0 l.invariant.1 c.requires.3 (λ x h. l.invariant.2.done x (omega arith) (omega arith))
 
 pub column_after_spec : {M : Type 1} → statement M
 column_after_spec =

@@ -34,13 +34,12 @@ loop-again c = let a = c.args in
 returns : tie.Need-returns invariant_loop decreases_loop
 unfolding Elimination.eliminate
 returns c =
-    let entry = c.before.before.before.before in
     let l = c.loop-i in
-    let a = entry.args in
+    let a = c.args in
     let n : ℕ = length a.top.now in
     let v : List Float = a.a.now in
     tab_same n _ _ (λ x h. l.invariant.2.done x (omega arith) (omega arith)
-    ∙ ap (λ t. Elimination.eliminated_row n a.k t x (row n v x)) (entry.requires.2 ∙ sym (line_rows n n v a.k (omega arith)))
+    ∙ ap (λ t. Elimination.eliminated_row n a.k t x (row n v x)) (c.requires.2 ∙ sym (line_rows n n v a.k (omega arith)))
     ∙ ap (λ r. Elimination.eliminated_row n a.k (get_or (rows n n v) a.k []) x r) (sym (line_rows n n v x h)))
 
 pub eliminate_spec : {M : Type 1} → statement M

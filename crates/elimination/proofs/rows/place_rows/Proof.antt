@@ -40,8 +40,7 @@ put-row-requires-2 c κs =
 
 returns : tie.Need-returns
 returns c =
-    let entry = c.before.before.before.before.before.before.before.before.before.before.before.before.before.before.before.before.before.before.before.before.before.before.before.before.before.before in
-    let a = entry.args in
+    let a = c.args in
     let n : ℕ = length a.top.now in
     let v : List Float = a.a.now in
     let r1 = c.put_row in
@@ -54,7 +53,7 @@ returns c =
     let ly : length y.new.to ≡ n = y.auto.to in
     let ez : z.new.row ≡ Elimination.divided n a.k (row n v a.p) =
     z.ensures ∙ ap (λ w. Elimination.divided w a.k y.new.to) ly ∙ ap (λ r. Elimination.divided n a.k r) ey in
-    let lx : length x.new.to ≡ n = omega (arith, x.auto.to, entry.requires.2) in
+    let lx : length x.new.to ≡ n = omega (arith, x.auto.to, c.requires.2) in
     let lz : length z.new.row ≡ n = z.auto.row ∙ ly in
     let f1 : OneRow a.p (row n v a.k) (row n v) (row n r1.new.a) = one_row n (length x.new.to) x.new.to (row n v a.k) v r1.new.a a.p lx ex r1.ensures in
     let f2 : OneRow a.k (Elimination.divided n a.k (row n v a.p)) (row n r1.new.a) (row n r2.new.a) =
@@ -62,10 +61,10 @@ returns c =
     let m : List (List Float) = rows n n v in
     record {
       size = r2.auto.a ∙ r1.auto.a;
-      by = ap (λ r. at r a.k) (ey ∙ sym (line_rows n n v a.p entry.requires.1))
+      by = ap (λ r. at r a.k) (ey ∙ sym (line_rows n n v a.p c.requires.1))
           ∙ ap (λ b. Normal.cell m (cond b a.p (cond (eqb a.k a.p) a.k a.k)) a.k) (sym (eq-eqb a.k a.k refl))
-          ∙ sym (swap_cell n a.k a.p m a.k a.k entry.requires.0);
-      placed = rows_placed n v r1.new.a r2.new.a a.k a.p entry.requires.0 entry.requires.1 f1 f2;
+          ∙ sym (swap_cell n a.k a.p m a.k a.k c.requires.0);
+      placed = rows_placed n v r1.new.a r2.new.a a.k a.p c.requires.0 c.requires.1 f1 f2;
       first = ez ∙ sym f2.own;
     }
 

@@ -16,19 +16,17 @@ use Rattle.elimination.proofs.rows.two_row.Statement.{statement}
 use Rattle.elimination.proofs.rows.two_row.Tie as tie
 
 elim-row-requires : tie.Need-elim_row-requires
-elim-row-requires c κs = let s = c.before.before.before.before.before in
-    (omega arith, subst (λ w. s.args.i * w + w ≤ length s.args.a.now) (sym s.requires.1) s.requires.2)
+elim-row-requires c κs = (omega arith, subst (λ w. c.args.i * w + w ≤ length c.args.a.now) (sym c.requires.1) c.requires.2)
 
 returns : tie.Need-returns-then-i-k
 returns c =
     let if1 = c.if-i-k in
-    let s = c.before.before.before.before.before.before.before.before in
-    let a = s.args in
+    let a = c.args in
     let n : ℕ = length a.t.now in
     let v : List Float = a.a.now in
     let f = c.elim_row in
-    one_row n (length a.u.now) _ _ v f.new.a a.i s.requires.1
-    (ap (λ w. Elimination.eliminated_row w (a.k + 1) a.u.now a.i (row w v a.i)) s.requires.1 ∙ two_first n a.k a.t.now a.u.now a.i (row n v a.i) if1.true) f.ensures
+    one_row n (length a.u.now) _ _ v f.new.a a.i c.requires.1
+    (ap (λ w. Elimination.eliminated_row w (a.k + 1) a.u.now a.i (row w v a.i)) c.requires.1 ∙ two_first n a.k a.t.now a.u.now a.i (row n v a.i) if1.true) f.ensures
 
 returns_2 : tie.Need-returns-then-i-k-2
 returns_2 c = let a = c.args in

@@ -6,8 +6,7 @@ use Rattle.export.proofs.courses.put_checked.Tie as tie
 
 returns : tie.Need-returns
 returns c =
-    let made = c.before.before.before in
-    rw made.profiled-made.ensures at (answered_at (of_profiled_law made.profiled-made.result) c.place_of.ensures c.put_profile.ensures)
+    rw c.profiled-made.ensures at (answered_at (of_profiled_law c.profiled-made.result) c.place_of.ensures c.put_profile.ensures)
 
 pub put_checked_spec : {M : Type 1} → statement M
 put_checked_spec = tie.close (tie.spec (λ c κs. search rules) (λ c κs. search rules) (λ c κs. search rules) returns)

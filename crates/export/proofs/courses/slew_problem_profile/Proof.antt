@@ -6,15 +6,12 @@ use Rattle.export.proofs.courses.slew_problem_profile.Tie as tie
 
 returns : tie.Need-returns-in-Refused
 returns c =
-    let checked = c.before in
-    rw (← checked.problem_of.ensures, ← checked.check-checked.ensures, c.in-Refused.is)
+    rw (← c.problem_of.ensures, ← c.check-checked.ensures, c.in-Refused.is)
     (record { number_is = refl; place_is = refl; value_is = refl })
 
 returns_2 : tie.Need-returns-in-Going
 returns_2 c =
-    let told = c.before.before.before.before in
-    let checked = told.before in
-    rw (← checked.problem_of.ensures, ← checked.check-checked.ensures, told.in-Going.is) c.put_checked.ensures
+    rw (← c.problem_of.ensures, ← c.check-checked.ensures, c.in-Going.is) c.put_checked.ensures
 
 pub slew_problem_profile_spec : {M : Type 1} → statement M
 slew_problem_profile_spec =

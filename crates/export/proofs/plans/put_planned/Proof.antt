@@ -7,11 +7,10 @@ use Rattle.export.proofs.plans.put_planned.Tie as tie
 
 returns : tie.Need-returns
 returns c =
-    let placed = c.before.before.before in
-    let told = of_plan placed.args.r in
+    let told = of_plan c.args.r in
     record {
       number_is = c.number_of_lem.ensures ∙ told.number;
-      counts_are = rw (placed.place_of-place.ensures, told.place, ← told.runs);
+      counts_are = rw (c.place_of-place.ensures, told.place, ← told.runs);
       duration_is = search rules;
       defect_is = search rules;
       decision_is = search rules;

@@ -5,9 +5,8 @@ use Rattle.export.proofs.plans.slew_plan_from_numbers.Tie as tie
 
 returns : tie.Need-returns
 returns c =
-    let made = c.before.before.before.before.before.before.before.before.before in
-    let is = rw made.problem_of-p.ensures at made.plan_from-planned.ensures.0 in
-    record { plan_told = rw is at c.put_planned.ensures; left = rw (made.plan_from-planned.ensures.1.0, is) }
+    let is = rw c.problem_of-p.ensures at c.plan_from-planned.ensures.0 in
+    record { plan_told = rw is at c.put_planned.ensures; left = rw (c.plan_from-planned.ensures.1.0, is) }
 
 pub slew_plan_from_numbers_spec : {M : Type 1} → statement M
 slew_plan_from_numbers_spec =

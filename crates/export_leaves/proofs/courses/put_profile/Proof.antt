@@ -7,8 +7,7 @@ use Rattle.export_leaves.proofs.courses.put_profile.Tie as tie
 
 returns : tie.Need-returns
 returns c =
-    let entry = c.before.before.before.before in
-    let p = entry.args.p in
+    let p = c.args.p in
     rw (map_fate numbers p.profile p.fate) (rw c.numbers.ensures at c.put_made.ensures)
 
 pub put_profile_spec : {M : Type 1} → statement M

@@ -6,9 +6,8 @@ use Rattle.export_runs.proofs.paths.slew_reconstruct.Tie as tie
 
 returns : tie.Need-returns
 returns c =
-    let made = c.before.before.before.before.before in
-    let is = rw made.problem_of-p.ensures at made.reconstruct-made.ensures in
-    rw (← is) (run_told made.reconstruct-made.result c.place_of.ensures c.number_of_lem.ensures c.rows.ensures)
+    let is = rw c.problem_of-p.ensures at c.reconstruct-made.ensures in
+    rw (← is) (run_told c.reconstruct-made.result c.place_of.ensures c.number_of_lem.ensures c.rows.ensures)
 
 pub slew_reconstruct_spec : {M : Type 1} → statement M
 slew_reconstruct_spec =

@@ -6,9 +6,8 @@ use Rattle.export_runs.proofs.paths.slew_residuals.Tie as tie
 
 returns : tie.Need-returns
 returns c =
-    let made = c.before.before.before.before in
-    let is = rw made.problem_of-p.ensures at made.residuals-measured.ensures in
-    rw (← is) (residuals_told made.residuals-measured.result c.place_of.ensures c.number_of_lem.ensures)
+    let is = rw c.problem_of-p.ensures at c.residuals-measured.ensures in
+    rw (← is) (residuals_told c.residuals-measured.result c.place_of.ensures c.number_of_lem.ensures)
 
 pub slew_residuals_spec : {M : Type 1} → statement M
 slew_residuals_spec =

@@ -8,13 +8,12 @@ use Rattle.export_runs.proofs.rigs.slew_allocate_body_torque.Tie as tie
 
 returns : tie.Need-returns
 returns c =
-    let made = c.before.before.before in
-    let map = made.map_of-map in
-    let row = made.allocate_body_torque-row.result in
+    let map = c.map_of-map in
+    let row = c.allocate_body_torque-row.result in
     let told = placed (of_fate_law (take (control_dim map.result) row.u) row.fate) c.place_of.ensures c.number_of_lem.ensures in
     record {
-      placed = rw (made.allocate_body_torque-row.ensures, map.ensures) at told;
-      out_is = rw (made.allocate_body_torque-row.ensures, map.ensures);
+      placed = rw (c.allocate_body_torque-row.ensures, map.ensures) at told;
+      out_is = rw (c.allocate_body_torque-row.ensures, map.ensures);
     }
 
 pub slew_allocate_body_torque_spec : {M : Type 1} → statement M

@@ -7,9 +7,8 @@ use Rattle.export_runs.proofs.rigs.slew_body_torque.Tie as tie
 
 returns : tie.Need-returns
 returns c =
-    let made = c.before.before in
-    let torque = made.body_torque-t.result in
-    let is = rw made.map_of-map.ensures at made.body_torque-t.ensures in
+    let torque = c.body_torque-t.result in
+    let is = rw c.map_of-map.ensures at c.body_torque-t.ensures in
     record { number_is = c.number_of_lem.ensures ∙ (of_fate_law torque.tau torque.fate).number ∙ rw is; out_is = rw is }
 
 pub slew_body_torque_spec : {M : Type 1} → statement M

@@ -6,10 +6,9 @@ use Rattle.export_runs.proofs.rigs.slew_prepare.Tie as tie
 
 returns : tie.Need-returns
 returns c =
-    let made = c.before.before.before.before.before in
-    let declared = made.actuators_of.ensures in
-    let is = rw declared at made.prepare-prepared.ensures in
-    let told = placed (of_fate_law made.prepare-prepared.result.map made.prepare-prepared.result.fate) c.place_of.ensures c.number_of_lem.ensures in
+    let declared = c.actuators_of.ensures in
+    let is = rw declared at c.prepare-prepared.ensures in
+    let told = placed (of_fate_law c.prepare-prepared.result.map c.prepare-prepared.result.fate) c.place_of.ensures c.number_of_lem.ensures in
     (rw is at told, (rw is, rw is))
 
 pub slew_prepare_spec : {M : Type 1} → statement M

@@ -5,8 +5,7 @@ use Rattle.export_runs.proofs.rigs.slew_singularity.Tie as tie
 
 returns : tie.Need-returns
 returns c =
-    let made = c.before.before in
-    rw (made.singularity.ensures, made.map_of-map.ensures) at c.put_measure.ensures
+    rw (c.singularity.ensures, c.map_of-map.ensures) at c.put_measure.ensures
 
 pub slew_singularity_spec : {M : Type 1} → statement M
 slew_singularity_spec = tie.close (tie.spec (λ c κs. search rules) (λ c κs. search rules) (λ c κs. search rules) returns)

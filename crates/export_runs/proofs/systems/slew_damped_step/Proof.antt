@@ -17,27 +17,22 @@ returns_3 c = rw (le-ltb 193 _ c.if-n-gt193.false, le-ltb 193 _ c.if-m-gt193.fal
 
 -- at most 193 rows of at most 193
 mul-if4 : tie.Need-overflow_mul-n
-mul-if4 c = let few = c.before in omega (arith, mul-le-mul few.if-n-gt193.false few.if-m-gt193.false)
+mul-if4 c = omega (arith, mul-le-mul c.if-n-gt193.false c.if-m-gt193.false)
 
 mul-if4-2 : tie.Need-overflow_mul-n-2
 mul-if4-2 c = let n = c.if-n-gt193.false in omega (arith, mul-le-mul n n)
 
 add-if4 : tie.Need-overflow_add-n
-add-if4 c = let few = c.before in let n = few.if-n-gt193.false in omega (arith, mul-le-mul n few.if-m-gt193.false, mul-le-mul n n)
+add-if4 c = let n = c.if-n-gt193.false in omega (arith, mul-le-mul n c.if-m-gt193.false, mul-le-mul n n)
 
 returns-4 : tie.Need-returns-then-v-n
 returns-4 c =
-    let few = c.before.before in
-    rw (le-ltb 193 _ few.if-n-gt193.false, le-ltb 193 _ few.if-m-gt193.false, le-ltb _ _ c.if-r-m.false, ne_eqb _ _ c.if-v-n.true)
+    rw (le-ltb 193 _ c.if-n-gt193.false, le-ltb 193 _ c.if-m-gt193.false, le-ltb _ _ c.if-r-m.false, ne_eqb _ _ c.if-v-n.true)
 
 returns-5 : tie.Need-returns
 returns-5 c =
-    let stepped = c.before.before.before.before in
-    let fits = stepped.before.before.before in
-    let enough = fits.before in
-    let few = enough.before in
-    rw (le-ltb 193 _ few.if-n-gt193.false, le-ltb 193 _ few.if-m-gt193.false, le-ltb _ _ enough.if-r-m.false, eq-eqb _ _ fits.if-v-n.false)
-    stepped.damped_step.ensures.1
+    rw (le-ltb 193 _ c.if-n-gt193.false, le-ltb 193 _ c.if-m-gt193.false, le-ltb _ _ c.if-r-m.false, eq-eqb _ _ c.if-v-n.false)
+    c.damped_step.ensures.1
 
 pub slew_damped_step_spec : {M : Type 1} → statement M
 slew_damped_step_spec =

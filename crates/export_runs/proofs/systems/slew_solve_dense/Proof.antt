@@ -17,9 +17,7 @@ returns_2 c = rw (le-ltb 193 _ c.if-n-gt193.false, ne_eqb _ _ c.if-a-n.true)
 
 returns_3 : tie.Need-returns
 returns_3 c =
-    let solved = c.before.before.before.before in
-    let fits = solved.before.before.before in
-    rw (le-ltb 193 _ fits.if-n-gt193.false, eq-eqb _ _ fits.if-a-n.false) solved.solve_dense.ensures
+    rw (le-ltb 193 _ c.if-n-gt193.false, eq-eqb _ _ c.if-a-n.false) c.solve_dense.ensures
 
 pub slew_solve_dense_spec : {M : Type 1} → statement M
 slew_solve_dense_spec =

@@ -6,9 +6,7 @@ use Rattle.export_tools.proofs.region.slew_outcome.Tie as tie
 
 returns : tie.Need-returns
 returns c =
-    let told = c.before.before.before in
-    let start = told.before in
-    let e = rw (to_z-of_z start.ranges.angle, to_z-of_z start.ranges.rate) at told.outcome.ensures.0 in
+    let e = rw (to_z-of_z c.ranges.angle, to_z-of_z c.ranges.rate) at c.outcome.ensures.0 in
     rw (← e) c.put_start.ensures
 
 pub slew_outcome_spec : {M : Type 1} → statement M

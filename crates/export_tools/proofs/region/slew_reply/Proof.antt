@@ -6,9 +6,7 @@ use Rattle.export_tools.proofs.region.slew_reply.Tie as tie
 
 returns : tie.Need-returns
 returns c =
-    let told = c.before.before in
-    let start = told.before in
-    let e = rw (to_z-of_z start.ranges.angle, to_z-of_z start.ranges.rate, to_z-of_z start.ranges.choice) at told.reply.ensures.0 in
+    let e = rw (to_z-of_z c.ranges.angle, to_z-of_z c.ranges.rate, to_z-of_z c.ranges.choice) at c.reply.ensures.0 in
     rw (← e) c.put_reply.ensures
 
 pub slew_reply_spec : {M : Type 1} → statement M

@@ -8,11 +8,10 @@ use Rattle.forward.proofs.rows.node_row.Tie as tie
 
 returns : tie.Need-returns
 returns c =
-    let start = c.before.before.before.before.before in
-    let w : length start.args.s.w ≡ 3 = search rules in
-    let u : length start.args.t4 ≡ 3 = search rules in
-    let h : length start.args.s.h ≡ 3 = search rules in
-    let m : length start.args.s.hw ≡ 8 = search rules in
+    let w : length c.args.s.w ≡ 3 = search rules in
+    let u : length c.args.t4 ≡ 3 = search rules in
+    let h : length c.args.s.h ≡ 3 = search rules in
+    let m : length c.args.s.hw ≡ 8 = search rules in
     numbers_node _ _ _ _ w u h m
 
 pub node_row_spec : {M : Type 1} → statement M

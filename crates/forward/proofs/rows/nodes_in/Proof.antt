@@ -23,9 +23,8 @@ loop-holds c = ((omega arith, omega arith), (search rules, λ i h. let e : i ≡
 
 loop-again : tie.Need-loop-k-preserved invariant_loop decreases_loop
 loop-again c =
-    let entry = c.before.before.before.before.before.before in
     let l = c.loop-k in
-    let rows = entry.args.rows.now in (
+    let rows = c.args.rows.now in (
       (omega arith, omega arith),
       (
         search rules,
@@ -37,10 +36,9 @@ loop-again c =
 
 returns : tie.Need-returns invariant_loop decreases_loop
 returns c =
-    let entry = c.before.before.before.before in
     let l = c.loop-k in
-    let rows = entry.args.rows.now in
-    let long : length rows ≡ 17 = entry.requires in
+    let rows = c.args.rows.now in
+    let long : length rows ≡ 17 = c.requires in
     ext_get_or no_node l.nodes (nodes_from rows) (l.invariant.1.0 ∙ sym (nodes_length rows ∙ long))
     (λ i h. l.invariant.1.1 i (omega (arith, l.invariant.1.0)) ∙ sym (nodes_at rows i (omega (arith, l.invariant.1.0, long))))
 

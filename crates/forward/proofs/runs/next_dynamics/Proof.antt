@@ -17,13 +17,11 @@ add-past c = omega (arith, row_end c.args.i 16 c.args.n (omega (arith, c.require
 
 mul-dynamics : tie.Need-offset_bounds-z-at
 mul-dynamics c =
-    let entry = c.before.before.before.before.before in
-    omega (arith, row_end entry.args.i 16 entry.args.n (omega (arith, entry.requires.1.1.0)), entry.requires.1.0.0)
+    omega (arith, row_end c.args.i 16 c.args.n (omega (arith, c.requires.1.1.0)), c.requires.1.0.0)
 
 part-dynamics-end : tie.Need-slice_bounds-dynamics-end
 part-dynamics-end c =
-    let entry = c.before.before.before.before.before in
-    omega (arith, row_end entry.args.i 16 entry.args.n (omega (arith, entry.requires.1.1.0)), entry.requires.1.0.0, entry.requires.1.0.1)
+    omega (arith, row_end c.args.i 16 c.args.n (omega (arith, c.requires.1.1.0)), c.requires.1.0.0, c.requires.1.0.1)
 
 returns : tie.Need-returns-then-i-end
 returns c = record { dynamics = λ h. c.dynamics.ensures; stays = λ h. absurd (omega arith) }

@@ -10,13 +10,12 @@ steps-under-requires : tie.Need-steps_under-w-requires
 steps-under-requires c κs = let pre = c.requires in (pre.0, (pre.1, omega arith))
 
 returns : tie.Need-returns-in-Refused
-returns c = let t = c.before in ran_refused _ _ _ _ _ _ t.requires.1 t.steps_under-w.ensures c.in-Refused.is
+returns c = ran_refused _ _ _ _ _ _ c.requires.1 c.steps_under-w.ensures c.in-Refused.is
 
 returns_2 : tie.Need-returns
 unfolding Ieee.of_bits
 returns_2 c =
-    let t = c.before.before.before.before.before.before.before in
-    ran_going _ _ _ _ _ _ t.requires.1 t.steps_under-w.ensures c.node_row-last.result c.torque_in-tau.ensures c.node_row-last.ensures
+    ran_going _ _ _ _ _ _ c.requires.1 c.steps_under-w.ensures c.node_row-last.result c.torque_in-tau.ensures c.node_row-last.ensures
 
 pub run_on_spec : {M : Type 1} → statement M
 run_on_spec =

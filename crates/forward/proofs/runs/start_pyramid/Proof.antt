@@ -16,8 +16,7 @@ pyramid-known-requires c κs = none_known (With c.args.p)
 returns_2 : tie.Need-returns-in-Are
 unfolding GimbalStartInner.start_gimbals
 returns_2 c =
-    let pair = c.before.before.before.before in
-    rw (← pair.sin_cos-pair.ensures, pair.in-Are.is, c.pyramid_known-m.ensures)
+    rw (← c.sin_cos-pair.ensures, c.in-Are.is, c.pyramid_known-m.ensures)
 
 pub start_pyramid_spec : {M : Type 1} → statement M
 start_pyramid_spec =

@@ -61,33 +61,26 @@ next-dynamics-requires c κs =
 
 returns : tie.Need-returns-in-Refused invariant_loop decreases_loop
 returns c =
-    let j = c.before in
-    let u = j.before.before.before in
-    let x = u.before.before.before in
-    let lp = x.before.before.before.before in
-    let inv = lp.loop-i.invariant in
+    let inv = c.loop-i.invariant in
     let v = inv.1.1 in
-    let f = attitude_by_length _ _ _ j.attitude.ensures x.exp_at-turned.ensures (v.1.1.1 u.if-k-i.true) in
-    reached_refused _ _ _ _ _ _ _ _ _ u.if-k-i.true lp.loop-i-test.true v.0
-    (refused_turn _ _ _ _ _ _ _ (pipelined_step _ _ _ _ _ _ v.1.1.0 u.if-k-i.true lp.loop-i-test.true f j.join-g.ensures) c.in-Refused.is) c.in-Refused.is inv.1.0.0 inv.1.0.1
+    let f = attitude_by_length _ _ _ c.attitude.ensures c.exp_at-turned.ensures (v.1.1.1 c.if-k-i.true) in
+    reached_refused _ _ _ _ _ _ _ _ _ c.if-k-i.true c.loop-i-test.true v.0
+    (refused_turn _ _ _ _ _ _ _ (pipelined_step _ _ _ _ _ _ v.1.1.0 c.if-k-i.true c.loop-i-test.true f c.join-g.ensures) c.in-Refused.is) c.in-Refused.is inv.1.0.0 inv.1.0.1
 
 node-row-requires : tie.Need-node_row-row-requires invariant_loop decreases_loop
 node-row-requires c κs =
-    let entry = c.before.before.before.before.before.before.before.before.before.before.before.before.before.before.before.before.before.before.before in
     let loop-test = c.loop-i-test in
-    omega (arith, loop-test.true, entry.requires.1.1.1.1.1)
+    omega (arith, loop-test.true, c.requires.1.1.1.1.1)
 
 mul-row : tie.Need-offset_bounds-nodes-j invariant_loop decreases_loop
 mul-row c =
-    let entry = c.before.before.before.before.before.before.before.before.before.before.before.before.before.before.before.before.before.before.before.before in
     let loop-test = c.loop-i-test in
-    omega (arith, loop-test.true, entry.requires.1.1.1.1.1)
+    omega (arith, loop-test.true, c.requires.1.1.1.1.1)
 
 element-set-from-row : tie.Need-bounds-nodes-j invariant_loop decreases_loop
 element-set-from-row c =
-    let entry = c.before.before.before.before.before.before.before.before.before.before.before.before.before.before.before.before.before.before.before.before in
     let loop-test = c.loop-i-test in
-    omega (arith, loop-test.true, entry.requires.1.1.1.1.1)
+    omega (arith, loop-test.true, c.requires.1.1.1.1.1)
 
 larger-square-requires : tie.Need-larger_square-square-requires invariant_loop decreases_loop
 larger-square-requires c κs =
@@ -96,9 +89,8 @@ larger-square-requires c κs =
 
 add-i : tie.Need-overflow_add-i invariant_loop decreases_loop
 add-i c =
-    let entry = c.before.before.before.before.before.before.before.before.before.before.before.before.before in
     let loop-test = c.loop-i-test in
-    omega (arith, loop-test.true, entry.requires.1.1.1.1.1)
+    omega (arith, loop-test.true, c.requires.1.1.1.1.1)
 
 loop-less : tie.Need-loop-i-smaller invariant_loop decreases_loop
 loop-less c =
@@ -110,7 +102,6 @@ loop-again c =
     let loop-test = c.loop-i-test in
     let next-dynamics = c.next_dynamics-next in
     let lp = c.loop-i in
-    let start = c.before.before.before.before.before.before.before.before.before.before.before.before.before in
     let o = lp.invariant in
     let h = loop-test.true in
     let v = o.1.1 in
@@ -121,7 +112,7 @@ loop-again c =
     (λ w. rw (w.10, w.11, w.12, nodes_set) (
       (omega (arith, o.0), omega (arith, h)),
       (
-        (below_set start.args.k start.args.nodes.now lp.nodes (lp.i - 1) w.8.result (omega (arith, w.0.taken)) o.1.0.0, length-set lp.nodes (lp.i - 1) w.8.result ∙ o.1.0.1),
+        (below_set c.args.k c.args.nodes.now lp.nodes (lp.i - 1) w.8.result (omega (arith, w.0.taken)) o.1.0.0, length-set lp.nodes (lp.i - 1) w.8.result ∙ o.1.0.1),
         (
           rollout_next (Runs.rollout_turn _ _ _) _ _ _ w.0.taken v.0
               (one_turn _ _ _ _ _ _ _ (pipelined_step _ _ _ _ _ _ g w.0.taken h (attitude_by_length _ _ _ w.2.ensures e (v.1.1.1 w.0.taken)) w.3.ensures) w.8.ensures w.9.ensures.1 w.5.given.1),
@@ -134,10 +125,9 @@ loop-again c =
 
 returns_2 : tie.Need-returns invariant_loop decreases_loop
 returns_2 c =
-    let l = c.before.before in
-    let v = l.loop-i.invariant in
-    let a = l.args in
-    let e : l.loop-i.i - a.k - 1 ≡ a.end - a.k = omega (arith, v.0) in
+    let v = c.loop-i.invariant in
+    let a = c.args in
+    let e : c.loop-i.i - a.k - 1 ≡ a.end - a.k = omega (arith, v.0) in
     reached_going _ _ _ _ _ _ _ refl (rw e at v.1.1.0) (record { matrix = v.1.1.1.1.0.past (omega (arith, v.0)); plus = v.1.1.1.0 }) v.1.0.0 v.1.0.1
 
 pub steps_on_spec : {M : Type 1} → statement M

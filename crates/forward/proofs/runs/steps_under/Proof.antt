@@ -7,19 +7,15 @@ use Rattle.forward.proofs.runs.steps_under.Tie as tie
 
 steps-on-requires : tie.Need-steps_on-requires
 steps-on-requires c κs =
-    let g = c.before.before.before.before.before.before.before.before in
-    let d = g.before in
-    let pre = d.requires in (
-      rw (g.rig_under-rig.ensures, d.control_dim-n.ensures) (dim_sized _ _ pre.0.sized),
-      (rw d.control_dim-n.ensures pre.0.narrow, (rw g.rig_under-rig.ensures pre.0.angles, (rw g.rig_under-rig.ensures pre.0.sound, pre.1))),
+    let pre = c.requires in (
+      rw (c.rig_under-rig.ensures, c.control_dim-n.ensures) (dim_sized _ _ pre.0.sized),
+      (rw c.control_dim-n.ensures pre.0.narrow, (rw c.rig_under-rig.ensures pre.0.angles, (rw c.rig_under-rig.ensures pre.0.sound, pre.1))),
     )
 
 returns : tie.Need-returns
 unfolding Ieee.of_bits
 returns c =
-    let f = c.before.before.before.before in
-    let g = f.before.before.before.before.before in
-    rw (← g.rig_under-rig.ensures, ← g.control_dim-n.ensures, ← f.frame_of-f.ensures) c.steps_on.ensures
+    rw (← c.rig_under-rig.ensures, ← c.control_dim-n.ensures, ← c.frame_of-f.ensures) c.steps_on.ensures
 
 pub steps_under_spec : {M : Type 1} → statement M
 steps_under_spec =

@@ -6,8 +6,7 @@ use Rattle.forward.proofs.steps.dynamics.Tie as tie
 
 finish-dynamics-requires : tie.Need-finish_dynamics-requires
 finish-dynamics-requires c κs =
-    let entry = c.before.before.before.before.before.before.before.before.before.before.before.before in
-    (entry.requires.0, entry.requires.1)
+    (c.requires.0, c.requires.1)
 
 returns : tie.Need-returns
 returns c =

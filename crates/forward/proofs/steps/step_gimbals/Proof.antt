@@ -9,8 +9,7 @@ use Rattle.forward.proofs.steps.step_gimbals.Tie as tie
 
 step-pyramid-requires : tie.Need-step_pyramid-requires
 step-pyramid-requires c κs =
-    let entry = c.before.before.before in
-    rw c.in-With.is at entry.requires
+    rw c.in-With.is at c.requires
 
 returns : tie.Need-returns-in-Without
 unfolding Steps.step_gimbals

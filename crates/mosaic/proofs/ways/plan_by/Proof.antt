@@ -6,15 +6,13 @@ use Rattle.mosaic.proofs.ways.plan_by.Tie as tie
 
 returns : tie.Need-returns-in-Search
 returns c =
-    let planned = c.before.before in
-    let e = planned.plan.ensures in
-    rw planned.in-Search.is (search_is _ _ e.0, (e.1.0, search_answers _ _ e.1.1))
+    let e = c.plan.ensures in
+    rw c.in-Search.is (search_is _ _ e.0, (e.1.0, search_answers _ _ e.1.1))
 
 returns_2 : tie.Need-returns-in-Eigenaxis
 returns_2 c =
-    let planned = c.before.before in
-    let e = planned.plan_counted.ensures in
-    rw planned.in-Eigenaxis.is (eigenaxis_is _ _ _ e.0, (e.1.0, eigenaxis_answers _ _ _ e.0 e.1.1))
+    let e = c.plan_counted.ensures in
+    rw c.in-Eigenaxis.is (eigenaxis_is _ _ _ e.0, (e.1.0, eigenaxis_answers _ _ _ e.0 e.1.1))
 
 pub plan_by_spec : {M : Type 1} → statement M
 plan_by_spec =

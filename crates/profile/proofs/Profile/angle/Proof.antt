@@ -11,16 +11,12 @@ returns c = rw c.if-t-self.true
 returns_2 : tie.Need-returns-then-t-t_dec
 unfolding angle of_bits
 returns_2 c =
-    let branch2 = c.before.before.before.before.before in
-    let branch1 = branch2.before in
-    rw (branch1.if-t-self.false, branch2.if-t-t_dec.true)
+    rw (c.if-t-self.false, c.if-t-t_dec.true)
 
 returns_3 : tie.Need-returns-else-t-t_dec
 unfolding angle of_bits
 returns_3 c =
-    let branch2 = c.before.before.before.before in
-    let branch1 = branch2.before in
-    rw (branch1.if-t-self.false, branch2.if-t-t_dec.false)
+    rw (c.if-t-self.false, c.if-t-t_dec.false)
 
 pub angle_spec : {M : Type 1} → statement M
 angle_spec = tie.close (tie.spec returns returns_2 returns_3)

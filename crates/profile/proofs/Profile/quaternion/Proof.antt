@@ -9,9 +9,7 @@ use Rattle.profile.proofs.Profile.quaternion.Tie as tie
 returns : tie.Need-returns-in-Are
 unfolding quaternion of_bits
 returns c =
-    let after-sin-cos = c.before.before in
-    let after-angle = after-sin-cos.before in
-    rw (← at_once_law, ← after-angle.angle.ensures, ← after-sin-cos.sin_cos-half.ensures, c.in-Are.is, c.mul.ensures)
+    rw (← at_once_law, ← c.angle.ensures, ← c.sin_cos-half.ensures, c.in-Are.is, c.mul.ensures)
 
 returns_2 : tie.Need-returns-in-Outside
 unfolding quaternion of_bits

@@ -20,25 +20,19 @@ loop-holds c = (omega arith, omega arith, c.start-c.ensures ∙ cursor_first _ _
 
 returns : tie.Need-returns-then-is_refused invariant_loop decreases_loop
 returns c =
-    let r = c.before in
-    let p = r.before in
-    let t = p.before in
-    let l = t.loop-k in
-    cursor_stays _ _ (l.k - 1 + 1) _ (omega (arith, l.invariant.0, t.loop-k-test.true)) (cursor_next _ _ (l.k - 1) l.invariant.2 p.print_leg-c.ensures) (sym r.is_refused.ensures ∙ c.if-is_refused.true)
+    let l = c.loop-k in
+    cursor_stays _ _ (l.k - 1 + 1) _ (omega (arith, l.invariant.0, c.loop-k-test.true)) (cursor_next _ _ (l.k - 1) l.invariant.2 c.print_leg-c.ensures) (sym c.is_refused.ensures ∙ c.if-is_refused.true)
 
 loop-again : tie.Need-loop-k-preserved invariant_loop decreases_loop
 loop-again c =
-    let p = c.before.before in
-    let t = p.before in
-    let l = t.loop-k in
+    let l = c.loop-k in
     let e : l.k + 1 - 1 ≡ l.k - 1 + 1 = omega (arith, l.invariant.0) in
-    (omega arith, omega (arith, l.invariant.0, t.loop-k-test.true), rw e (cursor_next _ _ (l.k - 1) l.invariant.2 p.print_leg-c.ensures))
+    (omega arith, omega (arith, l.invariant.0, c.loop-k-test.true), rw e (cursor_next _ _ (l.k - 1) l.invariant.2 c.print_leg-c.ensures))
 
 returns_2 : tie.Need-returns invariant_loop decreases_loop
 returns_2 c =
-    let entry = c.before.before.before.before.before.before in
     let l = c.loop-k in
-    let e : l.k - 1 ≡ entry.args.m.count - 1 = omega (arith, l.invariant.0, l.invariant.1, c.loop-k-test.false) in
+    let e : l.k - 1 ≡ c.args.m.count - 1 = omega (arith, l.invariant.0, l.invariant.1, c.loop-k-test.false) in
     rw e at l.invariant.2
 
 pub print_legs_spec : {M : Type 1} → statement M

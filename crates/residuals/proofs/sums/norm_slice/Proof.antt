@@ -24,8 +24,7 @@ loop-again c = (search rules, iter_next _ _ _ c.loop-k.invariant.1 refl)
 returns : tie.Need-returns invariant_loop decreases_loop
 unfolding Sums.norm_slice
 returns c =
-    let entry = c.before.before.before.before in
-    let e : c.loop-k.k ≡ entry.args.n = omega arith in rw (c.sqrt.ensures, c.loop-k.invariant.1, e)
+    let e : c.loop-k.k ≡ c.args.n = omega arith in rw (c.sqrt.ensures, c.loop-k.invariant.1, e)
 
 pub norm_slice_spec : {M : Type 1} → statement M
 norm_slice_spec =

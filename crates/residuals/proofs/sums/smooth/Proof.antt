@@ -21,10 +21,8 @@ loop-holds c = (c.requires.0.0, c.requires.1)
 
 loop-again : tie.Need-loop-i-preserved invariant_loop decreases_loop
 loop-again c =
-    let at = c.before.before.before.before in
-    let l = at.loop-i in
-    let start = at.before in
-    (omega arith, iter_next _ _ l.i l.invariant.1 (c.smooth_turn-sum.ensures ∙ smooth_turns start.args.nodes.now start.args.dt l.i (l.i + 1) l.sum refl (omega (arith, start.requires.0.1))))
+    let l = c.loop-i in
+    (omega arith, iter_next _ _ l.i l.invariant.1 (c.smooth_turn-sum.ensures ∙ smooth_turns c.args.nodes.now c.args.dt l.i (l.i + 1) l.sum refl (omega (arith, c.requires.0.1))))
 
 returns : tie.Need-returns invariant_loop decreases_loop
 unfolding Sums.smooth

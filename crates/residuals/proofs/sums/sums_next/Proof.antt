@@ -10,9 +10,8 @@ use Rattle.residuals.proofs.sums.sums_next.Tie as tie
 
 returns : tie.Need-returns-then-k-eq0
 returns c =
-    let start = c.before.before.before in
-    let a = start.args in
-    let s = start.requires.1 in
+    let a = c.args in
+    let s = c.requires.1 in
     let e : a.k - 1 ≡ a.k + 1 - 1 = omega arith in
     record {
       few = omega arith;
@@ -23,15 +22,13 @@ returns c =
 
 returns_2 : tie.Need-returns
 returns_2 c =
-    let t = c.before.before.before.before in
-    let start = t.before.before in
-    let a = start.args in
-    let s = start.requires.1 in
+    let a = c.args in
+    let s = c.requires.1 in
     let e : a.k - 1 + 1 ≡ a.k + 1 - 1 = omega arith in
     record {
       few = omega arith;
       long = s.long;
-      energy = iter_next _ _ a.k s.energy (t.energy_turn-energy.ensures ∙ energy_turns a.nodes.now a.dt a.k a.s.energy (omega (arith, s.long)));
+      energy = iter_next _ _ a.k s.energy (c.energy_turn-energy.ensures ∙ energy_turns a.nodes.now a.dt a.k a.s.energy (omega (arith, s.long)));
       smooth = rw e at (iter_next _ _ (a.k - 1) s.smooth (c.smooth_turn-smooth.ensures ∙ smooth_turns a.nodes.now a.dt (a.k - 1) a.k a.s.smooth (omega arith) (omega (arith, s.long))));
     }
 

@@ -12,14 +12,12 @@ use Rattle.residuals.proofs.terms.closing.Tie as tie
 energy-requires : tie.Need-energy-requires
 unfolding Ieee.of_bits
 energy-requires c κs =
-    let entry = c.before.before.before.before.before.before.before.before in
-    let s = entry.requires.1.1 in ((s.few, s.long), s.energy)
+    let s = c.requires.1.1 in ((s.few, s.long), s.energy)
 
 smooth-requires : tie.Need-smooth-requires
 unfolding Ieee.of_bits
 smooth-requires c κs =
-    let entry = c.before.before.before.before.before.before.before.before.before.before.before in
-    let s = entry.requires.1.1 in rw c.changes.ensures ((omega (arith, s.few), s.long), s.smooth)
+    let s = c.requires.1.1 in rw c.changes.ensures ((omega (arith, s.few), s.long), s.smooth)
 
 returns : tie.Need-returns
 unfolding Residuals.closing Ieee.of_bits node_from
@@ -30,7 +28,6 @@ returns c =
     let energy = c.energy in
     let weighted2 = c.weighted-spent in
     let smooth = c.smooth in
-    let start = c.before.before.before.before.before.before.before.before.before.before.before.before.before.before.before.before in
     rw (
       c.sqrt.ensures,
       weighted.ensures,
@@ -42,7 +39,7 @@ returns c =
       c.sqrt-2.ensures,
       c.stored.ensures,
       momenta-in.ensures,
-      nodes_at start.args.nodes.now 16 (omega (arith, start.requires.1.1.long)),
+      nodes_at c.args.nodes.now 16 (omega (arith, c.requires.1.1.long)),
     )
 
 pub closing_spec : {M : Type 1} → statement M

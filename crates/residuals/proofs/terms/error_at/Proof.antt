@@ -7,12 +7,11 @@ use Rattle.residuals.proofs.terms.error_at.Statement.{statement}
 use Rattle.residuals.proofs.terms.error_at.Tie as tie
 
 returns : tie.Need-returns-then-j-k
-returns c = let t = c.before.before.before in t.requires.1.1 _ t.if-j-k.true
+returns c = c.requires.1.1 _ c.if-j-k.true
 
 returns_2 : tie.Need-returns
 returns_2 c =
-    let start = c.before.before.before in
-    c.error_in.ensures ∙ error_row start.args.nodes.now start.args.qf start.args.j (omega (arith, start.requires.1.0))
+    c.error_in.ensures ∙ error_row c.args.nodes.now c.args.qf c.args.j (omega (arith, c.requires.1.0))
 
 pub error_at_spec : {M : Type 1} → statement M
 error_at_spec =

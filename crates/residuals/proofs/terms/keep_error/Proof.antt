@@ -13,16 +13,13 @@ use Rattle.residuals.proofs.terms.keep_error.Tie as tie
 
 returns : tie.Need-returns-in-Outside
 returns c =
-    let entry = c.before.before.before.before.before.before in
-    (λ h. let no : ◌≡◌ {A = ℕ} 0 1 = cc in absurd (omega arith), entry.requires.1.1.0)
+    (λ h. let no : ◌≡◌ {A = ℕ} 0 1 = cc in absurd (omega arith), c.requires.1.1.0)
 
 returns_2 : tie.Need-returns-in-By
 returns_2 c =
-    let e = c.before in
-    let start = e.before.before.before.before.before in
-    let a = start.args in
-    let pre = start.requires in
-    let known = sym c.in-By.is ∙ (e.error_in-error.ensures ∙ error_row a.nodes.now a.t.qf a.k (omega (arith, pre.1.0))) in
+    let a = c.args in
+    let pre = c.requires in
+    let known = sym c.in-By.is ∙ (c.error_in-error.ensures ∙ error_row a.nodes.now a.t.qf a.k (omega (arith, pre.1.0))) in
     (λ h p. errors_next a.t.qf (nodes_from a.nodes.now) a.k a.errors.now _ (omega (arith, pre.1.1.0)) known (pre.1.1.1 p), length-set a.errors.now a.k _ ∙ pre.1.1.0)
 
 returns_3 : tie.Need-returns

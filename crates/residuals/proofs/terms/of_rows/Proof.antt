@@ -14,11 +14,9 @@ with-pointing-requires : tie.Need-with_pointing-requires
 unfolding Ieee.of_bits
 with-pointing-requires c κs =
     let error = c.error-1 in
-    let f = c.before.before.before.before.before.before.before in
-    let start = f.before.before.before in
-    let a = start.args in
-    let pre = start.requires in
-    let e = f.error_in-error.ensures ∙ error_row a.nodes.now a.t.qf 16 (omega (arith, pre.1.sums.long)) in
+    let a = c.args in
+    let pre = c.requires in
+    let e = c.error_in-error.ensures ∙ error_row a.nodes.now a.t.qf 16 (omega (arith, pre.1.sums.long)) in
     (pre.0, (pre.1.sums, record { kept = pre.1.kept c.if-weights.true; end = sym error.given.1 ∙ e }))
 
 returns : tie.Need-returns-then-weights
@@ -27,20 +25,16 @@ returns c =
     let error = c.error-1 in
     let rate-in = c.rate_in in
     let ends = c.ends-r in
-    let f = c.before.before.before.before.before.before.before.before in
-    let start = f.before.before.before in
-    let a = start.args in
-    let long = start.requires.1.sums.long in
-    let e = f.error_in-error.ensures ∙ error_row a.nodes.now a.t.qf 16 (omega (arith, long)) in
+    let a = c.args in
+    let long = c.requires.1.sums.long in
+    let e = c.error_in-error.ensures ∙ error_row a.nodes.now a.t.qf 16 (omega (arith, long)) in
     rw (← e, error.given.1, c.if-weights.true, c.with_pointing.ensures, ends.ensures, rate-in.ensures, nodes_at a.nodes.now 16 (omega (arith, long)))
 
 returns_2 : tie.Need-returns-in-Outside
 unfolding Residuals.of_nodes
 returns_2 c =
-    let f = c.before.before in
-    let start = f.before.before.before in
-    let a = start.args in
-    let e = f.error_in-error.ensures ∙ error_row a.nodes.now a.t.qf 16 (omega (arith, start.requires.1.sums.long)) in
+    let a = c.args in
+    let e = c.error_in-error.ensures ∙ error_row a.nodes.now a.t.qf 16 (omega (arith, c.requires.1.sums.long)) in
     rw (← e, c.in-Outside.is) c.refused_residuals.ensures
 
 returns_3 : tie.Need-returns-else-weights
@@ -49,11 +43,9 @@ returns_3 c =
     let error = c.error-1 in
     let rate-in = c.rate_in in
     let ends = c.ends-r in
-    let f = c.before.before.before.before.before.before.before.before in
-    let start = f.before.before.before in
-    let a = start.args in
-    let long = start.requires.1.sums.long in
-    let e = f.error_in-error.ensures ∙ error_row a.nodes.now a.t.qf 16 (omega (arith, long)) in
+    let a = c.args in
+    let long = c.requires.1.sums.long in
+    let e = c.error_in-error.ensures ∙ error_row a.nodes.now a.t.qf 16 (omega (arith, long)) in
     rw (← e, error.given.1, c.if-weights.false, c.without_pointing.ensures, ends.ensures, rate-in.ensures, nodes_at a.nodes.now 16 (omega (arith, long)))
 
 pub of_rows_spec : {M : Type 1} → statement M

@@ -25,20 +25,16 @@ error-at-requires c κs = (c.loop-j-test.true, c.requires)
 
 returns : tie.Need-returns-in-Refused invariant_loop decreases_loop
 returns c =
-    let t = c.before in
-    let f = t.before.before in
-    let l = f.loop-j in
-    let a = f.args in
-    let next = rows_next a.scale (nodes_from a.nodes.now) a.qf a.r.now l.j l.r l.invariant.1 (t.point-fate.ensures ∙ ap (λ (e : Rotation). Residuals.point_by e a.scale l.j l.r) f.error_at.ensures) in
+    let l = c.loop-j in
+    let a = c.args in
+    let next = rows_next a.scale (nodes_from a.nodes.now) a.qf a.r.now l.j l.r l.invariant.1 (c.point-fate.ensures ∙ ap (λ (e : Rotation). Residuals.point_by e a.scale l.j l.r) c.error_at.ensures) in
     rw c.in-Refused.is (rows_refused a.scale (nodes_from a.nodes.now) a.qf a.r.now (l.j + 1) 16 _ _ (omega arith) (rw c.in-Refused.is at next))
 
 loop-again : tie.Need-loop-j-preserved invariant_loop decreases_loop
 loop-again c =
-    let t = c.before in
-    let f = t.before.before in
-    let l = f.loop-j in
-    let a = f.args in
-    let next = rows_next a.scale (nodes_from a.nodes.now) a.qf a.r.now l.j l.r l.invariant.1 (t.point-fate.ensures ∙ ap (λ (e : Rotation). Residuals.point_by e a.scale l.j l.r) f.error_at.ensures) in
+    let l = c.loop-j in
+    let a = c.args in
+    let next = rows_next a.scale (nodes_from a.nodes.now) a.qf a.r.now l.j l.r l.invariant.1 (c.point-fate.ensures ∙ ap (λ (e : Rotation). Residuals.point_by e a.scale l.j l.r) c.error_at.ensures) in
     (omega arith, rw c.in-Going.is at next)
 
 returns_2 : tie.Need-returns invariant_loop decreases_loop

@@ -12,24 +12,22 @@ use Rattle.residuals.proofs.terms.residuals_of.Tie as tie
 of-rows-requires : tie.Need-of_rows-requires
 unfolding Ieee.of_bits
 of-rows-requires c κs =
-    let t = c.before.before.before.before.before in
-    let pre = t.requires in (
+    let pre = c.requires in (
       rw c.target_of.ensures (record { wheels = (sized_counts _ pre.0).0; numbers = omega (arith, pre.1) }),
       record {
-        sums = record { few = omega arith; long = t.run_into-w.ensures.1; energy = iter_none _ _; smooth = iter_none _ _ };
+        sums = record { few = omega arith; long = c.run_into-w.ensures.1; energy = iter_none _ _; smooth = iter_none _ _ };
         kept = λ p j b. absurd (omega arith);
       },
     )
 
 returns : tie.Need-returns-in-Refused
-returns c = let t = c.before.before in c.refused_residuals.ensures ∙ told_refused _ _ _ _ t.run_into-w.ensures.0 c.in-Refused.is
+returns c = c.refused_residuals.ensures ∙ told_refused _ _ _ _ c.run_into-w.ensures.0 c.in-Refused.is
 
 returns_2 : tie.Need-returns-in-Going
 returns_2 c =
     let enum_told = c.enum_told-1 in
     let target-of = c.target_of in
-    let t = c.before.before.before.before.before.before in
-    rw (c.of_rows.ensures, target-of.ensures) (told_going _ _ _ _ t.run_into-w.ensures.0 enum_told.given.1)
+    rw (c.of_rows.ensures, target-of.ensures) (told_going _ _ _ _ c.run_into-w.ensures.0 enum_told.given.1)
 
 pub residuals_of_spec : {M : Type 1} → statement M
 residuals_of_spec =

@@ -13,8 +13,7 @@ pointed-requires c κs = let pre = c.requires in (pre.1.0.long, pre.1.1.kept)
 returns : tie.Need-returns-in-Refused
 unfolding Ieee.of_bits
 returns c =
-    let t = c.before.before in
-    c.refused_residuals.ensures ∙ with_refused _ _ _ _ _ _ (rw t.sqrt-scale.ensures at (rw c.in-Refused.is at t.pointed-fate.ensures))
+    c.refused_residuals.ensures ∙ with_refused _ _ _ _ _ _ (rw c.sqrt-scale.ensures at (rw c.in-Refused.is at c.pointed-fate.ensures))
 
 closing-requires : tie.Need-closing-requires
 closing-requires c κs = let pre = c.requires in (omega arith, (pre.0, pre.1.0))
@@ -23,10 +22,9 @@ returns_2 : tie.Need-returns
 unfolding Ieee.of_bits
 returns_2 c =
     let enum_told = c.enum_told-1 in
-    let t = c.before.before.before.before.before.before in
-    let root = t.sqrt-scale.ensures in
+    let root = c.sqrt-scale.ensures in
     rw (c.closing.ensures, c.put3.ensures, c.scale3.ensures, root)
-    (with_going _ _ _ _ _ t.args.error (rw root at (rw enum_told.given.1 at t.pointed-fate.ensures)) t.requires.1.1.end)
+    (with_going _ _ _ _ _ c.args.error (rw root at (rw enum_told.given.1 at c.pointed-fate.ensures)) c.requires.1.1.end)
 
 pub with_pointing_spec : {M : Type 1} → statement M
 with_pointing_spec =

@@ -12,9 +12,8 @@ slice-aggregate-with-row c = sym (length-take-le _ _ (omega arith))
 
 with-row-requires : tie.Need-with_row-requires
 with-row-requires c κs =
-    let read = c.before.before.before.before in
-    front_within 24 c.width-n.result read.reals.new.out
-    (omega (arith, read.reals.auto.out, read.requires)) (omega arith)
+    front_within 24 c.width-n.result c.reals.new.out
+    (omega (arith, c.reals.auto.out, c.requires)) (omega arith)
 
 pub by_row_spec : {M : Type 1} → statement M
 by_row_spec =

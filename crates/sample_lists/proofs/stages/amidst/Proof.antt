@@ -7,21 +7,9 @@ use Rattle.sample_lists.proofs.stages.amidst.Tie as tie
 
 returns : tie.Need-returns
 returns c =
-    let q = c.before in
-    let tau = q.before in
-    let cross = tau.before in
-    let torque = cross.before in
-    let l = torque.before in
-    let jw = l.before in
-    let h = jw.before in
-    let h1 = h.before in
-    let h0 = h1.before in
-    let w = h0.before in
-    let w1 = w.before in
-    let w0 = w1.before in
     c.turned_by.ensures
-    ∙ amidst_is _ _ _ _ _ _ w0.step_time.ensures w0.rate.ensures w1.rate-2.ensures w.mean-w.ensures h0.momentum.ensures h1.momentum-2.ensures h.mean-h.ensures
-    jw.apply_tensor.ensures l.add3-l.ensures torque.step_torque.ensures cross.cross.ensures tau.add3-tau.ensures q.attitude-q.ensures
+    ∙ amidst_is _ _ _ _ _ _ c.step_time.ensures c.rate.ensures c.rate-2.ensures c.mean-w.ensures c.momentum.ensures c.momentum-2.ensures c.mean-h.ensures
+    c.apply_tensor.ensures c.add3-l.ensures c.step_torque.ensures c.cross.ensures c.add3-tau.ensures c.attitude-q.ensures
 
 pub amidst_spec : {M : Type 1} → statement M
 amidst_spec =

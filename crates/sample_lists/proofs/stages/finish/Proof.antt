@@ -11,14 +11,12 @@ returns c = rw (c.at_node.ensures, ← c.time.ensures, c.if-t-time.true)
 returns_2 : tie.Need-returns-then-t-time-2
 unfolding finished
 returns_2 c =
-    let b = c.before.before in
-    rw (c.at_node-then-t-time-2.ensures, ← b.time.ensures, b.if-t-time.false, ← b.time-2.ensures, c.if-t-time-2.true)
+    rw (c.at_node-then-t-time-2.ensures, ← c.time.ensures, c.if-t-time.false, ← c.time-2.ensures, c.if-t-time-2.true)
 
 returns_3 : tie.Need-returns
 unfolding finished
 returns_3 c =
-    let b = c.before.before in
-    rw (c.amidst.ensures, ← b.time.ensures, b.if-t-time.false, ← b.time-2.ensures, c.if-t-time-2.false)
+    rw (c.amidst.ensures, ← c.time.ensures, c.if-t-time.false, ← c.time-2.ensures, c.if-t-time-2.false)
 
 pub finish_spec : {M : Type 1} → statement M
 finish_spec =

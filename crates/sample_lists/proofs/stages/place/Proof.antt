@@ -13,19 +13,14 @@ walk-requires : tie.Need-walk-i-requires
 walk-requires c κs =
     let s = c.before.before in
     ⊎_elim
-    (λ w. rw w.1 (s.requires.2, passed_later s.args.nodes.now s.args.since c.time_of-t.result s.args.from s.well_formed.1.1.1.1.1.0.1 c.time_of-t.type_inv w.0.taken s.requires.3))
-    (λ w. rw w.1 (omega arith, passed_none s.args.nodes.now c.time_of-t.result))
+    (λ w. rw w.1 (c.requires.2, passed_later c.args.nodes.now c.args.since c.time_of-t.result c.args.from s.well_formed.1.1.1.1.1.0.1 c.time_of-t.type_inv w.0.taken c.requires.3))
+    (λ w. rw w.1 (omega arith, passed_none c.args.nodes.now c.time_of-t.result))
     c.if-since-t.branch
 
 returns : tie.Need-returns
 unfolding placed
 returns c =
-    let v = c.before in
-    let wd = v.before in
-    let w = wd.before in
-    let t0 = w.before in
-    let i = t0.before in
-    (rw (c.norm3-n.ensures, v.rotation-v.ensures, wd.step_change.ensures, w.rate.ensures, t0.time.ensures, i.walk-i.ensures.0, i.time_of-t.ensures), i.walk-i.ensures.1, i.walk-i.ensures.2)
+    (rw (c.norm3-n.ensures, c.rotation-v.ensures, c.step_change.ensures, c.rate.ensures, c.time.ensures, c.walk-i.ensures.0, c.time_of-t.ensures), c.walk-i.ensures.1, c.walk-i.ensures.2)
 
 pub place_spec : {M : Type 1} → statement M
 place_spec =

@@ -25,9 +25,8 @@ returns c =
 
 loop-again : tie.Need-loop-i-preserved invariant_loop decreases_loop
 loop-again c =
-    let entry = c.before.before.before.before in
     let l = c.loop-i in
-    (omega arith, passed_next entry.args.nodes.now _ _ l.invariant.1 c.time.ensures c.time.type_inv (c.if-not-time-t.false))
+    (omega arith, passed_next c.args.nodes.now _ _ l.invariant.1 c.time.ensures c.time.type_inv (c.if-not-time-t.false))
 
 returns_2 : tie.Need-returns invariant_loop decreases_loop
 returns_2 c =

@@ -7,10 +7,7 @@ use Rattle.sample_lists.proofs.steps.step_row.Tie as tie
 returns : tie.Need-returns
 unfolding step_row
 returns c =
-    let wd = c.before in
-    let w1 = wd.before in
-    let t1 = w1.before.before in
-    rw (c.apply_tensor-u.ensures, wd.rate_change-wd.ensures, w1.rate-2.ensures, w1.rate.ensures, t1.time.ensures, t1.time-t0.ensures)
+    rw (c.apply_tensor-u.ensures, c.rate_change-wd.ensures, c.rate-2.ensures, c.rate.ensures, c.time.ensures, c.time-t0.ensures)
 
 pub step_row_spec : {M : Type 1} → statement M
 step_row_spec =

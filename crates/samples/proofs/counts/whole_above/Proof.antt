@@ -11,13 +11,13 @@ whole-requires : tie.Need-whole-requires
 whole-requires c κs = omega (arith, steps_cut _ c.args.x c.requires c.truncating_f64_to_u64-n.ensures)
 
 add-result : tie.Need-overflow_add-result
-add-result c = let s = c.before.before.before in omega (arith, steps_cut _ s.args.x s.requires c.truncating_f64_to_u64-n.ensures)
+add-result c = omega (arith, steps_cut _ c.args.x c.requires c.truncating_f64_to_u64-n.ensures)
 
 returns : tie.Need-returns-then-whole-x
-returns c = let s = c.before.before.before in steps_up _ s.args.x s.requires c.truncating_f64_to_u64-n.ensures (rw c.whole.ensures at c.if-whole-x.true)
+returns c = steps_up _ c.args.x c.requires c.truncating_f64_to_u64-n.ensures (rw c.whole.ensures at c.if-whole-x.true)
 
 returns_2 : tie.Need-returns-else-whole-x
-returns_2 c = let s = c.before.before.before in steps_same _ s.args.x s.requires c.truncating_f64_to_u64-n.ensures (rw c.whole.ensures at c.if-whole-x.false)
+returns_2 c = steps_same _ c.args.x c.requires c.truncating_f64_to_u64-n.ensures (rw c.whole.ensures at c.if-whole-x.false)
 
 pub whole_above_spec : {M : Type 1} → statement M
 whole_above_spec = tie.close (tie.spec truncating-f64-to-u64-requires whole-requires add-result returns returns_2)

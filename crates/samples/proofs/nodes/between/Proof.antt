@@ -7,11 +7,9 @@ use Rattle.samples.proofs.nodes.between.Tie as tie
 returns : tie.Need-returns
 returns c =
     let rate-change = c.rate_change-wd in
-    let h = c.before.before.before.before.before in
-    let w = h.before.before.before in
     c.turned.ensures
-    ∙ between_is _ _ _ _ _ _ w.time-t0.ensures w.time.ensures w.rate-w0.ensures w.rate-w1.ensures w.mean-w.ensures
-    h.momentum.ensures h.momentum-2.ensures h.mean-h.ensures rate-change.ensures c.euler_lhs-tau.ensures
+    ∙ between_is _ _ _ _ _ _ c.time-t0.ensures c.time.ensures c.rate-w0.ensures c.rate-w1.ensures c.mean-w.ensures
+    c.momentum.ensures c.momentum-2.ensures c.mean-h.ensures rate-change.ensures c.euler_lhs-tau.ensures
     c.attitude-q.ensures c.rotation.ensures
 
 pub between_spec : {M : Type 1} → statement M

@@ -22,8 +22,7 @@ returns c = (stops _ _ _ c.loop-i.invariant.1 c.time.ensures (c.if-not-time-t.tr
 
 loop-again : tie.Need-loop-i-preserved invariant_loop decreases_loop
 loop-again c =
-    let entry = c.before.before.before.before in
-    (search rules, walks entry.args.nodes.now _ _ c.loop-i.invariant.1 c.time.ensures (c.if-not-time-t.false))
+    (search rules, walks c.args.nodes.now _ _ c.loop-i.invariant.1 c.time.ensures (c.if-not-time-t.false))
 
 returns_2 : tie.Need-returns invariant_loop decreases_loop
 returns_2 c =

@@ -8,15 +8,14 @@ returns : tie.Need-returns-then-t-time
 returns c = c.at_node.ensures ∙ at_first _ _ _ _ _ c.time.ensures c.if-t-time.true
 
 returns_2 : tie.Need-returns-then-t-time-2
-returns_2 c = let b = c.before.before in c.at_node-then-t-time-2.ensures ∙ at_last _ _ _ _ _ b.time.ensures b.if-t-time.false b.time-2.ensures c.if-t-time-2.true
+returns_2 c = c.at_node-then-t-time-2.ensures ∙ at_last _ _ _ _ _ c.time.ensures c.if-t-time.false c.time-2.ensures c.if-t-time-2.true
 
 earlier-requires : tie.Need-earlier-i-requires
 earlier-requires c κs = rw c.time-2.ensures at (not_below _ _ c.if-t-time-2.false)
 
 returns_3 : tie.Need-returns
 returns_3 c =
-    let b = c.before.before.before in
-    c.between.ensures ∙ amid _ _ _ _ _ b.time.ensures b.if-t-time.false b.time-2.ensures c.if-t-time-2.false c.earlier-i.ensures.0
+    c.between.ensures ∙ amid _ _ _ _ _ c.time.ensures c.if-t-time.false c.time-2.ensures c.if-t-time-2.false c.earlier-i.ensures.0
 
 pub interpolate_spec : {M : Type 1} → statement M
 interpolate_spec =

@@ -8,15 +8,11 @@ returns c = rw (c.refused.ensures, c.in_default.is)
 
 returns_2 : tie.Need-returns-in_default-normalized
 returns_2 c =
-    let n = c.before.before in
-    let m = n.before in
-    rw (c.refused-in_default-normalized.ensures, m.in-Is.is, ← m.mul.ensures, ← n.normalized.ensures, c.in_default-normalized.is)
+    rw (c.refused-in_default-normalized.ensures, c.in-Is.is, ← c.mul.ensures, ← c.normalized.ensures, c.in_default-normalized.is)
 
 returns_3 : tie.Need-returns
 returns_3 c =
-    let n = c.before in
-    let m = n.before in
-    rw (m.in-Is.is, ← m.mul.ensures, ← n.normalized.ensures, c.in-Is-normalized.is)
+    rw (c.in-Is.is, ← c.mul.ensures, ← c.normalized.ensures, c.in-Is-normalized.is)
 
 pub turned_by_spec : {M : Type 1} → statement M
 turned_by_spec =

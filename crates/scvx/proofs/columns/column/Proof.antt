@@ -55,10 +55,10 @@ returns c =
     let a = st.args in
     let em = st.pre.1.1.1.1.0 in
     let answers = st.pre.1.1.1.1.1.1.1.0 in
-    let e : perturb a.p a.z.now a.c ≡ a.z.now = sym (again t).perturb-y.ensures ∙ (again t).same_decision.ensures t.if-same_decision.true in
+    let e : perturb a.p a.z.now a.c ≡ a.z.now = sym (again t).perturb-y.ensures ∙ (again t).same_decision.ensures c.if-same_decision.true in
     let gathered : Gathered a.m (residuals_of a.p (perturb a.p a.z.now a.c)).r a.r0.now =
     subst (λ y. Gathered a.m (residuals_of a.p y).r a.r0.now) (sym e) answers.rows in
-    let put = rw t.kept.ensures at t.put_column.ensures in (
+    let put = rw c.kept.ensures at c.put_column.ensures in (
       (
         sym (ap (λ (y : List Float). (residuals_of a.p y).fate) e ∙ answers.goes),
         λ r0 g z. column_stands put (slopes_kept a.m _ r0 _ _ (width_laid a.p em) gathered g (width_zeros a.p (perturb a.p a.z.now a.c) em) z),
@@ -75,7 +75,7 @@ put-column-requires-2 c κs =
 returns_2 : tie.Need-returns-in-Refused
 returns_2 c =
     let s = c.before in
-    ((sym c.in-Refused.is ∙ ap (λ (x : ResidualVector). x.fate) (run s), λ r0 g z. refl), s.residuals_sharing-e.ensures.1)
+    ((sym c.in-Refused.is ∙ ap (λ (x : ResidualVector). x.fate) (run s), λ r0 g z. refl), c.residuals_sharing-e.ensures.1)
 
 returns_3 : tie.Need-returns-in-Going
 returns_3 c =
@@ -90,7 +90,7 @@ returns_3 c =
         sym enum_told.given.1 ∙ ap (λ (x : ResidualVector). x.fate) (run r),
         λ r0 g z. column_stands put (slopes_kept a.m _ r0 _ _ (width_laid a.p em) gathered g (width_zeros a.p (perturb a.p a.z.now a.c) em) z),
       ),
-      r.residuals_sharing-e.ensures.1,
+      c.residuals_sharing-e.ensures.1,
     )
 
 pub column_spec : {M : Type 1} → statement M

@@ -31,9 +31,8 @@ start c = (gathered c).before.before.before.before.before
 
 gather-requires : tie.Need-gather-requires invariant_loop decreases_loop
 gather-requires c κs =
-    let st = c.before.before.before.before in
-    let whole : length st.args.r0 ≡ 79 = search rules in
-    (width_laid st.args.p st.requires.0.m_is, omega (arith, st.requires.0.m_most))
+    let whole : length c.args.r0 ≡ 79 = search rules in
+    (width_laid c.args.p c.requires.0.m_is, omega (arith, c.requires.0.m_most))
 
 know-angles-requires : tie.Need-know_angles-requires invariant_loop decreases_loop
 know-angles-requires c κs = let s = c.requires.0 in (s.sized, (s.narrow, refl))
@@ -48,19 +47,18 @@ base-next-requires : tie.Need-base_next-b-requires invariant_loop decreases_loop
 base-next-requires c κs =
     let l = c.before.before.before.before.before.before.before in
     let s = (start l.before).pre.0 in
-    (s.sized, (s.narrow, (l.know_angles.ensures.1, l.loop-c.invariant.1.1.1.1)))
+    (s.sized, (s.narrow, (c.know_angles.ensures.1, c.loop-c.invariant.1.1.1.1)))
 
 column-requires : tie.Need-column-fate-requires invariant_loop decreases_loop
 column-requires c κs =
     let j = c.before.before.before.before.before.before in
-    let known = j.know_angles.ensures.1 in
-    let l = j.loop-c in
-    let d = (gathered j.before.before.before.before).before.before in
+    let known = c.know_angles.ensures.1 in
+    let l = c.loop-c in
     let a = (start j.before.before.before.before).args in
     let s = (start j.before.before.before.before).pre.0 in
     let own = (start j.before.before.before.before).pre.1.1 in
     let g = (gathered j.before.before.before.before).gather.ensures in
-    (s.sized, (s.narrow, (d.control_dim-controls.ensures, (omega (arith, s.n_most), (s.m_is, (omega (arith, row_end l.c a.n (kept a.m) (omega arith), s.fits, l.invariant.1.0), (known, (answers_kept own g, ⊎_elim (λ w. rw (w.6, w.7, w.8) w.5.ensures) (λ w. rw (w.1, w.2, w.3) l.invariant.1.1.1.1) j.if-past_row.branch))))))))
+    (s.sized, (s.narrow, (c.control_dim-controls.ensures, (omega (arith, s.n_most), (s.m_is, (omega (arith, row_end l.c a.n (kept a.m) (omega arith), s.fits, l.invariant.1.0), (known, (answers_kept own g, ⊎_elim (λ w. rw (w.6, w.7, w.8) w.5.ensures) (λ w. rw (w.1, w.2, w.3) l.invariant.1.1.1.1) c.if-past_row.branch))))))))
 
 returns : tie.Need-returns-in-Refused invariant_loop decreases_loop
 returns c =

@@ -15,42 +15,36 @@ jacobian-requires c κs = let h = c.requires in (h.0, (known_zeros h.1.1.known h
 
 count-runs-requires : tie.Need-count_runs-requires
 count-runs-requires c κs =
-    let entry = c.before.before.before.before.before.before.before.before.before.before.before in
-    let b = broken_le _ _ _ (rw c.in-Broken.is at c.jacobian-j.ensures.0) in
-    omega (arith, entry.requires.0.n_is, entry.requires.0.n_most, entry.requires.1.0)
+    omega (arith, c.requires.0.n_is, c.requires.0.n_most, c.requires.1.0)
 
 sum-columns-requires : tie.Need-sum_columns-requires
 sum-columns-requires c κs =
-    let entry = c.before.before.before.before.before.before.before.before.before.before.before.before.before.before in
-    let s = sizes_kept entry.requires.0 c.jacobian-j.auto.v in
-    (s.n_most, (width_laid entry.args.p s.m_is, s.fits))
+    let s = sizes_kept c.requires.0 c.jacobian-j.auto.v in
+    (s.n_most, (width_laid c.args.p s.m_is, s.fits))
 
 take-step-requires : tie.Need-take_step-requires
 take-step-requires c κs =
-    let entry = c.before.before.before.before.before.before.before.before.before.before.before.before.before.before.before.before.before.before.before.before in
     let s = c.sum_columns in
     let q = ap (λ (x : SearchState). x.runs) c.count_runs-next.ensures in (
-      sizes_kept entry.requires.0 (s.auto.ws ∙ c.jacobian-j.auto.v),
-      (omega (arith, entry.requires.0.n_most, entry.requires.1.0), (known_zeros entry.requires.1.1.known entry.requires.0.m_is, rw s.ensures.0 s.ensures.1)),
+      sizes_kept c.requires.0 (s.auto.ws ∙ c.jacobian-j.auto.v),
+      (omega (arith, c.requires.0.n_most, c.requires.1.0), (known_zeros c.requires.1.1.known c.requires.0.m_is, rw s.ensures.0 s.ensures.1)),
     )
 
 returns : tie.Need-returns-in-Broken
 returns c =
-    let entry = c.before.before.before.before.before.before.before.before.before.before.before.before.before in
     let e = rw c.in-Broken.is at c.jacobian-j.ensures.0 in
-    (rw (c.with_status-next.ensures, c.count_runs.ensures) (linear_step_broken _ _ _ e), rw (c.with_status-next.ensures, c.count_runs.ensures) (stands_broken entry.requires.1.1))
+    (rw (c.with_status-next.ensures, c.count_runs.ensures) (linear_step_broken _ _ _ e), rw (c.with_status-next.ensures, c.count_runs.ensures) (stands_broken c.requires.1.1))
 
 returns_2 : tie.Need-returns-in-Filled
 returns_2 c =
-    let entry = c.before.before.before.before.before.before.before.before.before.before.before.before.before.before.before.before.before.before.before.before.before.before.before in
     let count-runs2 = c.count_runs-next in
-    let a = entry.args in
-    let z = entry.requires.0 in
+    let a = c.args in
+    let z = c.requires.0 in
     let s = c.sum_columns in
     let e = (rw c.in-Filled.is at c.jacobian-j.ensures.0) ∙ ap Formed (sym s.ensures.0) in
     let t = c.take_step.ensures in (
       (rw count-runs2.ensures at t.0) ∙ linear_step_formed a.p a.g.state a.g.r z.n_is e,
-      rw t.1.1 (t.1.0 _ _ (rw count-runs2.ensures (stands_formed entry.requires.1.1 z.n_is z.m_is e (rw s.ensures.0 s.ensures.1)))),
+      rw t.1.1 (t.1.0 _ _ (rw count-runs2.ensures (stands_formed c.requires.1.1 z.n_is z.m_is e (rw s.ensures.0 s.ensures.1)))),
     )
 
 pub form_columns_spec : {M : Type 1} → statement M

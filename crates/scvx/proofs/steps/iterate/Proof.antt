@@ -12,27 +12,24 @@ use Rattle.scvx.proofs.steps.iterate.Tie as tie
 returns : tie.Need-returns-then-c
 unfolding Ieee.of_bits
 returns c =
-    let entry = c.before.before.before.before.before.before.before.before.before in
     let begin-iteration = c.begin_iteration-s in (
-      rw (c.with_state.ensures, c.with_status.ensures, begin-iteration.ensures) (iterate_ends entry.args.p entry.args.k entry.args.g.state entry.requires.1.1.1 (rw begin-iteration.ensures at c.if-c.true)),
-      rw (c.with_state.ensures, c.with_status.ensures, begin-iteration.ensures) entry.requires.1.1.1,
+      rw (c.with_state.ensures, c.with_status.ensures, begin-iteration.ensures) (iterate_ends c.args.p c.args.k c.args.g.state c.requires.1.1.1 (rw begin-iteration.ensures at c.if-c.true)),
+      rw (c.with_state.ensures, c.with_status.ensures, begin-iteration.ensures) c.requires.1.1.1,
     )
 
 linear-step-requires : tie.Need-linear_step-requires
 linear-step-requires c κs =
-    let entry = c.before.before.before.before.before.before.before.before.before.before in
     let begin-iteration = c.begin_iteration-s in
     let q = ap (λ (x : Progress). x.state.runs) c.with_state-2.ensures ∙ ap (λ (x : SearchState). x.runs) begin-iteration.ensures in
-    (entry.requires.0, (omega (arith, entry.requires.1.1.0), rw (c.with_state-2.ensures, begin-iteration.ensures) entry.requires.1.1.1))
+    (c.requires.0, (omega (arith, c.requires.1.1.0), rw (c.with_state-2.ensures, begin-iteration.ensures) c.requires.1.1.1))
 
 returns_2 : tie.Need-returns
 unfolding Ieee.of_bits
 returns_2 c =
-    let entry = c.before.before.before.before.before.before.before.before.before.before.before.before.before.before.before in
     let begin-iteration = c.begin_iteration-s in
     let linear-step = c.linear_step in
     let if1 = c.if-c in (
-      (rw (c.with_state-2.ensures, begin-iteration.ensures) at linear-step.ensures.0) ∙ iterate_on entry.args.p entry.args.k entry.args.g.state entry.requires.1.1.1 (rw begin-iteration.ensures at if1.false),
+      (rw (c.with_state-2.ensures, begin-iteration.ensures) at linear-step.ensures.0) ∙ iterate_on c.args.p c.args.k c.args.g.state c.requires.1.1.1 (rw begin-iteration.ensures at if1.false),
       linear-step.ensures.1,
     )
 

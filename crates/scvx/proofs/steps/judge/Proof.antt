@@ -9,17 +9,16 @@ use Rattle.scvx.proofs.steps.judge.Tie as tie
 returns : tie.Need-returns-then-t-c
 unfolding Ieee.of_bits
 returns c =
-    let entry = c.before.before.before.before.before.before.before.before in (
-      rw (c.move_to-next.ensures, c.max.ensures) (judge_taken entry.args.g.state entry.args.t c.if-t-c.true),
+    (
+      rw (c.move_to-next.ensures, c.max.ensures) (judge_taken c.args.g.state c.args.t c.if-t-c.true),
       λ p k j a h. rw c.move_to-next.ensures (stands_new k),
     )
 
 returns_2 : tie.Need-returns
 unfolding Ieee.of_bits
 returns_2 c =
-    let entry = c.before.before.before.before.before.before.before.before.before in
     let if1 = c.if-t-c in (
-      rw (c.with_state.ensures, c.with_damping.ensures, c.min.ensures) (judge_left entry.args.g.state entry.args.t if1.false),
+      rw (c.with_state.ensures, c.with_damping.ensures, c.min.ensures) (judge_left c.args.g.state c.args.t if1.false),
       λ p k j a h. rw (c.with_state.ensures, c.with_damping.ensures) h,
     )
 

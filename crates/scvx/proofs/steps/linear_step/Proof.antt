@@ -11,24 +11,22 @@ use Rattle.scvx.proofs.steps.linear_step.Tie as tie
 
 take-step-requires : tie.Need-take_step-requires
 take-step-requires c κs =
-    let entry = c.before.before.before.before.before.before.before in
-    let z = entry.requires.0 in
-    let h = entry.requires.1.1 in
+    let z = c.requires.0 in
+    let h = c.requires.1.1 in
     let q = ap (λ (x : Progress). x.state.runs) c.with_state.ensures ∙ ap (λ (x : SearchState). x.runs) c.count_runs.ensures in (
       z,
-      (omega (arith, z.n_most, entry.requires.1.0), (rw c.with_state.ensures (known_zeros h.known z.m_is), stands_summed h z.n_is z.m_is c.if-g.true)),
+      (omega (arith, z.n_most, c.requires.1.0), (rw c.with_state.ensures (known_zeros h.known z.m_is), stands_summed h z.n_is z.m_is c.if-g.true)),
     )
 
 returns : tie.Need-returns-then-g
 returns c =
-    let entry = c.before.before.before.before.before.before.before.before.before.before in
     let if1 = c.if-g in
     let count_runs = c.count_runs in
     let with-state = c.with_state in
-    let a = entry.args in
-    let h = entry.requires.1.1 in
+    let a = c.args in
+    let h = c.requires.1.1 in
     let t = c.take_step.ensures in (
-      (rw (with-state.ensures, count_runs.ensures) at t.0) ∙ linear_step_formed a.p a.g.state a.g.r entry.requires.0.n_is (h.formed if1.true),
+      (rw (with-state.ensures, count_runs.ensures) at t.0) ∙ linear_step_formed a.p a.g.state a.g.r c.requires.0.n_is (h.formed if1.true),
       rw t.1.1 (t.1.0 _ _ (rw (with-state.ensures, count_runs.ensures) h)),
     )
 

@@ -40,7 +40,7 @@ long : (c : tie.Start) → length c.args.r ≡ 79
 long c = search rules
 
 gather-requires : tie.Need-gather-requires
-gather-requires c κs = let st = c.before.before.before.before in (st.requires.1.0, omega (arith, laid_most st.requires.1.0, long st))
+gather-requires c κs = let st = c.before.before.before.before in (c.requires.1.0, omega (arith, laid_most c.requires.1.0, long st))
 
 slice-aggregate-kept-step : tie.Need-slice_bounds-kept_step-end-2
 slice-aggregate-kept-step c = sym (length-take-le _ _ (fits c.before))
@@ -51,32 +51,31 @@ slice-aggregate-kept-step-3 c = sym (length-take-le _ _ (omega (arith, c.require
 kept-step-requires : tie.Need-kept_step-solved-requires
 kept-step-requires c κs =
     let st = c.before.before.before.before.before.before.before.before.before in
-    let a = st.args in
+    let a = c.args in
     let front = c.before.before.before in
     let w = c.kept-w.result in
-    let e : length (take a.n blank) ≡ a.n = length-take-le a.n blank (omega (arith, st.requires.0)) in
+    let e : length (take a.n blank) ≡ a.n = length-take-le a.n blank (omega (arith, c.requires.0)) in
     let whole : length a.r ≡ 79 = long st in (
-      omega (arith, st.requires.0),
-      omega (arith, known front, kept_most a.m st.requires.1.0, laid_most st.requires.1.0, c.gather.auto.r),
+      omega (arith, c.requires.0),
+      omega (arith, known front, kept_most a.m c.requires.1.0, laid_most c.requires.1.0, c.gather.auto.r),
       length-take-le _ _ (fits front) ∙ ap (λ k. k * w + k * k) (sym e),
       gram_front (length (take a.n blank)) a.n w a.ws.now e (fits front) a.gram.now (summed front),
     )
 
 returns : tie.Need-returns
 returns c =
-    let st = c.before.before.before.before.before.before.before.before.before.before.before.before.before in
-    let a = st.args in
+    let a = c.args in
     let front = c.before.before.before.before.before.before.before in
     let w = c.kept-w.result in
     let t = c.kept_step-solved in
     let d : List Float = t.new.g in
     let x : List Float = c.gather.new.r in
-    let e : length (take a.n blank) ≡ a.n = length-take-le a.n blank (omega (arith, st.requires.0)) in
+    let e : length (take a.n blank) ≡ a.n = length-take-le a.n blank (omega (arith, c.requires.0)) in
     let same = kept_front (length (take a.n blank)) a.n w a.ws.now e (fits front) t.new.v t.auto.v t.ensures.0 in (
       ap (λ y. told t.result y) (take_at d (drop a.n blank) a.n (t.auto.g ∙ e))
           ∙ told_front (length (take a.n blank)) a.n w a.ws.now e (fits front) t.result d x a.lambda t.ensures.1
           ∙ ap (λ k. damped_step a.n k (rows a.n k (take (a.n * k) a.ws.now)) x a.lambda) (known front)
-          ∙ step_kept a.n a.m a.ws.now a.r x a.lambda st.requires.1.0 c.gather.ensures st.requires.1.1.1.0,
+          ∙ step_kept a.n a.m a.ws.now a.r x a.lambda c.requires.1.0 c.gather.ensures c.requires.1.1.1.0,
       (
         length_front blank d a.n t.auto.g,
         ap (columns a.n a.m) (subst (λ k. take (a.n * k) (t.new.v ++ drop (a.n * w + a.n * a.n) a.ws.now) ≡ take (a.n * k) a.ws.now) (known front) same),

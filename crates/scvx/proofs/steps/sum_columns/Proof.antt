@@ -28,15 +28,14 @@ keep-gram-requires c κs = (c.requires.0, length-take-le _ _ (fits c.before.befo
 
 returns : tie.Need-returns
 returns c =
-    let st = c.before.before.before.before.before.before.before.before.before.before in
-    let a = st.args in
+    let a = c.args in
     let w = c.kept-w.result in
     let known : w ≡ kept a.m = c.kept-w.ensures in
     let room = fits c.before.before.before.before.before.before.before in
     let t = c.keep_gram in
     let same = kept_front a.n a.n w a.ws.now refl room t.new.v t.auto.v t.ensures.0 in (
       ap (columns a.n a.m) (subst (λ k. take (a.n * k) (t.new.v ++ drop (a.n * w + a.n * a.n) a.ws.now) ≡ take (a.n * k) a.ws.now) known same),
-      gram_of_all a.n a.m a.ws.now _ st.requires.1.0
+      gram_of_all a.n a.m a.ws.now _ c.requires.1.0
           (subst (λ k. GramKept a.n k (rows a.n k (take (a.n * k) a.ws.now)) t.new.gram) known (gram_whole a.n a.n w a.ws.now refl room _ t.ensures.1)),
     )
 

@@ -12,17 +12,15 @@ use Rattle.scvx.proofs.steps.take_step.Tie as tie
 
 step-of-requires : tie.Need-step_of-step-requires
 step-of-requires c κs =
-    let st = c.before.before.before.before.before in
-    let z = st.requires.0 in
-    (z.n_most, (width_laid st.args.p z.m_is, (z.fits, st.requires.1.1)))
+    let z = c.requires.0 in
+    (z.n_most, (width_laid c.args.p z.m_is, (z.fits, c.requires.1.1)))
 
 returns : tie.Need-returns-then-not-step
 unfolding Ieee.of_bits
 returns c =
-    let entry = c.before.before.before.before.before.before.before.before.before.before.before.before.before.before in
     let if1 = c.if-not-step in
-    let a = entry.args in
-    let z = entry.requires.0 in
+    let a = c.args in
+    let z = c.requires.0 in
     let t = c.before.before.before.before.before.before.before.before.step_of_lem in (
       rw (c.with_state.ensures, c.with_damping.ensures, c.min.ensures) (singular a.p a.g.state a.n a.m _ a.g.r z.n_is z.m_is t.result.solved _ t.ensures.0 (if1.true)),
       (λ j x h. rw (c.with_state.ensures, c.with_damping.ensures) h, t.ensures.1.1),
@@ -30,27 +28,23 @@ returns c =
 
 array-share-prefix-d : tie.Need-slice_bounds-d-end
 array-share-prefix-d c =
-    let entry = c.before.before.before.before.before.before.before.before.before.before.before in
     let step_of_lem = c.before.before.before.before.before.step_of_lem in
-    omega (arith, entry.requires.0.n_most, step_of_lem.ensures.1.0)
+    omega (arith, c.requires.0.n_most, step_of_lem.ensures.1.0)
 
 slice-aggregate-try-step : tie.Need-slice_bounds-try_step-end
 slice-aggregate-try-step c =
-    let entry = c.before.before.before.before.before.before.before.before.before.before.before.before in
     let step_of_lem = c.before.before.before.before.before.before.step_of_lem in
-    sym (length-take-le _ _ (omega (arith, entry.requires.0.n_most, step_of_lem.ensures.1.0)))
+    sym (length-take-le _ _ (omega (arith, c.requires.0.n_most, step_of_lem.ensures.1.0)))
 
 try-step-requires : tie.Need-try_step-requires
 try-step-requires c κs =
-    let entry = c.before.before.before.before.before.before.before.before.before.before.before.before in
     let step_of_lem = c.before.before.before.before.before.before.step_of_lem in
-    (sizes_step _ entry.requires.0 (length-take-le _ _ (omega (arith, entry.requires.0.n_most, step_of_lem.ensures.1.0))), omega (arith, entry.requires.1.0))
+    (sizes_step _ c.requires.0 (length-take-le _ _ (omega (arith, c.requires.0.n_most, step_of_lem.ensures.1.0))), omega (arith, c.requires.1.0))
 
 returns_2 : tie.Need-returns
 returns_2 c =
-    let entry = c.before.before.before.before.before.before.before.before.before.before.before.before.before in
-    let a = entry.args in
-    let z = entry.requires.0 in
+    let a = c.args in
+    let z = c.requires.0 in
     let t = c.before.before.before.before.before.before.before.step_of_lem in (
       c.try_step.ensures.0 ∙ solved a.p a.g.state a.n a.m _ a.g.r z.n_is z.m_is t.result.solved _ t.ensures.0 (c.if-not-step.false),
       (c.try_step.ensures.1, t.ensures.1.1),

@@ -7,9 +7,8 @@ use Rattle.scvx.proofs.steps.trial_of.Tie as tie
 returns : tie.Need-returns
 unfolding Search.trial_of Search.trial_held
 returns c =
-    let entry = c.before.before.before.before.before.before.before in
     let apply-step = c.apply_step-moved in
-    let n = entry.requires.1.1 in
+    let n = c.requires.1.1 in
     (rw (c.project-projected.ensures, apply-step.ensures, n), rw (c.held_counts-counts.ensures, apply-step.ensures, n))
 
 pub trial_of_spec : {M : Type 1} → statement M

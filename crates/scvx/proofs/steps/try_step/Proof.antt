@@ -8,8 +8,7 @@ use Rattle.scvx.proofs.steps.try_step.Tie as tie
 
 trial-candidate-requires : tie.Need-trial_candidate-requires
 trial-candidate-requires c κs =
-    let entry = c.before.before.before.before.before.before.before.before.before.before.before in
-    entry.requires.0.m_most
+    c.requires.0.m_most
 
 returns : tie.Need-returns-in-Refused
 unfolding Search.try_step
@@ -24,16 +23,15 @@ returns c =
 returns_2 : tie.Need-returns-in-Going
 unfolding Search.try_step
 returns_2 c =
-    let entry = c.before.before.before.before.before.before.before.before.before.before.before.before.before in
     let trial-of = c.trial_of-t in
     let residuals-of = c.residuals_of-e in
     let count_runs = c.count_runs-s1 in
     let enum_told = c.enum_told-1 in
-    let sizes = entry.requires.0 in
+    let sizes = c.requires.0 in
     let goes = enum_told.given.1 in
     let t = c.judge.ensures in (
       rw (← trial-of.ensures.0, ← trial-of.ensures.1, ← residuals-of.ensures, goes) (rw (c.with_state-in-Going.ensures, count_runs.ensures, c.trial_candidate.ensures, sizes.m_is) at t.0),
-      λ j a h. t.1 entry.args.p (rw c.trial_candidate.ensures (known_of _ residuals-of.ensures goes sizes.m_is refl)) j a (rw (c.with_state-in-Going.ensures, count_runs.ensures) h),
+      λ j a h. t.1 c.args.p (rw c.trial_candidate.ensures (known_of _ residuals-of.ensures goes sizes.m_is refl)) j a (rw (c.with_state-in-Going.ensures, count_runs.ensures) h),
     )
 
 pub try_step_spec : {M : Type 1} → statement M

@@ -13,8 +13,7 @@ returns_2 c = c.final_run-in-Ended.ensures ∙ conclude_ended c.args.p c.args.s 
 
 returns_3 : tie.Need-returns-in-Refused
 returns_3 c =
-    let entry = c.before.before in
-    c.not_found.ensures ∙ conclude_refused entry.args.p entry.args.s c.in-Refused.is
+    c.not_found.ensures ∙ conclude_refused c.args.p c.args.s c.in-Refused.is
 
 pub conclude_spec : {M : Type 1} → statement M
 conclude_spec =

@@ -7,14 +7,12 @@ use Rattle.scvx.proofs.turns.final_run.Tie as tie
 
 returns : tie.Need-returns-in-Refused
 returns c =
-    let entry = c.before.before.before.before.before.before.before in
     let run_of = c.run_of-run in
-    c.not_found.ensures ∙ final_run_by_law entry.args.p entry.args.s run_of.ensures c.in-Refused.is
+    c.not_found.ensures ∙ final_run_by_law c.args.p c.args.s run_of.ensures c.in-Refused.is
 
 returns_2 : tie.Need-returns-in-Going
 returns_2 c =
-    let entry = c.before.before.before.before.before.before in
-    final_run_by_law entry.args.p entry.args.s c.run_of-run.ensures c.in-Going.is
+    final_run_by_law c.args.p c.args.s c.run_of-run.ensures c.in-Going.is
 
 pub final_run_spec : {M : Type 1} → statement M
 final_run_spec =

@@ -45,9 +45,8 @@ loop-holds c =
 
 iterate-requires : tie.Need-iterate-g-requires invariant_loop decreases_loop
 iterate-requires c κs =
-    let a = c.before.before.before.before in
-    let l = a.loop-k.invariant in
-    (sizes_kept a.requires.0 l.1.1.0, (omega arith, (omega (arith, l.1.0), l.1.1.1.1.1.1)))
+    let l = c.loop-k.invariant in
+    (sizes_kept c.requires.0 l.1.1.0, (omega arith, (omega (arith, l.1.0), l.1.1.1.1.1.1)))
 
 -- an iteration is the definition's turn
 next : (c : tie.After-s-1 invariant_loop decreases_loop) → (done c).iterate-g.result.state ≡ Search.turn (start c).args.p (at-loop c).loop-k.k (at-loop c).loop-k.g.state
@@ -100,8 +99,8 @@ returns_3 c =
     let g : SearchState = (at-loop s).loop-k.g.state in
     let l = (at-loop s).loop-k.invariant in
     let is = (done s).iterate-g.ensures.0 in
-    let top = settled.is_settled.ensures c.if-is_settled.true in
-    let on : (Search.iterate p k g).status ≡ Going = sym (ap (λ (x : SearchState). x.status) is) ∙ settled.in-Going.is in
+    let top = c.is_settled.ensures c.if-is_settled.true in
+    let on : (Search.iterate p k g).status ≡ Going = sym (ap (λ (x : SearchState). x.status) is) ∙ c.in-Going.is in
     let still : (Search.iterate p k g).lambda ≡ Search.strongest = sym (ap (λ (x : SearchState). x.lambda) is) ∙ top.1 in
     c.repeat_last.ensures
     ∙ ap (λ (x : SearchState). counted x ((40 - (k + 1)) * (x.runs - g.runs)) 40) is
@@ -117,7 +116,7 @@ loop-again c =
       omega (arith, (in-loop s).loop-k-test.true),
       (
         omega (arith, pre.n_is, pre.n_most, l.inv.1.0, runs_same s, iterate_le (start s).args.p l.k l.g.state),
-        (t.kept.ws ∙ l.inv.1.1.0, (told.in-Going.is, (iter_next _ _ l.k l.inv.1.1.1.1.0 (next s), (t.kept.gram ∙ l.inv.1.1.1.1.1.0, t.ensures.1)))),
+        (t.kept.ws ∙ l.inv.1.1.0, (c.in-Going.is, (iter_next _ _ l.k l.inv.1.1.1.1.0 (next s), (t.kept.gram ∙ l.inv.1.1.1.1.1.0, t.ensures.1)))),
       ),
     )
 

@@ -48,13 +48,11 @@ gimbals-next-requires c κs = search rules
 
 put-angles-requires : tie.Need-put_angles-requires invariant_loop decreases_loop
 put-angles-requires c κs =
-    let turn = c.before.before.before in
-    (omega (arith, turn.loop-k-test.true), turn.loop-k.invariant.1)
+    (omega (arith, c.loop-k-test.true), c.loop-k.invariant.1)
 
 loop-again : tie.Need-loop-k-preserved invariant_loop decreases_loop
 loop-again c =
-    let turn = c.before.before.before.before in
-    (omega (arith, turn.loop-k-test.true), filled_fewer c.put_angles.ensures (omega arith))
+    (omega (arith, c.loop-k-test.true), filled_fewer c.put_angles.ensures (omega arith))
 
 returns : tie.Need-returns invariant_loop decreases_loop
 returns c = let inv = c.loop-k.invariant in filled_fewer inv.1 (omega (arith, inv.0))

@@ -33,15 +33,14 @@ fill-angles-requires : tie.Need-fill_angles-requires
 fill-angles-requires c κs =
     let d = c.before.before.before.before in
     let pre = (start d).requires in
-    rw d.control_dim-n.ensures (omega (arith, room d), (pre.1.0, (search rules, pre.1.1)))
+    rw c.control_dim-n.ensures (omega (arith, room d), (pre.1.0, (search rules, pre.1.1)))
 
 returns : tie.Need-returns-in-Without
 returns c = (c.requires.1.1, rw c.in-Without.is tt)
 
 returns_2 : tie.Need-returns-in-With
 returns_2 c =
-    let told = c.before.before.before.before.before.before in
-    (c.fill_angles.ensures.long, rw told.in-With.is (filled_whole _ c.fill_angles.ensures))
+    (c.fill_angles.ensures.long, rw c.in-With.is (filled_whole _ c.fill_angles.ensures))
 
 pub know_angles_spec : {M : Type 1} → statement M
 know_angles_spec =
