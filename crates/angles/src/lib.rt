@@ -1,5 +1,7 @@
 // sin, cos and acos by whole numbers scaled by 2^60, as the specification has them: the same bits on every machine.
 // An argument outside the range, or a NaN, is answered `Outside`.
+#![tactic(auto)]
+
 ghost use Rattle.std.specs.Prelude.{◌≡◌};
 ghost use Rattle.angles.specs.Angles.{in_range, tiny, region_of, sin_of, cos_of};
 ghost use Rattle.angles.specs.Arcs.{acos_of};

@@ -1,4 +1,6 @@
 // What a program's argument says: a number in decimal digits. It stands apart so that a program that plans nothing is not built of the planner.
+#![tactic(auto)]
+
 ghost use Rattle.std.specs.Prelude.{◌≡◌};
 ghost use Rattle.arguments.specs.Requests as Requests;
 

@@ -1,4 +1,6 @@
 // What is printed of a text's samples as the drive board takes them, one step a sample: its 13 whole numbers, or a refusal and what it means.
+#![tactic(auto)]
+
 ghost use Rattle.std.specs.Prelude.{◌≡◌, ◌<◌, ◌^◌};
 ghost use Rattle.text_writer.specs.Puts.{Puts};
 ghost use Rattle.board_text.specs.BoardLines as BoardLines;

@@ -1,5 +1,7 @@
 // A column of 64-bit words as byte planes, and back: each word's bits are combined with its predecessor's by exclusive or, then all top bytes stand first, all
 // next bytes after them, down to the lowest. Like bytes stand together, so a compressor finds more in them.
+#![tactic(auto)]
+
 ghost use Rattle.std.specs.Prelude.{◌≡◌, ◌+◌, ◌*◌, ◌≤◌, ◌<◌, ◌++◌, length, drop};
 ghost use Rattle.std.proofs.Math.Seq.{paste};
 ghost use Rattle.byte_planes.specs.Planes.{deltas, plane, word_at, restored};

@@ -1,4 +1,6 @@
 // One text for one problem: the canonical text of a problem's text.
+#![tactic(auto)]
+
 ghost use Rattle.std.specs.Prelude.{◌≡◌};
 ghost use Rattle.canonical.specs.CanonicalTexts as CanonicalTexts;
 ghost use Rattle.canonical.specs.CanonicalTexts.{Rewrites, Tells};

@@ -1,5 +1,7 @@
 // The limits of controls, momenta and powers: a row held to them, and by how much they are passed. Tables are lent; counts and lengths are asked for.
 // Carried over from quatopsy-plan/src/actuators.rs (Apache-2.0), changed: flat tables are lent, a held control says whether it was changed.
+#![tactic(auto)]
+
 ghost use Rattle.std.specs.Prelude.{◌≡◌, ◌≤◌, length};
 ghost use Rattle.common.specs.Lists.{at};
 ghost use Rattle.control_rows.specs.Parts as Parts;

@@ -1,5 +1,7 @@
 // What a control row does to the body: the torque of its parts, the momentum of the wheels. Tables are lent; counts and lengths are asked for.
 // Carried over from quatopsy-plan/src/actuators.rs (Apache-2.0), changed: flat tables are lent, the pyramid's matrix is made beforehand.
+#![tactic(auto)]
+
 ghost use Rattle.std.specs.Prelude.{◌≡◌, ◌*◌, ◌≤◌, length};
 ghost use Rattle.actuators.specs.Maps as Maps;
 ghost use Rattle.control_rows.specs.Parts as Parts;

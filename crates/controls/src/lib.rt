@@ -1,6 +1,8 @@
 // The operations on control rows that the specification names, over whole maps and every row.
 // Carried over from quatopsy-plan/src/actuators.rs (Apache-2.0), changed: rows are lent slices, prepared actuators are flat tables, a refusal is a number
 // and a place.
+#![tactic(auto)]
+
 ghost use Rattle.std.specs.Prelude.{◌≡◌, ◌≤◌};
 ghost use Rattle.controls.specs.Controls as Controls;
 

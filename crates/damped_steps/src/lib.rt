@@ -1,5 +1,7 @@
 // The step of a Levenberg-Marquardt iteration. Carried over from `solve` of quatopsy-plan/src/scvx.rs (Apache-2.0), changed: parts of a workspace are lent, and
 // columns that stay from one iteration to the next are summed once: their Gram matrix is kept.
+#![tactic(auto)]
+
 ghost use Rattle.std.specs.Prelude.{◌≡◌, ◌+◌, ◌*◌, ◌≤◌, length, take};
 ghost use Rattle.normal_equations.specs.Rows.{rows};
 ghost use Rattle.elimination.specs.Elimination as Elimination;

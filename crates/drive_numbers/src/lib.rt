@@ -1,4 +1,6 @@
 // Dense samples as the drive board takes them: 32-bit signed numbers of a fixed unit, 2^-30 for an attitude's parts and 2^-20 for all others.
+#![tactic(auto)]
+
 ghost use Rattle.std.specs.Prelude.{◌≡◌, ◌&&◌, ◌≤◌, ◌^◌};
 ghost use Rattle.drive_numbers.specs.Numbers as Numbers;
 ghost use Rattle.drive_numbers.specs.Drive as Drive;

@@ -1,5 +1,7 @@
 // Eigenaxis plans: the planner's own answer from the eigenaxis seed, at the shortest duration that a ladder of durations finds. The weights are not read: the search
 // ends where the seed lands.
+#![tactic(auto)]
+
 ghost use Rattle.std.specs.Prelude.{◌≡◌, ◌≤◌, ◌<◌, length};
 ghost use Rattle.common.specs.Iter.{iter};
 ghost use Rattle.planner.specs.Plans as Plans;

@@ -1,4 +1,6 @@
 // Dense samples of a text's eigenaxis plan: what they are taken of, and the acceleration that they are asked for with. `sample_text` prints them.
+#![tactic(auto)]
+
 ghost use Rattle.std.specs.Prelude.{◌≡◌, length};
 ghost use Rattle.planner.specs.Plans as Plans;
 ghost use Rattle.eigenaxis_samples.specs.Courses as Courses;

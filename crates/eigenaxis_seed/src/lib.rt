@@ -1,5 +1,7 @@
 // The eigenaxis seed: rates along a shape about the one axis of the turn, and for each step the torque that takes the rate which the step law has reached to the
 // next of them. The state is followed by the step law's own operations on the row that the planner will run, so that no rounding adds up from step to step.
+#![tactic(auto)]
+
 ghost use Rattle.std.specs.Prelude.{◌≡◌, ◌+◌, ◌*◌, ◌≤◌, ◌<◌};
 ghost use Rattle.common.specs.Iter.{iter};
 ghost use Rattle.actuators.specs.Pyramid as Pyramid;

@@ -1,4 +1,6 @@
 // The eigenaxis plan of a problem's text, put into bytes as `plan_text` puts a plan.
+#![tactic(auto)]
+
 ghost use Rattle.std.specs.Prelude.{◌≡◌, length};
 ghost use Rattle.planner.specs.Plans as Plans;
 ghost use Rattle.eigenaxis.specs.Ladders as Ladders;

@@ -1,5 +1,7 @@
 // Gauss-Jordan elimination.
 // Carried over from quatopsy-plan/src/scvx.rs (Apache-2.0), changed: parts of a workspace are lent, and two columns are taken at a time.
+#![tactic(auto)]
+
 ghost use Rattle.std.specs.Prelude.{◌≡◌, ◌*◌, ◌≤◌, length};
 ghost use Rattle.normal_equations.specs.Rows.{rows};
 ghost use Rattle.elimination.specs.Elimination as Elimination;

@@ -1,5 +1,7 @@
 // The end checks of a found decision's run: 14, 15 and 16, then 17 to 19 node by node. Carried over from the tail of `solve` of
 // quatopsy-plan/src/scvx.rs (Apache-2.0), changed: refusals are numbers with their node.
+#![tactic(auto)]
+
 ghost use Rattle.std.specs.Prelude.{◌≡◌, true};
 ghost use Rattle.actuators.specs.Maps.{is_sized};
 ghost use Rattle.end_checks.specs.Ends as Ends;

@@ -2,6 +2,8 @@
 //
 // In C an `&mut [[i32; 13]]` is a pointer to rows of 13 numbers and a count of rows. A function that can refuse answers the refusal's number, or 0 where it
 // gives an answer. A unit is 2^-20 where `coarse` is true (rate, torque, momentum) and else 2^-30 (attitude).
+#![tactic(auto)]
+
 ghost use Rattle.std.specs.Prelude.{◌≡◌, length};
 ghost use Rattle.geom.specs.Vec as Vec;
 ghost use Rattle.drive_numbers.specs.Numbers as Numbers;

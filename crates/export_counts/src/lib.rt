@@ -1,6 +1,8 @@
 // The C interface of the series' counts, for the comparison: how the series of an argument end, the sum's size and how many terms were formed. Where none is
 // formed the answer is false and what was lent is untouched. `rt staticlib export_counts` makes the archive, which is one of its own: beside a second caller
 // the compiler would no longer put the series into `sin`, `cos` and `sin_cos`.
+#![tactic(auto)]
+
 ghost use Rattle.std.specs.Prelude.{◌≡◌};
 ghost use Rattle.angles.specs.Ended.{sine_series, cosine_series, both_series, arc_series};
 ghost use Rattle.export_counts.specs.Outcomes as Outcomes;

@@ -1,5 +1,7 @@
 // The C interface of eigenaxis plans, thin over the proved library. `rt staticlib export_eigenaxis` makes the archive. What is lent and told is as in
 // `export::plans`; the runs are those of every try.
+#![tactic(auto)]
+
 ghost use Rattle.std.specs.Prelude.{◌≡◌, length};
 ghost use Rattle.export.specs.Entries.{EntryTold};
 ghost use Rattle.export_eigenaxis.specs.Entries as Entries;

@@ -3,6 +3,8 @@
 //
 // In C an `&[f64; 3]` is a pointer to three doubles, an `&[f64]` a pointer and a count. A function that can refuse answers the refusal's
 // number, or 0 where it gives an answer; where it refuses, what was lent for the answer is untouched.
+#![tactic(auto)]
+
 pub mod courses;
 pub mod floats;
 pub mod pack;

@@ -3,6 +3,8 @@
 // The problem is declared as for a plan; its attitudes are not read. A cursor is five counts (legs answered, their runs; a refusal's number, else 0, its place
 // and its runs) and nine numbers (the answered legs' duration, and the momenta of eight wheels that the next leg starts with). The way to plan is a number:
 // 0 the search, 1 about one axis, 2 about one axis gently.
+#![tactic(auto)]
+
 ghost use Rattle.std.specs.Prelude.{◌≡◌, length};
 ghost use Rattle.planner.specs.Plans as Plans;
 ghost use Rattle.problem_numbers.specs.Declared as Declared;

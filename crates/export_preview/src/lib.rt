@@ -2,6 +2,8 @@
 //
 // The momenta on record are a count of wheels and eight numbers, which the caller keeps. A preview is what the caller holds of it: the number that it answered,
 // the momenta that it began from, and its path's wheels and nodes.
+#![tactic(auto)]
+
 ghost use Rattle.std.specs.Prelude.{◌≡◌, length};
 ghost use Rattle.export.specs.Entries.{EntryTold};
 ghost use Rattle.export_preview.specs.Numbers as Numbers;

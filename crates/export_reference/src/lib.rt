@@ -2,6 +2,8 @@
 //
 // `counts` gets a refusal's place, the trials of durations and the samples that they evaluated; `end` the momenta of eight wheels in the last sample. Beside a refusal `duration` and
 // `end` have no meaning.
+#![tactic(auto)]
+
 ghost use Rattle.std.specs.Prelude.{◌≡◌, ◌+◌, ◌≤◌, length};
 ghost use Rattle.export_reference.specs.Entries as Entries;
 ghost use Rattle.export_reference.specs.Rows as Rows;

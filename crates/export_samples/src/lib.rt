@@ -1,6 +1,8 @@
 // The C interface of a path's dense samples as one list, thin over the proved library. `rt staticlib export_samples` makes the archive.
 //
 // In C an `&mut [[f64; 14]]` is a pointer to rows of 14 numbers and a count of rows. The function answers the refusal's number, or 0 where the list is whole.
+#![tactic(auto)]
+
 ghost use Rattle.export_samples.specs.Entries as Entries;
 
 use export_leaves::pack::{number_of, place_of};

@@ -2,6 +2,8 @@
 //
 // In C a slice is a pointer and a count. A function that can refuse answers the refusal's number, or 0 where it gives an answer; where it refuses, what was
 // lent for the answer is untouched, but for the functions that say they leave zeros.
+#![tactic(auto)]
+
 pub mod order;
 pub mod planes;
 pub mod region;

@@ -1,4 +1,6 @@
 // The helpers on f64 that Rust's standard library has as methods, and IEEE 754's square root.
+#![tactic(auto)]
+
 ghost use Rattle.std.specs.Prelude.{◌≡◌, T, from_bits};
 ghost use Rattle.std.specs.Float.{binary64};
 ghost use Rattle.std.specs.Float.Ieee.{lt, neg};

@@ -1,4 +1,6 @@
 // Whether two floats are the same bit for bit.
+#![tactic(auto)]
+
 ghost use Rattle.std.specs.Prelude.{◌≡◌};
 ghost use Rattle.float_bits.specs.Bits as Bits;
 

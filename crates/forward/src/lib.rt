@@ -1,6 +1,8 @@
 // The forward run: a decision is run through the step law from the problem's start.
 // Carried over from quatopsy-plan/src/scvx.rs (Apache-2.0), changed: a decision is packed in one array, a refusal is a number and a place, the run keeps
 // its state in locals and lends the actuators' tables to its steps.
+#![tactic(auto)]
+
 ghost use Rattle.std.specs.Prelude.{◌≡◌};
 ghost use Rattle.forward.specs.Reconstruct as Reconstruct;
 

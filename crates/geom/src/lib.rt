@@ -1,5 +1,6 @@
 // Attitudes, vectors and inertia tensors. Carried over from quatopsy-plan/src/geom.rs (Apache-2.0), changed: refusals are enums, an answer that holds an
 // array stands beside its fate, the tolerance of `normalized` is an argument, the checks of a problem file stay behind.
+#![tactic(auto)]
 
 ghost use Rattle.std.specs.Prelude.{◌≡◌};
 ghost use Rattle.geom.specs.Vec as Vec;

@@ -1,5 +1,7 @@
 // Gimbal angles whose sines and cosines are known: a table of them, and a pyramid's matrix that looks there before it works one out. The Rust works out
 // every one. A column of the search's Jacobian moves one gimbal, so three angles of four are those of the decision that the Jacobian is taken at.
+#![tactic(auto)]
+
 ghost use Rattle.std.specs.Prelude.{◌≡◌, ◌+◌, ◌*◌, ◌<◌};
 ghost use Rattle.angles.specs.Both.{both_of};
 ghost use Rattle.actuators.specs.Pyramid as Pyramid;

@@ -1,5 +1,7 @@
 // How many of a decision's 16 controls at each place of a row are changed when they are held to their limits. A decision that is to be projected is counted
 // here; the projection itself stays as it is, and columns of the Jacobian, whose counts nobody reads, are not counted.
+#![tactic(auto)]
+
 ghost use Rattle.std.specs.Prelude.{◌≡◌, ◌≤◌, ◌<◌};
 ghost use Rattle.actuators.specs.Maps.{control_dim};
 ghost use Rattle.control_limits.specs.Limits.{part_limit_value};

@@ -1,4 +1,6 @@
 // The residual rows that are not always +0.0, gathered in the front of a residual vector. The Rust sums over all rows; a row of +0.0 adds nothing.
+#![tactic(auto)]
+
 ghost use Rattle.std.specs.Prelude.{◌≡◌, ◌+◌, ◌≤◌, length};
 ghost use Rattle.common.specs.Iter.{iter};
 ghost use Rattle.kept_rows.specs.Kept as Kept;

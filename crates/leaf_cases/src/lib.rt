@@ -1,5 +1,7 @@
 // Stored answers of the leaves, attitudes, vectors and tensors: each case is run through the C interface and compared to the last bit, a NaN matching any NaN.
 // A case is its function's number and its words: those that go in first, then those that come out.
+#![tactic(auto)]
+
 mod leaves;
 mod shapes;
 

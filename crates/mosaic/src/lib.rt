@@ -1,5 +1,7 @@
 // A whole mosaic: 2 to 64 attitudes, a leg from each to the next, every leg a slew from rest to rest whose wheels start with the momenta that the leg before it
 // ended with, planned by the search or about one axis as the caller says. A cursor by value plans one leg a turn.
+#![tactic(auto)]
+
 ghost use Rattle.std.specs.Prelude.{◌≡◌, ◌≤◌, length};
 ghost use Rattle.mosaic.specs.Mosaics as Mosaics;
 ghost use Rattle.mosaic.specs.Turns as Turns;

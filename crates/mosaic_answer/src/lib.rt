@@ -1,5 +1,7 @@
 // What is printed of a mosaic's text: a heading and a path for each leg as program `slew` prints one, or the leg's refusal in the path's place; then the sums
 // of the legs that stand. It is written leg by leg into lent buffers.
+#![tactic(auto)]
+
 ghost use Rattle.std.specs.Prelude.{◌≡◌, length};
 ghost use Rattle.mosaic.specs.Ways as Ways;
 ghost use Rattle.mosaic_answer.specs.MosaicAnswers as MosaicAnswers;

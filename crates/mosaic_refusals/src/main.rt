@@ -1,5 +1,7 @@
 // Tests `slew_mosaic`. On standard input stands a mosaic whose third leg is refused, and the arguments ask for legs about one axis, gently. Then by the search: a mosaic whose
 // second leg is refused, an empty text, and one with a single tile.
+#![tactic(auto)]
+
 use mosaic::ways::Way;
 
 fn main() {

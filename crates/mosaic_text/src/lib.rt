@@ -1,5 +1,7 @@
 // A mosaic's text: the line `(mosaic`, one problem's text as it stands in a file of its own, a line for each tile, and the line `)`. Read into the problem and
 // its tiles.
+#![tactic(auto)]
+
 ghost use Rattle.std.specs.Prelude.{◌≡◌, ◌≤◌, length};
 ghost use Rattle.mosaic_text.specs.MosaicTexts as MosaicTexts;
 ghost use Rattle.mosaic_text.specs.MosaicTexts.{EndIs};

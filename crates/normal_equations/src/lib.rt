@@ -1,5 +1,7 @@
 // The normal equations of a Levenberg-Marquardt step. Carried over from quatopsy-plan/src/scvx.rs (Apache-2.0), changed: parts of a workspace are lent,
 // the Jacobian lies by columns; half of its Gram matrix is summed, eight cells at a time, and mirrored, so that it can be kept without the damping factor.
+#![tactic(auto)]
+
 ghost use Rattle.std.specs.Prelude.{◌≡◌, ◌+◌, ◌*◌, ◌≤◌, length, replicate, take, drop};
 ghost use Rattle.common.specs.Floats as Floats;
 ghost use Rattle.normal_equations.specs.Rows.{rows};

@@ -1,4 +1,6 @@
 // What the program slew_order prints: a table's text is read, an order found, and the answer put into bytes that the caller lends.
+#![tactic(auto)]
+
 ghost use Rattle.std.specs.Prelude.{◌≡◌, ◌*◌, ◌≤◌, take};
 ghost use Rattle.order_text.specs.OrderTexts as OrderTexts;
 ghost use Rattle.order_text.specs.OrderTexts.{Prints, Tells};

@@ -1,4 +1,6 @@
 // What the programs and the C interface share: a problem's text is read, planned, and its answer put into bytes or numbers that the caller lends.
+#![tactic(auto)]
+
 ghost use Rattle.std.specs.Prelude.{◌≡◌, ◌≤◌, length};
 ghost use Rattle.planner.specs.Plans as Plans;
 ghost use Rattle.text_writer.specs.Puts.{Puts};

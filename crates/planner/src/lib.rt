@@ -1,5 +1,7 @@
 // The planner: every check in the specification's order, the seed, the search, the end checks, and the two entries, with our seed and with a caller's.
 // Carried over from `solve` of quatopsy-plan/src/scvx.rs (Apache-2.0), changed: one lent workspace, every answer with its runs, refusals as numbers.
+#![tactic(auto)]
+
 ghost use Rattle.std.specs.Prelude.{◌≡◌, Bool, true, ◌≤◌, length, replicate};
 ghost use Rattle.common.specs.Floats.{plus_zero};
 ghost use Rattle.common.specs.declared.Fate.TheVariants.{Going};

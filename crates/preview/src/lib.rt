@@ -1,4 +1,6 @@
 // Ask, then commit: a slew is previewed from the wheel momenta on record, and started later if the record still has the same bits.
+#![tactic(auto)]
+
 ghost use Rattle.std.specs.Prelude.{◌≡◌, length};
 ghost use Rattle.problem.specs.Problems as Problems;
 ghost use Rattle.planner.specs.Plans as Plans;

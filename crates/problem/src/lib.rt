@@ -1,6 +1,8 @@
 // The problem as a user gives it, checks 1 to 6 and 22 in their order, and the checked problem that every forward run reads.
 // Carried over from quatopsy-plan/src/scvx.rs (`SolverProblem`, `Weights`) and src/lib.rs (the checks of `plan`), Apache-2.0, changed: one record for
 // all inputs, the two tolerances and the wheels' start momenta as fields, refusals as numbers, both attitudes normalized and the inertia inverted once.
+#![tactic(auto)]
+
 ghost use Rattle.std.specs.Prelude.{◌≡◌};
 ghost use Rattle.problem.specs.Problems as Problems;
 

@@ -1,4 +1,6 @@
 // The program's text: nested brackets, one form a line, read into the problem that the planner takes.
+#![tactic(auto)]
+
 ghost use Rattle.std.specs.Prelude.{◌≡◌, ◌≤◌, set};
 ghost use Rattle.text.specs.Forms.{loose};
 ghost use Rattle.text.specs.Lines as Lines;

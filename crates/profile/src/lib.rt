@@ -1,5 +1,6 @@
 // The eigenaxis profile of a slew and the seed that is sampled from it. Carried over from quatopsy-plan/src/lib.rs and `sample_seed` of
 // src/scvx.rs (Apache-2.0), changed: refusals are numbers, the tie tolerance is an argument, the seed's two closures are the profile's own functions.
+#![tactic(auto)]
 
 ghost use Rattle.std.specs.Prelude.{◌≡◌, ◌+◌, ◌*◌, ◌<◌, ◌++◌, take};
 ghost use Rattle.profile.specs.Profiles as Profiles;

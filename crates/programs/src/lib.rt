@@ -1,4 +1,6 @@
 // What the programs do: each answers by a proved function, which owns the 8,000 numbers that it lends to the planner, and reads and writes around it.
+#![tactic(auto)]
+
 pub mod axis_plans;
 pub mod mosaics;
 pub mod output;

@@ -3,6 +3,8 @@
 //
 // A state is counted from the corner of its ranges: x = angle + 64, y = rate + 8, and its entry is at x * 17 + y. Choices are counted from the lowest: i is the
 // drive's + 2, j the draught's + 1.
+#![tactic(auto)]
+
 ghost use Rattle.std.specs.Prelude.{◌≡◌, true, cond, ◌&&◌, suc, ◌≤◌, ◌<◌, T, pos, nat_abs, ◌-ℤ◌};
 ghost use Rattle.std.specs.Int.Signed.{le_z, non_neg};
 ghost use Rattle.std.specs.Int.{w64};

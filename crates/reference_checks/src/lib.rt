@@ -1,6 +1,8 @@
 // The checks of a reference: of each sample, of each step, of its start and its end. A comparison that a NaN enters refuses, and so does a limit that is not finite and above 0.
 // Refusals: 10 no duration or no step, 11 a sine or cosine out of range, 13 power, 14 the attitude at the start or the end, 15 the rate there, 17 the torque box, 18 the slew
 // limit, 19 a wheel's momentum, 29 a control over its actuator's limit, 30 the momentum balance. The place is the sample or the step.
+#![tactic(auto)]
+
 ghost use Rattle.std.specs.Prelude.{◌≡◌, ◌+◌, ◌≤◌};
 ghost use Rattle.reference_checks.specs.Checks as Checks;
 ghost use Rattle.reference_checks.specs.Promises as Promises;

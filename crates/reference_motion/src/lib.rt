@@ -1,5 +1,7 @@
 // Samples of a reference trajectory: a smooth rotation about one axis, at rest at both ends. The wheel momenta follow from the conservation of the total angular momentum at
 // each instant, so that no error accumulates. Sample k of n stands at the fraction k / n of the duration. One record holds all that a sample reads; nothing is kept between samples.
+#![tactic(auto)]
+
 ghost use Rattle.std.specs.Prelude.{◌≡◌, ◌≤◌, pos, length};
 ghost use Rattle.std.specs.Float.{binary64};
 ghost use Rattle.std.specs.Float.Ieee.{of_int};

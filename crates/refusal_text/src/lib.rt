@@ -1,4 +1,6 @@
 // What a refusal means, in words: one table of sentences, and the search of a refusal's line in it.
+#![tactic(auto)]
+
 ghost use Rattle.std.specs.Prelude.{◌≡◌, ◌+◌, ◌-◌, ◌≤◌, ◌<◌, ◌^◌, length, get_or, drop};
 ghost use Rattle.text_writer.specs.Puts.{Puts};
 ghost use Rattle.refusal_text.specs.Sentences as Sentences;

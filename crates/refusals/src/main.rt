@@ -1,5 +1,7 @@
 // Tests the programs on what they refuse: `slew` gets the problem on standard input, and `slew_samples` what is left of it, which is nothing. Then the dense samples of a half turn
 // about one axis, gently: the search has no seed for it.
+#![tactic(auto)]
+
 use eigenaxis_seed::Shape;
 use mosaic::ways::Way;
 use programs::samples::Wanted;

@@ -1,4 +1,6 @@
 // A test program: a letter for each of some starts and replies. `stdout` comes from the minimax of the comparison (oracle/drive/src/region.rs), never from here.
+#![tactic(auto)]
+
 use libc::STDOUT_FILENO;
 use reach_avoid::{DraughtReply, StartOutcome};
 

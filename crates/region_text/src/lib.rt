@@ -1,4 +1,6 @@
 // What the program slew_region prints: the outcome of a start, the draught's reply, the whole region; and what a refusal means.
+#![tactic(auto)]
+
 ghost use Rattle.std.specs.Prelude.{◌≡◌, true, false, ◌*◌, ◌≤◌, ◌<◌, ◌^◌};
 ghost use Rattle.reach_avoid.specs.Room as Room;
 ghost use Rattle.text_writer.specs.Puts.{Puts};

@@ -1,5 +1,7 @@
 // Runs stored answers of the published Rust again: standard input holds a case a line (README.md has the form), and each is run through the C interface
 // and compared to the last bit, a NaN matching any NaN. Blocks of 65,536 bytes, which no line crosses, are filled up with empty lines.
+#![tactic(auto)]
+
 mod runs;
 mod samples;
 

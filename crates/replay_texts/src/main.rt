@@ -1,5 +1,7 @@
 // Runs stored texts again: standard input holds cases (crates/replay/README.md has the form), each a text and what the program must answer, and each
 // answer is compared byte for byte. Blocks of 65,536 bytes, which no case crosses, are filled up with line feeds.
+#![tactic(auto)]
+
 mod answers;
 mod head;
 

@@ -1,5 +1,7 @@
 // The residuals of a decision: one forward run, and what the search drives to 0.
 // Carried over from `residuals` of quatopsy-plan/src/scvx.rs (Apache-2.0), changed: the residuals stand in an array of 79, a refusal is a number and a place.
+#![tactic(auto)]
+
 ghost use Rattle.std.specs.Prelude.{◌≡◌};
 ghost use Rattle.residuals.specs.MeasuredResiduals as MeasuredResiduals;
 

@@ -1,4 +1,6 @@
 // Stored answers of the actuators, control rows and the profile, run and compared as those of `leaf_cases`.
+#![tactic(auto)]
+
 mod courses;
 mod rigs;
 

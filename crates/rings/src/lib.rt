@@ -1,1 +1,2 @@
 // Equations of commutative rings, for proofs: they stand in specs/. No code.
+#![tactic(auto)]

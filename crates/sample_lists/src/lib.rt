@@ -1,5 +1,7 @@
 // All dense samples of a path as one list, into lent memory: what `samples::sample` gives for each index. The count is taken once, what is the same for all samples between
 // two nodes is formed once, and the search for a sample's interval goes on from the one before.
+#![tactic(auto)]
+
 ghost use Rattle.std.specs.Prelude.{◌≡◌, ◌<◌, ◌≤◌, length};
 ghost use Rattle.sample_lists.specs.Lists as Lists;
 ghost use Rattle.sample_lists.specs.StagesInner as Stages;

@@ -1,4 +1,6 @@
 // Dense samples of a problem's text: the text is read and planned with our own seed, and samples of the path are put into numbers or printed.
+#![tactic(auto)]
+
 ghost use Rattle.std.specs.Prelude.{◌≡◌, ◌≤◌, ◌++◌, length, drop};
 ghost use Rattle.planner.specs.Plans as Plans;
 ghost use Rattle.sample_text.specs.SampleTexts as SampleTexts;

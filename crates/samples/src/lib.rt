@@ -1,5 +1,7 @@
 // Dense samples of a path, one at a time. Carried over from `densify` and `interpolate` of quatopsy-plan/src/scvx.rs (Apache-2.0), changed: a call answers one
 // sample and stores none, the path's nodes are lent as rows of numbers, the tolerance of `normalized` is an argument, a refusal is a number and a place.
+#![tactic(auto)]
+
 ghost use Rattle.std.specs.Prelude.{◌≡◌};
 ghost use Rattle.samples.specs.Counts as Counts;
 ghost use Rattle.samples.specs.Samples as Samples;

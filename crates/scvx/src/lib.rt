@@ -3,6 +3,8 @@
 // What the Rust works out again is kept: a decision's residuals and their length are known from the run that let it in, and while a decision stays its
 // Jacobian's columns stay in the front of the workspace, and their Gram matrix beside it. A column's run begins where it parts from the base run's. Iterations that
 // would repeat the last one to the end are not made. The counts are the Rust's.
+#![tactic(auto)]
+
 ghost use Rattle.std.specs.Prelude.{◌≡◌, true, ◌≤◌, length};
 ghost use Rattle.actuators.specs.Maps.{control_dim, is_sized};
 ghost use Rattle.scvx.specs.Search as Search;

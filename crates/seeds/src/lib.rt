@@ -1,5 +1,7 @@
 // The seed's decision: each node's body torque allocated to the actuators and held to its limits. Carried over from the head of `solve` of
 // quatopsy-plan/src/scvx.rs (Apache-2.0), changed: the decision is packed, and whether the actuators are served is asked once.
+#![tactic(auto)]
+
 ghost use Rattle.std.specs.Prelude.{◌≡◌, ◌+◌, ◌*◌, ◌≤◌, ◌<◌, length, take};
 ghost use Rattle.common.specs.Iter.{iter};
 ghost use Rattle.actuators.specs.Maps.{control_dim};

@@ -1,4 +1,6 @@
 // Test program: prints the table of sentences. Its stored output is the table that `tools/slewtext` reads, so that both tell a refusal in the same words.
+#![tactic(auto)]
+
 use libc::STDOUT_FILENO;
 use refusal_text::write_table;
 

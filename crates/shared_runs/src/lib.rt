@@ -1,5 +1,7 @@
 // Runs that share their beginning: a decision whose first rows are another's has its first steps. The base run is kept step by step, and the run of such a decision begins
 // where the decisions part. The Rust runs every column of its Jacobian from the start.
+#![tactic(auto)]
+
 ghost use Rattle.std.specs.Prelude.{◌≡◌, true, List, ◌+◌, ◌*◌, ◌≤◌, length, Float};
 ghost use Rattle.common.specs.declared.Fate.TheVariants.{Going};
 ghost use Rattle.actuators.specs.Maps.{control_dim, is_sized};

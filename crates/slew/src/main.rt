@@ -1,4 +1,6 @@
 // Plans the problem whose text stands on standard input (crates/programs/src/plans.rt).
+#![tactic(auto)]
+
 fn main() {
     programs::plans::run();
 }

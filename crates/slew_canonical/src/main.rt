@@ -1,5 +1,7 @@
 // Writes the canonical text of the problem's text that stands on standard input: it goes to standard output; of a text that is refused with 21 or 1 nothing does, and a sentence
 // goes to standard error.
+#![tactic(auto)]
+
 use canonical::canonical_text;
 use common::Fate;
 use libc::{STDERR_FILENO, STDIN_FILENO, STDOUT_FILENO};

@@ -1,4 +1,6 @@
 // Plans the mosaic whose text stands on standard input, leg by leg (crates/programs/src/mosaics.rt).
+#![tactic(auto)]
+
 fn main() {
     programs::mosaics::run();
 }

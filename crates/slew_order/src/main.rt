@@ -1,4 +1,6 @@
 // Orders the tiles of the table of times that stands on standard input: the answer goes to standard output and, where it is refused, a sentence to standard error.
+#![tactic(auto)]
+
 use common::Fate;
 use libc::{STDERR_FILENO, STDIN_FILENO, STDOUT_FILENO};
 use order_text::order_text;

@@ -1,6 +1,8 @@
 // Answers for a room with moving air. With an angle and a rate it prints the outcome of that start; with the word `reply`, an angle, a rate, the turns left
 // and the drive's choice, the draught's reply; with no argument the whole region. A refusal is printed in the answer's place, with a sentence on standard
 // error. A program of this language has no exit status: bad arguments show by their sentence, and by nothing on standard output.
+#![tactic(auto)]
+
 ghost use Rattle.std.specs.Prelude.{◌≤◌, length};
 
 use arguments::{Requested, read_requested};

@@ -1,6 +1,8 @@
 // The text reader: a struct that holds its text and a position in it, with thin functions over the plain ones on slice and number. A function gives back what
 // stands at the reader's position, or the reader behind it: it cannot give both (docs/DECISIONS.md). Whoever has a plain slice calls `read`, whose contract
 // says nothing of the struct.
+#![tactic(auto)]
+
 ghost use Rattle.std.specs.Prelude.{◌≡◌};
 ghost use Rattle.text.specs.Forms.{loose};
 ghost use Rattle.problem_text.specs.Listing as Listings;

@@ -1,4 +1,6 @@
 // What the program prints: a found path, a refusal, a dense sample. What a refusal means in words is crate refusal_text's.
+#![tactic(auto)]
+
 ghost use Rattle.std.specs.Prelude.{◌≡◌, ◌≤◌, ◌<◌};
 ghost use Rattle.text_writer.specs.Puts.{Puts};
 ghost use Rattle.text_writer.specs.Texts as Texts;

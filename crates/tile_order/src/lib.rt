@@ -1,5 +1,7 @@
 // An order for the tiles: every order that starts at tile 0 is tried by ascending tile number, a part that costs no less than the best order is dropped, and
 // a budget counts the tiles placed. What is found is in specs/Search.antt and specs/Answers.antt, and what that is worth in specs/Promises.antt.
+#![tactic(auto)]
+
 ghost use Rattle.std.specs.Prelude.{◌≡◌, ◌≤◌};
 ghost use Rattle.tile_order.specs.Answers as Answers;
 ghost use Rattle.tile_order.specs.Orders as Orders;

@@ -1,4 +1,6 @@
 // The wheels' momenta from one slew to the next: those that a path ends with, and a problem that starts with given ones.
+#![tactic(auto)]
+
 ghost use Rattle.std.specs.Prelude.{◌≡◌};
 ghost use Rattle.wheel_momenta.specs.Successive as Successive;
 

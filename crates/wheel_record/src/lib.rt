@@ -1,4 +1,6 @@
 // The wheels' momenta on record: whether they still have the bits that a preview began from, and what a start makes of them.
+#![tactic(auto)]
+
 ghost use Rattle.std.specs.Prelude.{◌≡◌, ◌<◌};
 ghost use Rattle.wheel_record.specs.Commits as Commits;
 

@@ -1,4 +1,6 @@
 // The whole mosaic into lent lists, a row for each answered leg, over a mosaic's turns.
+#![tactic(auto)]
+
 ghost use Rattle.std.specs.Prelude.{◌≡◌, length};
 ghost use Rattle.mosaic.specs.Mosaics as Mosaics;
 ghost use Rattle.mosaic.specs.Ways as Ways;

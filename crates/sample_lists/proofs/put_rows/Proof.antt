@@ -45,8 +45,7 @@ slice-set-from-row c = omega (arith, (turn_of_law c).requires, (turn_of_law c).l
 
 loop-again : tie.Need-loop-j-preserved invariant_loop decreases_loop
 loop-again c =
-    let l = c.loop-j in
-    (
+    let l = c.loop-j in (
       omega arith,
       ⊎_elim (λ w. rw w.7 (length-set l.out (l.j - 2) w.6.result ∙ l.invariant.1)) (λ w. rw w.1 l.invariant.1) c.if-j-ge2.branch,
       c.place-next.ensures.1,

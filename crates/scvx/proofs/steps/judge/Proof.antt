@@ -8,11 +8,10 @@ use Rattle.scvx.proofs.steps.judge.Tie as tie
 
 returns : tie.Need-returns-then-t-c
 unfolding Ieee.of_bits
-returns c =
-    (
-      rw (c.move_to-next.ensures, c.max.ensures) (judge_taken c.args.g.state c.args.t c.if-t-c.true),
-      λ p k j a h. rw c.move_to-next.ensures (stands_new k),
-    )
+returns c = (
+  rw (c.move_to-next.ensures, c.max.ensures) (judge_taken c.args.g.state c.args.t c.if-t-c.true),
+  λ p k j a h. rw c.move_to-next.ensures (stands_new k),
+)
 
 returns_2 : tie.Need-returns
 unfolding Ieee.of_bits
