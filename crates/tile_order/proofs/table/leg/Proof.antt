@@ -18,5 +18,5 @@ leg_spec =
     (λ c. omega (arith, within c))
     (λ c. omega (arith, within c))
     (λ c. within c.before)
-    (λ c. omega (arith, c.shared-slice-known.given (c.args.from * c.args.n + c.args.to)))
-    (λ c. (refl, omega (arith, c.shared-slice-known.given (c.args.from * c.args.n + c.args.to)))))
+    (λ c. omega (arith, c.shared_slice_known-1.given (c.args.from * c.args.n + c.args.to)))
+    (λ c. (refl, omega (arith, c.shared_slice_known-1.given (c.args.from * c.args.n + c.args.to)))))
