@@ -10,7 +10,6 @@ use Rattle.float_laws.specs.Numbers.{numbers}
 use Rattle.float_laws.specs.Finite.{finites}
 use Rattle.float_laws.specs.Signs.{plus_number, pluses}
 use Rattle.float_laws.specs.Exact.{exact}
-use Rattle.float_laws.specs.Limits.{Limit, Under, bound}
 use Rattle.float_laws.specs.Sizes.{Within, mul_in, sub_in}
 
 -- a length of three numbers
@@ -35,16 +34,6 @@ one_exact = refl
 half_exact : exact (of_bits binary64 0xbfe0_0000_0000_0000) ≡ neg_ℤ (pos (2 ^ 1073))
 unfolding exact mag of_bits
 half_exact = refl
-
-abbrev one : Float
-one = fin false 1 (pos 0)
-
--- 1 is a limit, and 1 passes the test against it
-one_limit : Limit one
-one_limit = record { fit = unfold fits in tt; fine = tt; over = unfold lt of_bits in tt }
-
-one_under : Under one one
-one_under = bound one one (unfold fits in tt) tt one_limit (unfold lt sub abs of_bits in tt)
 
 -- a difference of products of values up to 2: at most 2 ^ 3
 product_in : (a b c d : Float) → Within binary64 1 a → Within binary64 1 b → Within binary64 1 c → Within binary64 1 d → Within binary64 3 (sub binary64 (mul binary64 a b) (mul binary64 c d))

@@ -59,19 +59,19 @@ pub tol_finite : T (finite tol)
 unfolding of_bits
 tol_finite = tt
 
-next_held : Held binary64 next_above_nano
+pub next_held : Held binary64 next_above_nano
 unfolding of_bits fits
 next_held = held tt tt
 
-next_finite : T (finite next_above_nano)
+pub next_finite : T (finite next_above_nano)
 unfolding of_bits
 next_finite = tt
 
-next_plus : T (plus next_above_nano)
+pub next_plus : T (plus next_above_nano)
 unfolding of_bits
 next_plus = tt
 
-tol_next : T (lt tol next_above_nano)
+pub tol_next : T (lt tol next_above_nano)
 unfolding of_bits lt
 tol_next = tt
 
@@ -101,31 +101,8 @@ pub record Under (t l : Float) : Type 0 where
   pub fine : T (finite t)
   pub under : mag binary64 t < mag binary64 l + mag binary64 next_above_nano
 
-inf_over : (s : Bool) (l : Float) → T (finite l) → T (lt tol (sub binary64 (abs (inf s)) l))
-unfolding of_bits lt sub abs neg add
-inf_over s nan p = absurd p
-inf_over s (inf t) p = absurd p
-inf_over s (fin t n d) p = tt
-
--- BOUND: a number t whose |t| - l is not above 1e-9 has |t| < l + (the next f64 above 1e-9)
-pub bound : (t l : Float) → T (fits binary64 t) → T (number t) → Limit l → T (not (lt tol (sub binary64 (abs t) l))) → Under t l
-bound nan l g p L h = absurd p
-bound (inf s) l g p L h = absurd (T_not (lt tol (sub binary64 (abs (inf s)) l)) h (inf_over s l L.fine))
-bound (fin s m e) l g p L h = record { fine = tt; under = within binary64 tol next_above_nano tol_held next_held tol_next next_plus next_finite (fin s m e) l g L.fit tt L.fine (above_zero_plus l L.over) h }
-
 -- the same as whole numbers of 2 ^ -1074
 pub under_exact : (t l : Float) → Limit l → Under t l → exact (abs t) <ℤ (exact l +ℤ exact next_above_nano)
 under_exact t l L U =
     rw (exact_abs t U.fine, exact_plus l L.fine (above_zero_plus l L.over), exact_plus next_above_nano next_finite next_plus, pos-+ℤ-pos)
     (lt_z_yes (lt→ltb (mag binary64 t) (mag binary64 l + mag binary64 next_above_nano) U.under))
-
-zero_fits : T (fits binary64 (of_bits binary64 0))
-unfolding fits of_bits
-zero_fits = tt
-
--- EXCESS: where the largest of |t i| - l i, from 0.0 on, is not above 1e-9, each t i that is no NaN is within
-pub excess_under : (t l : ℕ → Float) (n : ℕ) → ((i : ℕ) → i < n → Held binary64 (t i)) → ((i : ℕ) → i < n → Limit (l i)) → T (not (lt tol (largest (of_bits binary64 0) (λ i. sub binary64 (abs (t i)) (l i)) n)))
-    → (i : ℕ) → i < n → Under (t i) (l i)
-excess_under t l n H L h i k =
-    bound (t i) (l i) (H i k).fit (H i k).num (L i k)
-    (none_above binary64 (of_bits binary64 0) (λ i. sub binary64 (abs (t i)) (l i)) zero_fits (λ i. sub-fits binary64 (abs (t i)) (l i)) tol tol_held.fit n h i k)

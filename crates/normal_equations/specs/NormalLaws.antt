@@ -143,13 +143,3 @@ row_right n m v w c hc same done = tab_same n (mirrored_at n m v c) (sums_of m w
         (sym (at_row n (drop (n * m) v) d c hc) ∙ ap (λ r. at r c) (done d (ltb-true d c e)) ∙ get_d_tab n (sums_of m w d) nan c hc
         ∙ dot_comm m (row m w d) (row m w c))
     by d l false e = rw e (ap (λ j. sums_of m j c d) same)
-
--- u has the columns that begin v, and behind them their Gram matrix: damped, it is the matrix of the normal equations of v
-pub gram_equations : (n m : ℕ) (v u r : List Float) (lambda : Float) (w g : List Float) → take (n * m) u ≡ take (n * m) v
-    → rows n n (drop (n * m) u) ≡ gram n m (rows n m (take (n * m) v)) → Completed n m u r lambda w g → Equations n m v r lambda w g
-gram_equations n m v u r lambda w g e h t =
-    record {
-      columns = t.columns ∙ e;
-      matrix = t.matrix ∙ ap (λ a. damped n lambda a) h ∙ normal_damped n m (rows n m (take (n * m) v)) lambda;
-      right = t.right ∙ ap (λ j. right_side n m (rows n m j) r) e;
-    }

@@ -5,9 +5,7 @@ pub mod Room  -- the rules of the room, and what is told of a start
 pub mod Promises  -- what is told, in plays by the rules alone
 pub mod Answers  -- each answer as a value or as refusal 27
 -- ---- laws
-pub mod PromisesKept  -- the promises hold of every start
 pub mod GameLaws  -- what `wins` says of plays
-pub mod PlayLaws  -- whoever follows an answer always can
 pub mod FewestLaws  -- the fewest turns to come home
 pub mod LeastLaws  -- the lowest number that passes a test
 pub mod RoomLaws  -- what is told, case by case

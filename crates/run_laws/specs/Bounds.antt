@@ -10,7 +10,8 @@ use Rattle.common.specs.Lists.{at}
 use Rattle.float.specs.Ops.{number, abs, clamp}
 use Rattle.float_laws.specs.Below.{below_three}
 use Rattle.float_laws.specs.Finite.{finite_number}
-use Rattle.float_laws.specs.Limits.{Limit, tol, Under, excess_under, control_within}
+use Rattle.float_laws.specs.Limits.{Limit, tol, Under, control_within}
+use Rattle.float_laws.proofs.Limits.{excess_under}
 use Rattle.float_laws.specs.Numbers.{clamp_n}
 use Rattle.float_laws.specs.Order.{Held, held}
 use Rattle.geom.specs.Vec.{torque_excess}

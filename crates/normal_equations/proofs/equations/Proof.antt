@@ -1,6 +1,6 @@
 -- `normal_equations::equations` meets its contract: `gram_matrix` makes the columns' Gram matrix behind them, and `complete_equations` does the rest.
 use lib.ListN.{length}
-use Rattle.normal_equations.specs.NormalLaws.{gram_equations}
+use Rattle.normal_equations.proofs.NormalLaws.{gram_equations}
 use borrow.Author.Rules.{rules}
 use Rattle.normal_equations.proofs.equations.Statement.{statement}
 use Rattle.normal_equations.proofs.equations.Tie as tie

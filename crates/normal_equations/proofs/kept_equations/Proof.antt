@@ -7,7 +7,7 @@ use lib.ListN.{length, take, drop, length-drop}
 use lib.Seq.{length-take-le, take_at}
 use lib.Ieee.{Float}
 use Rattle.common.specs.Lists.{pasted}
-use Rattle.normal_equations.specs.NormalLaws.{gram_equations}
+use Rattle.normal_equations.proofs.NormalLaws.{gram_equations}
 use Rattle.normal_equations.specs.Rows.{rows}
 use Rattle.normal_equations.specs.RowsLaws.{length_pasted, tail_part, tail_back}
 use borrow.Author.Rules.{rules}

@@ -2,7 +2,7 @@
 use Rattle.reach_avoid.specs.Game.{fewest}
 use Rattle.reach_avoid.specs.Room.{State, room, telling}
 use Rattle.reach_avoid.specs.RoomLaws.{outcome_out, outcome_in}
-use Rattle.reach_avoid.specs.PromisesKept.{tells}
+use Rattle.reach_avoid.proofs.PromisesKept.{tells}
 use Rattle.reach_avoid.specs.TableInner.{Start}
 use mathlib.Core.Path.{sym, ap, ◌∙◌}
 use mir.Facts.{to_z-of_z}

@@ -1,5 +1,5 @@
 -- `reach_avoid::region` meets its contract: the table of `fill` is the definition's region (`region_right`).
-use Rattle.reach_avoid.specs.PromisesKept.{region_right}
+use Rattle.reach_avoid.proofs.PromisesKept.{region_right}
 use borrow.Author.Rules.{rules}
 use Rattle.reach_avoid.proofs.region.Statement.{statement}
 use Rattle.reach_avoid.proofs.region.Tie as tie

@@ -3,7 +3,7 @@ use Rattle.reach_avoid.specs.WholeLaws.{Counted, counted_word, counted_fits, is_
 use Rattle.reach_avoid.specs.Room.{State, replying}
 use Rattle.reach_avoid.specs.RoomLaws.{reply_out, reply_in_law}
 use Rattle.reach_avoid.specs.LeastLaws.{clash}
-use Rattle.reach_avoid.specs.PromisesKept.{replies}
+use Rattle.reach_avoid.proofs.PromisesKept.{replies}
 use Rattle.reach_avoid.specs.TableInner.{Start}
 use mathlib.Core.Path.{sym, ap₂, ◌∙◌}
 use native.Mathlib.Omega.{arith}

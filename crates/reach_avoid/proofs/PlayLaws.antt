@@ -4,7 +4,7 @@ use Rattle.std.proofs.Common.{arith, sym, ap, subst, ◌∙◌}
 use Rattle.reach_avoid.specs.Game.{Game, Play, state}
 use Rattle.reach_avoid.specs.Room.{within, State, room, outcome, reply}
 use Rattle.reach_avoid.specs.Promises.{Lawful, DriveFollows, DraughtFollows, OutcomePromise, ReplyPromise}
-use Rattle.reach_avoid.specs.PromisesKept.{told_right, replied_right}
+use Rattle.reach_avoid.proofs.PromisesKept.{told_right, replied_right}
 use Rattle.reach_avoid.specs.declared.StartOutcome.{StartOutcome}
 use Rattle.reach_avoid.specs.declared.StartOutcome.TheVariants.{Home, Forced, HeldOff, Outside}
 use Rattle.reach_avoid.specs.declared.DraughtReply.{DraughtReply}
