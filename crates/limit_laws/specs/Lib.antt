@@ -4,7 +4,5 @@ pub mod Rows  -- what the laws of whole rows speak of: each control's limit, the
 -- ---- laws
 pub mod Holds  -- one control: held twice, to two limits, negated, in order
 pub mod RowLaws  -- the same of a whole row
-pub mod NestingLaws  -- a row held to one row of limits and then to another
-pub mod Examples  -- three body torques under our limits and a lab's
 -- ---- inner words of proofs
 pub mod StoreInner  -- what the storing loop leaves, known by its places

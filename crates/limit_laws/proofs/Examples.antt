@@ -14,7 +14,7 @@ use Rattle.control_limits.specs.Limits.{hold, limit_of, projected}
 use Rattle.controls.specs.Controls.{row_fits_value, project_controls}
 use Rattle.limit_laws.specs.Holds.{Limit, Number, endless}
 use Rattle.limit_laws.specs.Rows.{row_limit, Limited, Numbers, smaller}
-use Rattle.limit_laws.specs.NestingLaws.{project_nested}
+use Rattle.limit_laws.proofs.NestingLaws.{project_nested}
 
 -- 0.25, 0.5, 0.75, 1, -2
 abbrev quarter : Float
