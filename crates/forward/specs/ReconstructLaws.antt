@@ -8,7 +8,7 @@ use Rattle.common.specs.declared.Fate.{Fate}
 use Rattle.common.specs.declared.Fate.TheVariants as Fate
 use Rattle.actuators.specs.Maps.{control_dim}
 use Rattle.problem.specs.Problems as Problems
-use Rattle.problem.specs.Passed.{passed_sized}
+use Rattle.problem.proofs.Passed.{passed_sized}
 use Rattle.problem.specs.declared.Problem.{Problem}
 use Rattle.problem.specs.declared.Checked.{Checked}
 use Rattle.forward.specs.StepLaws.{refused_going}

@@ -9,7 +9,7 @@ use Rattle.common.specs.declared.Fate.{Fate}
 use Rattle.common.specs.declared.Fate.TheVariants.{Going, Refused}
 use Rattle.geom.specs.Vec.{is_positive_value}
 use Rattle.actuators.specs.Maps.{is_sized}
-use Rattle.problem.specs.Passed.{passed_sized}
+use Rattle.problem.proofs.Passed.{passed_sized}
 use Rattle.problem.specs.Problems.{check}
 use Rattle.problem.specs.declared.Checked.{Checked}
 use Rattle.problem.specs.declared.CheckedProblem.{CheckedProblem}

@@ -18,7 +18,7 @@ use Rattle.actuators.specs.Maps.{is_sized, control_dim}
 use Rattle.control_rows.specs.Parts.{body_momentum}
 use Rattle.profile.specs.Seeds.{sample_seed}
 use Rattle.profile.specs.declared.Seed.{Seed}
-use Rattle.problem.specs.Passed.{passed_sized}
+use Rattle.problem.proofs.Passed.{passed_sized}
 use Rattle.problem.specs.StartLaws.{placed_at}
 use Rattle.problem.specs.Problems.{check}
 use Rattle.problem.specs.declared.Problem.{Problem}

@@ -6,7 +6,7 @@ use Rattle.common.specs.declared.Fate.{Fate}
 use Rattle.common.specs.declared.Fate.TheVariants.{Going, Refused}
 use Rattle.actuators.specs.Maps.{is_sized, control_dim}
 use Rattle.profile.specs.Seeds.{sample_seed}
-use Rattle.problem.specs.Passed.{passed_sized}
+use Rattle.problem.proofs.Passed.{passed_sized}
 use Rattle.geom.specs.Vec.{is_positive_value}
 use Rattle.problem.specs.Problems.{check}
 use Rattle.problem.specs.declared.Problem.{Problem}

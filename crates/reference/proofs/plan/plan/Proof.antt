@@ -6,7 +6,7 @@ use mathlib.Core.Path.{◌≡◌}
 use Rattle.common.specs.declared.Fate.TheVariants.{Going}
 use borrow.Author.Tests.{lt-ltb, le-ltb}
 use Rattle.problem.specs.Problems as Problems
-use Rattle.problem.specs.Passed.{passed_sized}
+use Rattle.problem.proofs.Passed.{passed_sized}
 use Rattle.reference.specs.Plans as Plans
 use Rattle.reference.specs.PlanLaws.{refused_answer}
 
