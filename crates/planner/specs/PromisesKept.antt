@@ -43,7 +43,7 @@ use Rattle.end_checks.specs.Ends.{end_fate}
 use Rattle.run_laws.specs.Values.{goes, FineN}
 use Rattle.run_laws.specs.Checked.{FitsP, Ready, check_ready}
 use Rattle.run_laws.specs.Paths.{control, rerun}
-use Rattle.run_laws.specs.Residuals.{residuals_count}
+use Rattle.run_laws.proofs.Residuals.{residuals_count}
 use Rattle.run_laws.specs.Runs.{Spare}
 use Rattle.search_laws.specs.Answers.{limit_in, Answered, answered}
 use Rattle.search_laws.specs.BetterLaws.{better_as}

@@ -10,7 +10,6 @@ pub mod Torques  -- what a finite torque says of its controls; momenta after a s
 pub mod Times  -- the nodes' times are finite
 pub mod Defects  -- the largest defect is no NaN
 pub mod Errors  -- the turn that is left is never refused, and finite
-pub mod Residuals  -- a run with nodes is never refused in its residuals; how many there are
 pub mod Bounds  -- what the tests against limits say, as exact numbers
 pub mod Decisions  -- a projected decision: each control clamped to its limit
 pub mod Checked  -- what the checks leave of a problem

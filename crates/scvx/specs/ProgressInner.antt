@@ -17,7 +17,7 @@ use Rattle.normal_equations.specs.Placed.{ColumnPut}
 use Rattle.damped_steps.specs.Gram.{GramKept}
 use Rattle.kept_rows.specs.Kept.{Laid, kept, Gathered, Zeros, scatter, columns}
 use Rattle.kept_rows.specs.KeptLaws.{kept_most}
-use Rattle.kept_rows.specs.ZeroLaws.{residuals_zeros}
+use Rattle.kept_rows.proofs.ZeroLaws.{residuals_zeros}
 use Rattle.scvx.specs.declared.Status.TheVariants.{Going}
 use Rattle.scvx.specs.declared.Candidate.{Candidate}
 use Rattle.scvx.specs.declared.SearchState.{SearchState}

@@ -28,11 +28,12 @@ use Rattle.run_laws.specs.Values.{goes}
 use Rattle.run_laws.specs.Checked.{Ready}
 use Rattle.run_laws.specs.Defects.{grounded_finite}
 use Rattle.run_laws.specs.Runs.{Spare}
-use Rattle.run_laws.specs.Paths.{Path, control, run_path}
+use Rattle.run_laws.specs.Paths.{Path, control}
+use Rattle.run_laws.proofs.Paths.{run_path}
 use Rattle.run_laws.specs.Errors.{TurnIn, error_in_law, length_test}
 use Rattle.run_laws.specs.Bounds.{torque_under, momentum_under}
 use Rattle.run_laws.specs.Decisions.{Projected, control_small}
-use Rattle.run_laws.specs.Residuals.{residuals_go}
+use Rattle.run_laws.proofs.Residuals.{residuals_go}
 use Rattle.search_laws.specs.Keeps.{search_gone}
 use Rattle.search_laws.specs.Begun.{seed_measured}
 use Rattle.search_laws.specs.Better.{Better}

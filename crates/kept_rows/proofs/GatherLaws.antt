@@ -10,7 +10,7 @@ use Rattle.common.specs.Iter.{iter}
 use Rattle.common.specs.Lists.{at}
 use Rattle.kept_rows.specs.Kept.{before_by, left_out, place, Gathered}
 use Rattle.kept_rows.specs.KeptLaws.{place_next, place_below}
-use Rattle.kept_rows.specs.ZeroLaws.{short_out, node_out, point_kept, last_kept, last_short_kept}
+use Rattle.kept_rows.proofs.ZeroLaws.{short_out, node_out, point_kept, last_kept, last_short_kept}
 
 -- row e + i goes to place to + i
 abbrev pub move_turn : ℕ → ℕ → ℕ → List Float → List Float

@@ -26,7 +26,8 @@ use Rattle.residuals.specs.declared.Target.{Target}
 use Rattle.run_laws.specs.Values.{goes}
 use Rattle.run_laws.specs.Errors.{TurnIn, error_in_law}
 use Rattle.run_laws.specs.Checked.{Ready}
-use Rattle.run_laws.specs.Paths.{run_node, run_path}
+use Rattle.run_laws.specs.Paths.{run_node}
+use Rattle.run_laws.proofs.Paths.{run_path}
 
 -- NO 11: the turn that is left at any node of a run with nodes
 pub left_in : (p : CheckedProblem) (z : List Float) → Ready p → ((i : ℕ) → T (fits binary64 (at z i))) → T (goes (run_of p z).fate) → (k : ℕ) → k < 17 → TurnIn (Residuals.error_of (run_node (run_of p z) k).q p.qf)
