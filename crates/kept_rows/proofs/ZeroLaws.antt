@@ -1,6 +1,6 @@
 -- The rows left out are +0.0 in the residuals of every decision: no term is written there. Assumes nothing.
-use Rattle.std.specs.Prelude.{ℕ, suc, ◌+◌, ◌*◌, ◌<◌, ◌≤◌, ◌≡◌, Bool, true, false, cond, List, [], ◌∷◌, eqb, set, replicate, Float}
-use Rattle.std.proofs.Common.{arith, sym, subst, ◌∙◌, true≢false, lt-ltb, le-ltb, get_or-set_other}
+use Rattle.std.specs.Prelude.{ℕ, ◌+◌, ◌*◌, ◌≤◌, ◌≡◌, Bool, true, false, cond, List, [], ◌∷◌, set, replicate, Float}
+use Rattle.std.proofs.Common.{arith, sym, subst, ◌∙◌, true≢false, get_or-set_other}
 use Rattle.std.proofs.lemmas.List.{get_or-replicate}
 use Rattle.std.specs.Float.{nan}
 use Rattle.std.specs.Float.Ieee.{lt}
@@ -20,7 +20,8 @@ use Rattle.forward.specs.Runs.{node_at}
 use Rattle.residuals.specs.Residuals as Residuals
 use Rattle.residuals.specs.declared.Target.{Target}
 use Rattle.residuals.specs.declared.ResidualVector.{ResidualVector}
-use Rattle.kept_rows.specs.Kept.{before_by, before, left_out, Zeros}
+use Rattle.kept_rows.specs.Kept.{left_out, Zeros}
+use Rattle.kept_rows.specs.ZeroLaws.{first_kept, point_kept, last_kept, last_short_kept}
 
 -- a number written into a kept row
 set_zeros : {m : ℕ} {r : List Float} (j : ℕ) (x : Float) → left_out m j ≡ false → Zeros m r → Zeros m (set r j x)
@@ -35,31 +36,6 @@ put3_zeros j v a b c z = set_zeros (j + 2) (at v 2) c (set_zeros (j + 1) (at v 1
 -- nothing is written yet
 none_zeros : {m : ℕ} → m ≤ 79 → Zeros m (replicate 79 Floats.plus_zero)
 none_zeros l = record { out = λ i h e. get_or-replicate 79 i Floats.plus_zero nan (omega arith) }
-
--- ---- which rows are left out: 6 to 22 of 28, 6 + 4k of 79
-pub short_out : (i : ℕ) → 6 ≤ i → i < 23 → left_out 28 i ≡ true
-short_out i h l = lt-ltb (before 28 i) (before 28 (suc i)) (omega arith)
-
-pub node_out : (k i : ℕ) → k < 17 → 6 + 4 * k ≤ i → i < 7 + 4 * k → left_out 79 i ≡ true
-node_out k i b h l = lt-ltb (before 79 i) (before 79 (suc i)) (omega arith)
-
--- ---- which rows are kept: the first six
-first_kept : (m i : ℕ) → i < 6 → left_out m i ≡ false
-first_kept m i h = le-ltb (before m i) (before m (suc i)) (by (eqb m 79))
-  where
-    by : (b : Bool) → before_by b (suc i) ≤ before_by b i
-    by true = omega arith
-    by false = omega arith
-
--- a node's three pointing rows; the last five, of 79 and of 28
-pub point_kept : (k i : ℕ) → 7 + 4 * k ≤ i → i < 10 + 4 * k → left_out 79 i ≡ false
-point_kept k i h l = le-ltb (before 79 i) (before 79 (suc i)) (omega arith)
-
-pub last_kept : (i : ℕ) → 74 ≤ i → left_out 79 i ≡ false
-last_kept i h = le-ltb (before 79 i) (before 79 (suc i)) (omega arith)
-
-pub last_short_kept : (i : ℕ) → 23 ≤ i → left_out 28 i ≡ false
-last_short_kept i h = le-ltb (before 28 i) (before 28 (suc i)) (omega arith)
 
 -- ---- term by term
 ends_zeros : {m : ℕ} → m ≤ 79 → (error rate : List Float) → Zeros m (Residuals.ends error rate)

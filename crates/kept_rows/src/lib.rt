@@ -5,7 +5,7 @@ ghost use Rattle.std.specs.Prelude.{◌≡◌, ◌+◌, ◌≤◌, length};
 ghost use Rattle.common.specs.Iter.{iter};
 ghost use Rattle.kept_rows.specs.Kept as Kept;
 ghost use Rattle.kept_rows.specs.Kept.{Laid};
-ghost use Rattle.kept_rows.proofs.GatherLaws.{move_turn, Upto};
+ghost use Rattle.kept_rows.specs.GatherLaws.{move_turn, Upto};
 
 // How many of m residual rows are kept.
 pub fn kept(m: usize) -> usize

@@ -1,7 +1,8 @@
 -- `kept_rows::gather` meets its contract: of 79 rows those of the nodes and then the last five are gathered, of 28 the last five. Assumes nothing.
 use mathlib.Core.Path.{◌≡◌}
 use mathlib.Core.Logic.{⊎_elim}
-use Rattle.kept_rows.proofs.GatherLaws.{gathered_long, gathered_short}
+use Rattle.kept_rows.specs.GatherLaws.{gathered_long}
+use Rattle.kept_rows.proofs.GatherLaws.{gathered_short}
 use native.Mathlib.Omega.{arith}
 use borrow.Author.Rules.{rules}
 use Rattle.kept_rows.proofs.gather.Statement.{statement}

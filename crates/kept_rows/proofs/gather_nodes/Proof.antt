@@ -1,7 +1,7 @@
 -- `kept_rows::gather_nodes` meets its contract: each turn gathers the rows of one node more. Assumes nothing.
 use Prim.Native.Nat.{◌+◌, ◌*◌, ◌-◌, ◌≤◌}
 use mathlib.Core.Path.{◌≡◌}
-use Rattle.kept_rows.proofs.GatherLaws.{Upto, upto_first, upto_node}
+use Rattle.kept_rows.specs.GatherLaws.{Upto, upto_first, upto_node}
 use native.Mathlib.Omega.{arith}
 use borrow.Author.Rules.{rules}
 use Rattle.kept_rows.proofs.gather_nodes.Statement.{statement}

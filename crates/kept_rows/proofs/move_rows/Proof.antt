@@ -4,7 +4,7 @@ use mathlib.Core.Path.{◌≡◌, refl}
 use lib.ListN.{length}
 use Rattle.common.specs.Iter.{iter}
 use Rattle.common.specs.IterLaws.{iter_none, iter_next}
-use Rattle.kept_rows.proofs.GatherLaws.{move_turn}
+use Rattle.kept_rows.specs.GatherLaws.{move_turn}
 use native.Mathlib.Omega.{arith}
 use borrow.Author.Rules.{rules}
 use Rattle.kept_rows.proofs.move_rows.Statement.{statement}
