@@ -2,8 +2,6 @@
 -- ---- meaning
 pub mod Between  -- what is promised
 -- ---- laws
-pub mod BetweenKept  -- both entries keep it
-pub mod Rates  -- one sample against its two nodes
 pub mod Courses  -- the nodes of a run: times and rates
 pub mod Instants  -- the times of nodes and samples
 pub mod Rows  -- a path's rows by its nodes

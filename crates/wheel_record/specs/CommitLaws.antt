@@ -130,10 +130,6 @@ module _ (m n : Momenta) where
           let k : r ≡ m.count = is_count r e l (ltb r m.count) (ltb m.count r) refl refl in
           rw (e, eq-eqb r m.count k, eq-eqb r n.count (k ∙ A.count)) refl
 
--- momenta of at most eight wheels have their own bits
-pub self_same : (m : Momenta) → m.count ≤ 8 → same m m ≡ true
-self_same m h = alike_same m m (record { count = refl; most = h; each = λ i l. refl })
-
 -- ---- ON RECORD AFTER A START: the path's last momenta where it was started, else what was on record
 abbrev pub after_by : Fate → Momenta → Momenta → Momenta
 after_by Going m last = last
