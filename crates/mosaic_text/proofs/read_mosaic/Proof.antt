@@ -1,7 +1,7 @@
 -- `mosaic_text::read_mosaic` meets its contract: each way out is its definition's, by the tests that lead there. Assumes nothing.
+use mathlib.Core.Path.{sym, ◌∙◌}
 use borrow.Author.Rules.{rules}
-use borrow.Author.Tests.{lt-ltb, le-ltb, not-false}
-use Rattle.geom.specs.Tests.{met, unmet}
+use borrow.Author.Tests.{lt-ltb, le-ltb}
 use Rattle.mosaic_text.specs.MosaicTexts.{read_mosaic}
 use Rattle.mosaic_text.proofs.read_mosaic.Statement.{statement}
 use Rattle.mosaic_text.proofs.read_mosaic.Tie as tie
@@ -14,7 +14,7 @@ returns_2 : tie.Need-returns-then-not-is_at
 unfolding read_mosaic
 returns_2 c =
     let i = c.before.before in
-    simp (le-ltb _ _ i.if-s-gt16384.false, unmet i.is_at.ensures.is c.if-not-is_at.true) c.wrong-then-not-is_at.ensures
+    simp (le-ltb _ _ i.if-s-gt16384.false, sym i.is_at.ensures.is ∙ c.if-not-is_at.true) c.wrong-then-not-is_at.ensures
 
 read-parts-requires : tie.Need-read_parts-requires
 read-parts-requires c κs =
@@ -25,7 +25,7 @@ returns_3 : tie.Need-returns
 unfolding read_mosaic
 returns_3 c =
     let i = c.before.before in
-    simp (le-ltb _ _ i.if-s-gt16384.false, met i.is_at.ensures.is c.if-not-is_at.false) c.read_parts.ensures
+    simp (le-ltb _ _ i.if-s-gt16384.false, sym i.is_at.ensures.is ∙ c.if-not-is_at.false) c.read_parts.ensures
 
 pub read_mosaic_spec : {M : Type 1} → statement M
 read_mosaic_spec = tie.close (tie.spec (λ c κs. search rules) returns (λ c κs. search rules) (λ c κs. search rules) returns_2 read-parts-requires returns_3)

@@ -5,10 +5,7 @@ use Rattle.text.proofs.hex.real_at.Statement.{statement}
 use Rattle.text.proofs.hex.real_at.Tie as tie
 
 returns : tie.Need-returns-in-Bits
-returns c =
-    let at-m = c.before.before in
-    let at-hex-at = at-m.before.before in
-    real_is _ _ at-m.m.given.0.0 _ _ at-hex-at.hex_at.result at-hex-at.hex_at.ensures at-m.m.given.1 c.real_of.ensures
+returns c = real_is _ _ c.in-Bits.m _ _ c.hex_at.result c.hex_at.ensures c.in-Bits.is c.real_of.ensures
 
 returns_2 : tie.Need-returns-in-Wrong
 returns_2 c = real_wrong _ _ c.hex_at.result c.hex_at.ensures c.in-Wrong.is

@@ -27,15 +27,13 @@ returns c =
 
 loop-again : tie.Need-loop-k-preserved invariant_loop decreases_loop
 loop-again c =
-    let found = c.before.before.before in
-    let word = found.before in
-    let start = word.args in
-    let l = word.loop-k in
-    let x = found.in-Is.x in
-    let j = found.in-Is.next in
-    let e : word_at loose start.s.now l.r.at ≡ Is x j = sym word.word_at.ensures.is ∙ found.in-Is.is in
+    let start = c.args in
+    let l = c.loop-k in
+    let x = c.in-Is.x in
+    let j = c.in-Is.next in
+    let e : word_at loose start.s.now l.r.at ≡ Is x j = sym c.word_at.ensures.is ∙ c.in-Is.is in
     let n : length start.s.now - (l.k + 1) ≡ length start.s.now - l.k - 1 = omega arith in
-    (omega arith, refl, word_within _ _ x j _ word.word_at.ensures found.in-Is.is, rw (n, with_float_law l.r l.k _ x j l.invariant.1 c.put_float-more.ensures) (l.invariant.3 ∙ row_step start.s.now l.r _ (omega arith) x j e))
+    (omega arith, refl, word_within _ _ x j _ c.word_at.ensures c.in-Is.is, rw (n, with_float_law l.r l.k _ x j l.invariant.1 c.put_float-more.ensures) (l.invariant.3 ∙ row_step start.s.now l.r _ (omega arith) x j e))
 
 returns_2 : tie.Need-returns invariant_loop decreases_loop
 returns_2 c = sym (c.loop-k.invariant.3 ∙ row_end _ _ _ (omega arith))
