@@ -20,8 +20,7 @@ fn put_checked(p: CheckedProblem, out: &mut [f64; 22], place: &mut usize) -> usi
 }
 
 // The profile of a problem as declared, of which `plan` takes its seed: its alpha is what dense samples are asked for with.
-#[unsafe(no_mangle)]
-pub extern "C" fn slew_problem_profile(
+pub fn slew_problem_profile(
     c: &[usize; 11],
     v: &[f64; 100],
     b: &[f64; 37],

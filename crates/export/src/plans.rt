@@ -41,8 +41,7 @@ pub fn put_planned(
 }
 
 // Our entry's seed.
-#[unsafe(no_mangle)]
-pub extern "C" fn slew_plan_numbers(
+pub fn slew_plan_numbers(
     c: &[usize; 11],
     v: &[f64; 100],
     b: &[f64; 37],
@@ -65,8 +64,7 @@ pub extern "C" fn slew_plan_numbers(
 }
 
 // A caller's seed: a duration, 17 rates and 17 torques, three numbers a node.
-#[unsafe(no_mangle)]
-pub extern "C" fn slew_plan_from_numbers(
+pub fn slew_plan_from_numbers(
     c: &[usize; 11],
     v: &[f64; 100],
     b: &[f64; 37],

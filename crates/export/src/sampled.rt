@@ -25,21 +25,14 @@ fn put_count(n: Count, out: &mut usize) -> usize
 }
 
 // How many samples a path of this duration has.
-#[unsafe(no_mangle)]
-pub extern "C" fn slew_sample_count(
-    duration: f64,
-    requested: usize,
-    alpha: f64,
-    out: &mut usize,
-) -> usize
+pub fn slew_sample_count(duration: f64, requested: usize, alpha: f64, out: &mut usize) -> usize
     ensures { Answered (Answers.of_count (Counts.sample_count duration requested alpha)) result out.old out.new }
 {
     put_count(samples::sample_count(duration, requested, alpha), out)
 }
 
 // Sample number index of a path.
-#[unsafe(no_mangle)]
-pub extern "C" fn slew_sample_path(
+pub fn slew_sample_path(
     j: &[f64; 9],
     tolerance: f64,
     duration: f64,

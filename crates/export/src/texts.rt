@@ -11,8 +11,7 @@ use plan_text::{plan_text, plan_text_from};
 use sample_text::sample_text;
 
 // With our own seed. Answers how many bytes of `out` were written.
-#[unsafe(no_mangle)]
-pub extern "C" fn slew_plan(text: &[u8], workspace: &mut [f64], out: &mut [u8]) -> usize
+pub fn slew_plan(text: &[u8], workspace: &mut [f64], out: &mut [u8]) -> usize
     ensures { TextTold (PlanTexts.planned text.now (length workspace.old)) result
         out.old out.new workspace.old workspace.new }
 {
@@ -21,13 +20,7 @@ pub extern "C" fn slew_plan(text: &[u8], workspace: &mut [f64], out: &mut [u8]) 
 }
 
 // With a caller's seed: a duration, 17 rates and 17 torques, three numbers a node, 103 numbers in all. Answers how many bytes of `out` were written.
-#[unsafe(no_mangle)]
-pub extern "C" fn slew_plan_from(
-    text: &[u8],
-    seed: &[f64],
-    workspace: &mut [f64],
-    out: &mut [u8],
-) -> usize
+pub fn slew_plan_from(text: &[u8], seed: &[f64], workspace: &mut [f64], out: &mut [u8]) -> usize
     ensures { TextTold (PlanTexts.planned_from text.now seed.now (length workspace.old)) result
         out.old out.new workspace.old workspace.new }
 {
@@ -37,8 +30,7 @@ pub extern "C" fn slew_plan_from(
 
 // One dense sample, number `index`, of the path that our own seed finds. Answers 0 and puts the sample's 14 numbers into `out`: time, attitude, rate, torque,
 // body momentum; or answers a refusal's number and puts its place and runs there. Less than 14 numbers lent get nothing: the answer is 99, and no run begins.
-#[unsafe(no_mangle)]
-pub extern "C" fn slew_sample(
+pub fn slew_sample(
     text: &[u8],
     workspace: &mut [f64],
     requested: usize,

@@ -1,4 +1,5 @@
-// The C interface of whole numbers for the drive board, thin over the proved library. `rt staticlib export_board` makes the archive.
+// The C interface of whole numbers for the drive board, thin over the proved library. export_board_c gives the functions their C
+// symbols and makes the archive.
 //
 // In C an `&mut [[i32; 13]]` is a pointer to rows of 13 numbers and a count of rows. A function that can refuse answers the refusal's number, or 0 where it
 // gives an answer. A unit is 2^-20 where `coarse` is true (rate, torque, momentum) and else 2^-30 (attitude).
@@ -41,8 +42,7 @@ fn put_part(w: Whole, out: &mut i32) -> usize
 }
 
 // A part in whole units.
-#[unsafe(no_mangle)]
-pub extern "C" fn slew_board_part(x: f64, coarse: bool, out: &mut i32) -> usize
+pub fn slew_board_part(x: f64, coarse: bool, out: &mut i32) -> usize
     ensures value { result ≡ number (Drive.of_whole (Numbers.part x (Units.unit coarse))) }
     ensures out_after { out.new ≡ Drive.number (Numbers.part x (Units.unit coarse)) }
 {
@@ -50,16 +50,14 @@ pub extern "C" fn slew_board_part(x: f64, coarse: bool, out: &mut i32) -> usize
 }
 
 // The float that a number of units stands for.
-#[unsafe(no_mangle)]
-pub extern "C" fn slew_board_read(n: i32, coarse: bool) -> f64
+pub fn slew_board_read(n: i32, coarse: bool) -> f64
     ensures { result ≡ Numbers.read_back_value n (Units.unit coarse) }
 {
     read_back(n, unit_of(coarse))
 }
 
 // Sample number index of a path: 13 numbers, zeros beside a refusal.
-#[unsafe(no_mangle)]
-pub extern "C" fn slew_board_sample(
+pub fn slew_board_sample(
     j: &[f64; 9],
     tolerance: f64,
     duration: f64,
@@ -84,8 +82,7 @@ pub extern "C" fn slew_board_sample(
 
 // The whole list of a path: a row a sample, and how many rows were written. What stands behind them stays. Fewer rows lent than there are samples get
 // nothing: 99.
-#[unsafe(no_mangle)]
-pub extern "C" fn slew_board_list(
+pub fn slew_board_list(
     j: &[f64; 9],
     tolerance: f64,
     duration: f64,

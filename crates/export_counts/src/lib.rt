@@ -1,6 +1,6 @@
 // The C interface of the series' counts, for the comparison: how the series of an argument end, the sum's size and how many terms were formed. Where none is
-// formed the answer is false and what was lent is untouched. `rt staticlib export_counts` makes the archive, which is one of its own: beside a second caller
-// the compiler would no longer put the series into `sin`, `cos` and `sin_cos`.
+// formed the answer is false and what was lent is untouched. export_counts_c gives the functions their C symbols and makes the archive, which is one of
+// its own: beside a second caller the compiler would no longer put the series into `sin`, `cos` and `sin_cos`.
 #![tactic(auto)]
 
 ghost use Rattle.std.specs.Prelude.{◌≡◌};
@@ -37,24 +37,21 @@ fn put_series(s: Series, answer: &mut [u64; 2]) -> bool
     }
 }
 
-#[unsafe(no_mangle)]
-pub extern "C" fn slew_sine_series(x: f64, answer: &mut [u64; 2]) -> bool
+pub fn slew_sine_series(x: f64, answer: &mut [u64; 2]) -> bool
     ensures value { result ≡ Outcomes.is_series (sine_series x) }
     ensures answer_after { answer.new ≡ Outcomes.series_or (sine_series x) answer.old }
 {
     put_series(angles::counted::sine_series(x), answer)
 }
 
-#[unsafe(no_mangle)]
-pub extern "C" fn slew_cosine_series(x: f64, answer: &mut [u64; 2]) -> bool
+pub fn slew_cosine_series(x: f64, answer: &mut [u64; 2]) -> bool
     ensures value { result ≡ Outcomes.is_series (cosine_series x) }
     ensures answer_after { answer.new ≡ Outcomes.series_or (cosine_series x) answer.old }
 {
     put_series(angles::counted::cosine_series(x), answer)
 }
 
-#[unsafe(no_mangle)]
-pub extern "C" fn slew_arc_series(w: f64, answer: &mut [u64; 2]) -> bool
+pub fn slew_arc_series(w: f64, answer: &mut [u64; 2]) -> bool
     ensures value { result ≡ Outcomes.is_series (arc_series w) }
     ensures answer_after { answer.new ≡ Outcomes.series_or (arc_series w) answer.old }
 {
@@ -75,8 +72,7 @@ fn put_pair(p: Pair, answer: &mut [u64; 4]) -> bool
     }
 }
 
-#[unsafe(no_mangle)]
-pub extern "C" fn slew_both_series(x: f64, answer: &mut [u64; 4]) -> bool
+pub fn slew_both_series(x: f64, answer: &mut [u64; 4]) -> bool
     ensures value { result ≡ Outcomes.are_pair (both_series x) }
     ensures answer_after { answer.new ≡ Outcomes.pair_or (both_series x) answer.old }
 {

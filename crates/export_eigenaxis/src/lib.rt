@@ -1,5 +1,5 @@
-// The C interface of eigenaxis plans, thin over the proved library. `rt staticlib export_eigenaxis` makes the archive. What is lent and told is as in
-// `export::plans`; the runs are those of every try.
+// The C interface of eigenaxis plans, thin over the proved library. export_eigenaxis_c gives the function its C symbol and makes the archive.
+// What is lent and told is as in `export::plans`; the runs are those of every try.
 #![tactic(auto)]
 
 ghost use Rattle.std.specs.Prelude.{◌≡◌, length};
@@ -22,8 +22,7 @@ fn shape_of(gentle: bool) -> Shape
 }
 
 // The eigenaxis plan of a problem in numbers: the fastest shape, or the gentle one.
-#[unsafe(no_mangle)]
-pub extern "C" fn slew_plan_eigenaxis_numbers(
+pub fn slew_plan_eigenaxis_numbers(
     c: &[usize; 11],
     v: &[f64; 100],
     b: &[f64; 37],

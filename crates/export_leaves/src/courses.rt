@@ -63,8 +63,7 @@ pub fn put_profile(p: Profiled, out: &mut [f64; 22]) -> usize
     put_made(fate, numbers(made), out)
 }
 
-#[unsafe(no_mangle)]
-pub extern "C" fn slew_switch_times(
+pub fn slew_switch_times(
     theta: f64,
     alpha: f64,
     limited: bool,
@@ -79,13 +78,7 @@ pub extern "C" fn slew_switch_times(
     )
 }
 
-#[unsafe(no_mangle)]
-pub extern "C" fn slew_alpha_from_box(
-    j: &[f64; 9],
-    axis: &[f64; 3],
-    limit: &[f64; 3],
-    out: &mut f64,
-) -> usize
+pub fn slew_alpha_from_box(j: &[f64; 9], axis: &[f64; 3], limit: &[f64; 3], out: &mut f64) -> usize
     ensures { Answered (Courses.alpha_from_box j.now axis.now limit.now) result out.old out.new }
 {
     let about = *axis;
@@ -93,8 +86,7 @@ pub extern "C" fn slew_alpha_from_box(
     put_acceleration(profile::alpha_from_box(geom::tensor(*j), about, most), out)
 }
 
-#[unsafe(no_mangle)]
-pub extern "C" fn slew_bang_coast_bang(
+pub fn slew_bang_coast_bang(
     q0: &[f64; 4],
     qf: &[f64; 4],
     j: &[f64; 9],
@@ -120,50 +112,43 @@ pub extern "C" fn slew_bang_coast_bang(
     put_profile(p, out)
 }
 
-#[unsafe(no_mangle)]
-pub extern "C" fn slew_profile_angle(p: &[f64; 22], t: f64) -> f64
+pub fn slew_profile_angle(p: &[f64; 22], t: f64) -> f64
     ensures { result ≡ Profiles.angle (Packed.profile p.now) t }
 {
     profile_of(p).angle(t)
 }
 
-#[unsafe(no_mangle)]
-pub extern "C" fn slew_profile_rate(p: &[f64; 22], t: f64) -> f64
+pub fn slew_profile_rate(p: &[f64; 22], t: f64) -> f64
     ensures { result ≡ Profiles.rate (Packed.profile p.now) t }
 {
     profile_of(p).rate(t)
 }
 
-#[unsafe(no_mangle)]
-pub extern "C" fn slew_profile_alpha_signed(p: &[f64; 22], t: f64) -> f64
+pub fn slew_profile_alpha_signed(p: &[f64; 22], t: f64) -> f64
     ensures { result ≡ Profiles.alpha_signed (Packed.profile p.now) t }
 {
     profile_of(p).alpha_signed(t)
 }
 
-#[unsafe(no_mangle)]
-pub extern "C" fn slew_profile_omega_vec(p: &[f64; 22], t: f64, out: &mut [f64; 3])
+pub fn slew_profile_omega_vec(p: &[f64; 22], t: f64, out: &mut [f64; 3])
     ensures { out.new ≡ Profiles.omega_vec (Packed.profile p.now) t }
 {
     *out = profile_of(p).omega_vec(t);
 }
 
-#[unsafe(no_mangle)]
-pub extern "C" fn slew_profile_torque_vec(p: &[f64; 22], t: f64, out: &mut [f64; 3])
+pub fn slew_profile_torque_vec(p: &[f64; 22], t: f64, out: &mut [f64; 3])
     ensures { out.new ≡ Profiles.torque_vec (Packed.profile p.now) t }
 {
     *out = profile_of(p).torque_vec(t);
 }
 
-#[unsafe(no_mangle)]
-pub extern "C" fn slew_profile_quaternion(p: &[f64; 22], t: f64, out: &mut [f64; 4]) -> usize
+pub fn slew_profile_quaternion(p: &[f64; 22], t: f64, out: &mut [f64; 4]) -> usize
     ensures { Answered (of_quat (Turns.of_turned (Profiles.quaternion (Packed.profile p.now) t))) result out.old out.new }
 {
     put_turned(profile_of(p).quaternion(t), out)
 }
 
-#[unsafe(no_mangle)]
-pub extern "C" fn slew_sample_seed(p: &[f64; 22], rates: &mut [f64; 51], torques: &mut [f64; 51])
+pub fn slew_sample_seed(p: &[f64; 22], rates: &mut [f64; 51], torques: &mut [f64; 51])
     ensures rates_after { rates.new ≡ (Seeds.sample_seed (Packed.profile p.now)).rates }
     ensures torques_after { torques.new ≡ (Seeds.sample_seed (Packed.profile p.now)).torques }
 {

@@ -23,24 +23,21 @@ fn put_angle(a: Angle, answer: &mut f64) -> usize
     }
 }
 
-#[unsafe(no_mangle)]
-pub extern "C" fn slew_sin(x: f64, answer: &mut f64) -> bool
+pub fn slew_sin(x: f64, answer: &mut f64) -> bool
     ensures value { result ≡ Outcomes.is_given (angle_answer (sin_of x)) }
     ensures answer_after { answer.new ≡ Outcomes.value_or (angle_answer (sin_of x)) answer.old }
 {
     put_angle(angles::sin(x), answer) == 0
 }
 
-#[unsafe(no_mangle)]
-pub extern "C" fn slew_cos(x: f64, answer: &mut f64) -> bool
+pub fn slew_cos(x: f64, answer: &mut f64) -> bool
     ensures value { result ≡ Outcomes.is_given (angle_answer (cos_of x)) }
     ensures answer_after { answer.new ≡ Outcomes.value_or (angle_answer (cos_of x)) answer.old }
 {
     put_angle(angles::cos(x), answer) == 0
 }
 
-#[unsafe(no_mangle)]
-pub extern "C" fn slew_acos(x: f64, answer: &mut f64) -> bool
+pub fn slew_acos(x: f64, answer: &mut f64) -> bool
     ensures value { result ≡ Outcomes.is_given (angle_answer (acos_of x)) }
     ensures answer_after { answer.new ≡ Outcomes.value_or (angle_answer (acos_of x)) answer.old }
 {
@@ -60,8 +57,7 @@ fn put_both(b: Both, answer: &mut [f64; 2]) -> usize
     }
 }
 
-#[unsafe(no_mangle)]
-pub extern "C" fn slew_sin_cos(x: f64, answer: &mut [f64; 2]) -> bool
+pub fn slew_sin_cos(x: f64, answer: &mut [f64; 2]) -> bool
     ensures value { result ≡ Outcomes.is_given (Outcomes.of_pair (both_answer (both_of x))) }
     ensures answer_after { answer.new ≡ Outcomes.value_or (Outcomes.of_pair (both_answer (both_of x))) answer.old }
 {

@@ -1,4 +1,5 @@
-// The C interface of a whole mosaic, thin over the proved libraries. `rt staticlib export_mosaic` makes the archive.
+// The C interface of a whole mosaic, thin over the proved libraries. export_mosaic_c gives the functions their C symbols and makes
+// the archive.
 //
 // The problem is declared as for a plan; its attitudes are not read. A cursor is five counts (legs answered, their runs; a refusal's number, else 0, its place
 // and its runs) and nine numbers (the answered legs' duration, and the momenta of eight wheels that the next leg starts with). The way to plan is a number:
@@ -129,8 +130,7 @@ fn fill(
 
 // One leg, from one attitude to another: the cursor moves on, and the leg's answer is put into what is lent for it, as `slew_plan_numbers` does; the leg's
 // refusal, or 0. After a refusal the cursor stays, and that refusal's number is answered again, with 0 runs.
-#[unsafe(no_mangle)]
-pub extern "C" fn slew_mosaic_next(
+pub fn slew_mosaic_next(
     c: &[usize; 11],
     v: &[f64; 100],
     b: &[f64; 37],
@@ -164,8 +164,7 @@ pub extern "C" fn slew_mosaic_next(
 }
 
 // The whole mosaic from the momenta of the problem: a refusal's number, or 0; the cursor after it; and in each lent list a row for each answered leg.
-#[unsafe(no_mangle)]
-pub extern "C" fn slew_mosaic(
+pub fn slew_mosaic(
     c: &[usize; 11],
     v: &[f64; 100],
     b: &[f64; 37],

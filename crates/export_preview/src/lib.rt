@@ -1,4 +1,5 @@
-// The C interface of previews and starts, thin over the proved library. `rt staticlib export_preview` makes the archive.
+// The C interface of previews and starts, thin over the proved library. export_preview_c gives the functions their C symbols and
+// makes the archive.
 //
 // The momenta on record are a count of wheels and eight numbers, which the caller keeps. A preview is what the caller holds of it: the number that it answered,
 // the momenta that it began from, and its path's wheels and nodes.
@@ -51,8 +52,7 @@ fn put_began(r: Previewed, began_wheels: &mut usize, began: &mut [f64; 8])
 
 // A preview from the momenta on record, with our own seed. What is answered and put is as in `slew_plan_numbers`, and besides the momenta that the preview
 // began from.
-#[unsafe(no_mangle)]
-pub extern "C" fn slew_preview_numbers(
+pub fn slew_preview_numbers(
     c: &[usize; 11],
     v: &[f64; 100],
     b: &[f64; 37],
@@ -85,8 +85,7 @@ pub extern "C" fn slew_preview_numbers(
 }
 
 // The same with a caller's seed.
-#[unsafe(no_mangle)]
-pub extern "C" fn slew_preview_from_numbers(
+pub fn slew_preview_from_numbers(
     c: &[usize; 11],
     v: &[f64; 100],
     b: &[f64; 37],
@@ -123,8 +122,7 @@ pub extern "C" fn slew_preview_from_numbers(
 }
 
 // The start of a preview that the caller holds: 0, and the momenta on record are the path's last; or 26, and they are as they were.
-#[unsafe(no_mangle)]
-pub extern "C" fn slew_start(
+pub fn slew_start(
     wheels: &mut usize,
     on_record: &mut [f64; 8],
     refusal: usize,

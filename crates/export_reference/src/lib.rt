@@ -1,4 +1,5 @@
-// The C interface of reference trajectories, thin over the proved library. `rt staticlib export_reference` makes the archive. A problem's numbers are as in problem_numbers.
+// The C interface of reference trajectories, thin over the proved library. export_reference_c gives the functions their C symbols
+// and makes the archive. A problem's numbers are as in problem_numbers.
 //
 // `counts` gets a refusal's place, the trials of durations and the samples that they evaluated; `end` the momenta of eight wheels in the last sample. Beside a refusal `duration` and
 // `end` have no meaning.
@@ -34,8 +35,7 @@ fn put_planned(x: Planned, counts: &mut [usize; 3], duration: &mut f64, end: &mu
 }
 
 // The reference of a problem in numbers at so many steps: at the duration `given`, or, where `timed` is false, at the shortest that the search finds.
-#[unsafe(no_mangle)]
-pub extern "C" fn slew_plan_reference_numbers(
+pub fn slew_plan_reference_numbers(
     c: &[usize; 11],
     v: &[f64; 100],
     b: &[f64; 37],
@@ -56,8 +56,7 @@ pub extern "C" fn slew_plan_reference_numbers(
 }
 
 // The same, and its samples: a row of 31 numbers a sample, as many as there are and as rows are lent. What stands behind them stays. Beside a refusal no row is written.
-#[unsafe(no_mangle)]
-pub extern "C" fn slew_reference_list_numbers(
+pub fn slew_reference_list_numbers(
     c: &[usize; 11],
     v: &[f64; 100],
     b: &[f64; 37],

@@ -8,8 +8,7 @@ use export_leaves::pack::{number_of, place_of};
 use problem_numbers::problem_of;
 use samples::rows::rows;
 
-#[unsafe(no_mangle)]
-pub extern "C" fn slew_reconstruct(
+pub fn slew_reconstruct(
     c: &[usize; 11],
     v: &[f64; 100],
     b: &[f64; 37],
@@ -36,8 +35,7 @@ pub extern "C" fn slew_reconstruct(
 }
 
 // The residuals: the first `count` of `out`, zeros past them.
-#[unsafe(no_mangle)]
-pub extern "C" fn slew_residuals(
+pub fn slew_residuals(
     c: &[usize; 11],
     v: &[f64; 100],
     b: &[f64; 37],

@@ -15,8 +15,7 @@ use export_leaves::pack::{number_of, place_of};
 use problem_numbers::{actuators_of, map_of};
 
 // The unit axes, a refusal's number and place.
-#[unsafe(no_mangle)]
-pub extern "C" fn slew_prepare(
+pub fn slew_prepare(
     c: &[usize; 11],
     v: &[f64; 100],
     wheel_axes: &mut [f64; 24],
@@ -39,8 +38,7 @@ pub extern "C" fn slew_prepare(
 }
 
 // Controls in a row.
-#[unsafe(no_mangle)]
-pub extern "C" fn slew_control_dim(c: &[usize; 11], v: &[f64; 100]) -> usize
+pub fn slew_control_dim(c: &[usize; 11], v: &[f64; 100]) -> usize
     ensures { result ≡ Maps.control_dim (Declared.map c.now v.now) }
 {
     let map = map_of(c, v);
@@ -48,8 +46,7 @@ pub extern "C" fn slew_control_dim(c: &[usize; 11], v: &[f64; 100]) -> usize
 }
 
 // A pyramid's Jacobian by rows; zeros where an angle is outside.
-#[unsafe(no_mangle)]
-pub extern "C" fn slew_pyramid_a(skew: f64, delta: &[f64; 4], out: &mut [f64; 12]) -> usize
+pub fn slew_pyramid_a(skew: f64, delta: &[f64; 4], out: &mut [f64; 12]) -> usize
     ensures value { result ≡ number (Answers.of_jacobian (Pyramid.pyramid_a skew delta.now)) }
     ensures out_after { out.new ≡ (Pyramid.pyramid_a skew delta.now).a }
 {
@@ -61,8 +58,7 @@ pub extern "C" fn slew_pyramid_a(skew: f64, delta: &[f64; 4], out: &mut [f64; 12
 }
 
 // The torque of a row u; zeros where it is refused.
-#[unsafe(no_mangle)]
-pub extern "C" fn slew_body_torque(
+pub fn slew_body_torque(
     c: &[usize; 11],
     v: &[f64; 100],
     u: &[f64],
@@ -84,13 +80,7 @@ pub extern "C" fn slew_body_torque(
 }
 
 // A row held to its limits.
-#[unsafe(no_mangle)]
-pub extern "C" fn slew_project_controls(
-    c: &[usize; 11],
-    v: &[f64; 100],
-    u: &mut [f64],
-    limit: &[f64; 3],
-)
+pub fn slew_project_controls(c: &[usize; 11], v: &[f64; 100], u: &mut [f64], limit: &[f64; 3])
     ensures { u.new ≡ Controls.project_controls (Declared.map c.now v.now) limit.now u.old }
 {
     let map = map_of(c, v);
@@ -98,8 +88,7 @@ pub extern "C" fn slew_project_controls(
 }
 
 // The row of controls that gives a body torque, zeros past it; zeros where it is refused.
-#[unsafe(no_mangle)]
-pub extern "C" fn slew_allocate_body_torque(
+pub fn slew_allocate_body_torque(
     c: &[usize; 11],
     v: &[f64; 100],
     tau: &[f64; 3],
@@ -131,13 +120,7 @@ fn put_measure(m: Measure, out: &mut f64) -> usize
 }
 
 // How far the actuators are from singular at these gimbal angles.
-#[unsafe(no_mangle)]
-pub extern "C" fn slew_singularity(
-    c: &[usize; 11],
-    v: &[f64; 100],
-    delta: &[f64; 4],
-    out: &mut f64,
-) -> usize
+pub fn slew_singularity(c: &[usize; 11], v: &[f64; 100], delta: &[f64; 4], out: &mut f64) -> usize
     ensures { Answered (Answers.of_measure (Pyramid.singularity (Declared.map c.now v.now) delta.now)) result
         out.old out.new }
 {
@@ -146,13 +129,7 @@ pub extern "C" fn slew_singularity(
 }
 
 // By how much a wheel's power passes its declared limit at most.
-#[unsafe(no_mangle)]
-pub extern "C" fn slew_power_excess(
-    c: &[usize; 11],
-    v: &[f64; 100],
-    u: &[f64],
-    omega: &[f64; 3],
-) -> f64
+pub fn slew_power_excess(c: &[usize; 11], v: &[f64; 100], u: &[f64], omega: &[f64; 3]) -> f64
     ensures { result ≡ Controls.power_excess (Declared.map c.now v.now) u.now omega.now }
 {
     let map = map_of(c, v);
@@ -160,12 +137,7 @@ pub extern "C" fn slew_power_excess(
 }
 
 // By how much a wheel's momentum passes its limit at most.
-#[unsafe(no_mangle)]
-pub extern "C" fn slew_momentum_excess(
-    c: &[usize; 11],
-    v: &[f64; 100],
-    wheel_momenta: &[f64],
-) -> f64
+pub fn slew_momentum_excess(c: &[usize; 11], v: &[f64; 100], wheel_momenta: &[f64]) -> f64
     ensures { result ≡ Controls.momentum_excess (Declared.map c.now v.now) wheel_momenta.now }
 {
     let map = map_of(c, v);
@@ -173,13 +145,7 @@ pub extern "C" fn slew_momentum_excess(
 }
 
 // Each wheel's rate of momentum under a row u, zeros past the wheels.
-#[unsafe(no_mangle)]
-pub extern "C" fn slew_wheel_momentum_rates(
-    c: &[usize; 11],
-    v: &[f64; 100],
-    u: &[f64],
-    out: &mut [f64; 8],
-)
+pub fn slew_wheel_momentum_rates(c: &[usize; 11], v: &[f64; 100], u: &[f64], out: &mut [f64; 8])
     ensures { out.new ≡ Controls.wheel_momentum_rates (Declared.map c.now v.now) u.now }
 {
     let map = map_of(c, v);
@@ -187,8 +153,7 @@ pub extern "C" fn slew_wheel_momentum_rates(
 }
 
 // The momentum stored in the wheels, in the body's axes.
-#[unsafe(no_mangle)]
-pub extern "C" fn slew_body_momentum(
+pub fn slew_body_momentum(
     c: &[usize; 11],
     v: &[f64; 100],
     wheel_momenta: &[f64],

@@ -5,8 +5,7 @@ ghost use Rattle.elimination.specs.Elimination as Elimination;
 ghost use Rattle.export_runs.specs.Systems as Systems;
 
 // The matrix has as many rows and columns as the right side b numbers, at most 193; b becomes the answer, the matrix is used up.
-#[unsafe(no_mangle)]
-pub extern "C" fn slew_solve_dense(a: &mut [f64], b: &mut [f64]) -> bool
+pub fn slew_solve_dense(a: &mut [f64], b: &mut [f64]) -> bool
     ensures { Elimination.told result b.new ≡ Systems.solved a.old b.old }
 {
     let n = b.len();
@@ -20,14 +19,7 @@ pub extern "C" fn slew_solve_dense(a: &mut [f64], b: &mut [f64]) -> bool
 }
 
 // v holds as many columns of m numbers as g has numbers, at most 193 of each, and after them room for the matrix; g becomes the step.
-#[unsafe(no_mangle)]
-pub extern "C" fn slew_damped_step(
-    v: &mut [f64],
-    m: usize,
-    r: &[f64],
-    lambda: f64,
-    g: &mut [f64],
-) -> bool
+pub fn slew_damped_step(v: &mut [f64], m: usize, r: &[f64], lambda: f64, g: &mut [f64]) -> bool
     ensures { Elimination.told result g.new ≡ Systems.stepped v.old m r.now lambda g.old }
 {
     let n = g.len();

@@ -1,4 +1,5 @@
-// The C interface of a path's dense samples as one list, thin over the proved library. `rt staticlib export_samples` makes the archive.
+// The C interface of a path's dense samples as one list, thin over the proved library. export_samples_c gives the function its C symbol
+// and makes the archive.
 //
 // In C an `&mut [[f64; 14]]` is a pointer to rows of 14 numbers and a count of rows. The function answers the refusal's number, or 0 where the list is whole.
 #![tactic(auto)]
@@ -8,8 +9,7 @@ ghost use Rattle.export_samples.specs.Entries as Entries;
 use export_leaves::pack::{number_of, place_of};
 
 // All samples of a path: a row of 14 numbers a sample, and how many rows were written. What stands behind them stays. Fewer rows lent than there are samples get nothing: 99.
-#[unsafe(no_mangle)]
-pub extern "C" fn slew_sample_list(
+pub fn slew_sample_list(
     j: &[f64; 9],
     tolerance: f64,
     duration: f64,

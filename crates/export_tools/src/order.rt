@@ -13,8 +13,7 @@ fn flag(b: bool) -> u64
 }
 
 // `order` gets the order, 0 in the places past the tiles; `told` its cost, the tiles placed, 1 where the budget was used up and 0 where not, the floor.
-#[unsafe(no_mangle)]
-pub extern "C" fn slew_order(
+pub fn slew_order(
     tiles: usize,
     times: &[u32],
     budget: u64,

@@ -18,8 +18,7 @@ fn number_of(s: Stored) -> usize
 }
 
 // The planes of a column into `out`, the top bytes first.
-#[unsafe(no_mangle)]
-pub extern "C" fn slew_encode_planes(column: &[u64], out: &mut [u8]) -> usize
+pub fn slew_encode_planes(column: &[u64], out: &mut [u8]) -> usize
     ensures value { result ≡ number (of_stored (encoded column.now out.old)) }
     ensures out_after { out.new ≡ encoded_out column.now out.old }
 {
@@ -27,8 +26,7 @@ pub extern "C" fn slew_encode_planes(column: &[u64], out: &mut [u8]) -> usize
 }
 
 // The column of planes into `out`.
-#[unsafe(no_mangle)]
-pub extern "C" fn slew_decode_planes(bytes: &[u8], out: &mut [u64]) -> usize
+pub fn slew_decode_planes(bytes: &[u8], out: &mut [u64]) -> usize
     ensures value { result ≡ number (of_stored (decoded bytes.now out.old)) }
     ensures out_after { out.new ≡ decoded_out bytes.now out.old }
 {

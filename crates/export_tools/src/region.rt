@@ -33,8 +33,7 @@ fn put_start(s: StartOutcome, turns: &mut usize, choice: &mut i64) -> usize
 }
 
 // The fewest turns in which the drive forces home, and its first choice.
-#[unsafe(no_mangle)]
-pub extern "C" fn slew_outcome(angle: i64, rate: i64, turns: &mut usize, choice: &mut i64) -> usize
+pub fn slew_outcome(angle: i64, rate: i64, turns: &mut usize, choice: &mut i64) -> usize
     ensures { Region.StartTold (Answers.of_start (Room.outcome (record { angle = angle; rate = rate }))) result
         turns.old turns.new choice.old choice.new }
 {
@@ -59,22 +58,14 @@ fn put_reply(d: DraughtReply, out: &mut i64) -> usize
 }
 
 // The draught's lowest reply that holds the drive off for the turns that are left, this one counted.
-#[unsafe(no_mangle)]
-pub extern "C" fn slew_reply(
-    angle: i64,
-    rate: i64,
-    left: usize,
-    choice: i64,
-    out: &mut i64,
-) -> usize
+pub fn slew_reply(angle: i64, rate: i64, left: usize, choice: i64, out: &mut i64) -> usize
     ensures { Answered (Answers.of_reply (Room.reply (record { angle = angle; rate = rate }) left choice)) result out.old out.new }
 {
     put_reply(reach_avoid::reply(angle, rate, left, choice), out)
 }
 
 // The fewest turns of every start, a byte each: that of angle a and rate r is number (a + 64) * 17 + (r + 8).
-#[unsafe(no_mangle)]
-pub extern "C" fn slew_region(out: &mut [u8; 2193])
+pub fn slew_region(out: &mut [u8; 2193])
     ensures { out.new ≡ Room.region }
 {
     *out = reach_avoid::region();

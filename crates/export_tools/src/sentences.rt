@@ -3,8 +3,7 @@ ghost use Rattle.text_writer.specs.Puts.{Puts};
 ghost use Rattle.refusal_text.specs.Sentences as Sentences;
 
 // The sentence of a refusal into `out`, as far as it reaches; the answer is how many bytes the sentence has.
-#[unsafe(no_mangle)]
-pub extern "C" fn slew_explain(
+pub fn slew_explain(
     number: usize,
     place: usize,
     runs: usize,

@@ -8,13 +8,7 @@ use canonical::canonical_text;
 use export_leaves::pack::{number_of, place_of};
 
 // The canonical text of a text into `out`, how many bytes it has, and the place of a refusal. What stands behind it stays.
-#[unsafe(no_mangle)]
-pub extern "C" fn slew_canonical(
-    text: &[u8],
-    out: &mut [u8],
-    bytes: &mut usize,
-    place: &mut usize,
-) -> usize
+pub fn slew_canonical(text: &[u8], out: &mut [u8], bytes: &mut usize, place: &mut usize) -> usize
     ensures value { result ≡ fate_number (CanonicalTexts.told text.now out.old).fate }
     ensures out_after { out.new ≡ CanonicalTexts.left text.now out.old }
     ensures bytes_after { bytes.new ≡ (CanonicalTexts.told text.now out.old).bytes }
