@@ -2,7 +2,8 @@
 // of them that are noticed; and where the next case starts.
 ghost use Rattle.std.specs.Prelude.{◌<◌};
 
-use libc::STDOUT_FILENO;
+use std::io;
+use std::io::Print;
 use std::num::{wrapping_add_u64, wrapping_sub_u64};
 
 #[derive(Clone, Copy)]
@@ -96,34 +97,27 @@ impl Tally {
 }
 
 // A group's line, where it has cases: how many, and how many differ.
-pub fn print_group(name: &[u8], cases: u64, wrong: u64) {
+pub fn print_group(rt: &HostRuntime, name: &[u8], cases: u64, wrong: u64) -> io::Result<()> {
     if cases == 0 {
-        return;
+        return Ok(());
     }
-    io::write_all(STDOUT_FILENO, name);
-    io::print_decimal(STDOUT_FILENO, cases);
-    io::write_all(STDOUT_FILENO, b" cases, ");
-    io::print_decimal(STDOUT_FILENO, wrong);
-    io::write_all(STDOUT_FILENO, b" differ\n");
+    rt.stdout().write_all(name)?;
+    println!(rt; "{cases} cases, {wrong} differ")
 }
 
 // How many answers are equal, and how many differ.
-fn print_sums(cases: u64, wrong: u64) {
-    io::print_decimal(STDOUT_FILENO, wrapping_sub_u64(cases, wrong));
-    io::write_all(STDOUT_FILENO, b" cases equal, ");
-    io::print_decimal(STDOUT_FILENO, wrong);
-    io::write_all(STDOUT_FILENO, b" differ; ");
+fn print_sums(rt: &HostRuntime, cases: u64, wrong: u64) -> io::Result<()> {
+    let equal = wrapping_sub_u64(cases, wrong);
+    print!(rt; "{equal} cases equal, {wrong} differ; ")
 }
 
 // The line of the last group, and that of all.
-pub fn print_total(t: Tally) {
+pub fn print_total(rt: &HostRuntime, t: Tally) -> io::Result<()> {
     let c = t.cases;
     let w = t.wrong;
-    print_group(b"unknown: ", c[7], w[7]);
-    print_sums(total(c), total(w));
-    io::write_all(STDOUT_FILENO, b"of ");
-    io::print_decimal(STDOUT_FILENO, t.planted);
-    io::write_all(STDOUT_FILENO, b" wrong answers on purpose ");
-    io::print_decimal(STDOUT_FILENO, t.noticed);
-    io::write_all(STDOUT_FILENO, b" noticed\n");
+    print_group(rt, b"unknown: ", c[7], w[7])?;
+    print_sums(rt, total(c), total(w))?;
+    let planted = t.planted;
+    let noticed = t.noticed;
+    println!(rt; "of {planted} wrong answers on purpose {noticed} noticed")
 }

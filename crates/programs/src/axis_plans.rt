@@ -8,8 +8,10 @@ use super::plans::Answered;
 use super::words::asks;
 use eigenaxis_seed::Shape;
 use eigenaxis_text::plan_eigenaxis_text;
-use libc::{STDERR_FILENO, STDIN_FILENO};
+use program_io::{arg_count, read_full};
 use refusal_text::explain_plan;
+use std::io;
+use std::io::Print;
 
 // The answer to a text: its eigenaxis plan in 8,000 numbers, printed, and the sentence of a refusal.
 pub fn answer(text: &[u8], shape: Shape, out: &mut [u8], said: &mut [u8]) -> Answered
@@ -26,27 +28,24 @@ pub fn answer(text: &[u8], shape: Shape, out: &mut [u8], said: &mut [u8]) -> Ans
 }
 
 // A text longer than 4,096 bytes is refused, so one byte more is all that is looked at.
-fn print_plan(shape: Shape) {
+fn print_plan(rt: &HostRuntime, shape: Shape) -> io::Result<()> {
     let mut text = [0u8; 4097];
-    let length = io::read_full(STDIN_FILENO, &mut text);
+    let length = read_full(rt, &mut text)?;
     let mut out = [0u8; 16384];
     let mut said = [0u8; 256];
     let answered = answer(&text[..length], shape, &mut out, &mut said);
-    show(&out, answered.bytes, &said, answered.said);
+    show(rt, &out, answered.bytes, &said, answered.said)
 }
 
-pub fn run() {
-    let given = os::arg_count();
+pub fn run(rt: &HostRuntime) -> io::Result<()> {
+    let given = arg_count(rt);
     if given < 2 {
-        print_plan(Shape::Fastest);
-        return;
+        return print_plan(rt, Shape::Fastest);
     }
-    if given == 2 && asks(1, b"gentle") {
-        print_plan(Shape::Gentle);
-        return;
+    if given == 2 && asks(rt, 1, b"gentle") {
+        return print_plan(rt, Shape::Gentle);
     }
-    io::write_all(
-        STDERR_FILENO,
+    rt.stderr().write_all(
         b"slew_eigenaxis takes no argument, or the word gentle for the gentle shape.\n",
-    );
+    )
 }

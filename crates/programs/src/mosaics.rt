@@ -2,7 +2,7 @@
 // `slew` prints one. A refused leg is printed in the path's place, with a sentence on standard error, and is the last. Then come the sums of the legs that
 // stand. A text that is refused is answered as `slew` answers one. The word `eigenaxis` asks for legs about one axis, and behind it `gentle` for the gentle
 // shape. A program of this language has no exit status: other arguments show by their sentence, and by nothing on standard output.
-ghost use Rattle.std.specs.Prelude.{◌≡◌, ◌-◌, ◌≤◌, length};
+ghost use Rattle.std.specs.Prelude.{◌≡◌, ◌-◌, ◌≤◌, length, IfOk};
 ghost use Rattle.mosaic.specs.Ways as Ways;
 ghost use Rattle.mosaic_answer.specs.MosaicAnswers as MosaicAnswers;
 
@@ -10,51 +10,53 @@ use crate::output::show;
 use crate::words::asks;
 use common::Fate;
 use eigenaxis_seed::Shape;
-use libc::{STDERR_FILENO, STDIN_FILENO, STDOUT_FILENO};
 use mosaic::ways::Way;
 use mosaic::{Cursor, start};
 use mosaic_answer::lines::write_total;
 use mosaic_answer::{read_counted, write_leg};
 use mosaic_text::ReadMosaic;
+use program_io::{arg_count, read_full};
 use refusal_text::explain;
+use std::io;
+use std::io::Print;
 use text_writer::write_refused;
 
 // The first bytes to standard output.
-fn print(out: &[u8], bytes: usize)
+fn print(rt: &HostRuntime, out: &[u8], bytes: usize) -> io::Result<()>
     requires { bytes ≤ length out.now }
 {
-    io::write_all(STDOUT_FILENO, &out[..bytes]);
+    rt.stdout().write_all(&out[..bytes])
 }
 
 // A text that is refused, with 21 or 23.
-fn print_refused(number: usize, place: usize) {
+fn print_refused(rt: &HostRuntime, number: usize, place: usize) -> io::Result<()> {
     let mut out = [0u8; 100];
     let mut said = [0u8; 212];
     let bytes = write_refused(&mut out, number, place, 0);
     let told = explain(number, place, 0, false, &mut said);
-    show(&out, bytes, &said, told);
+    show(rt, &out, bytes, &said, told)
 }
 
 // Plans the next leg in 8,000 numbers, and prints it.
-fn print_leg(m: ReadMosaic, way: Way, c: Cursor) -> Cursor
-    ensures { result ≡ MosaicAnswers.after (Ways.planner_by way 8000) m c }
+fn print_leg(rt: &HostRuntime, m: ReadMosaic, way: Way, c: Cursor) -> io::Result<Cursor>
+    ensures { IfOk result (λ after. after ≡ MosaicAnswers.after (Ways.planner_by way 8000) m c) }
 {
     let mut ws = [0.0; 8000];
     let mut heading = [0u8; 27];
     let mut out = [0u8; 9970];
     let mut said = [0u8; 212];
     let leg = write_leg(m, way, c, &mut ws, &mut heading, &mut out, &mut said);
-    print(&heading, leg.heading);
-    show(&out, leg.bytes, &said, leg.said);
+    print(rt, &heading, leg.heading)?;
+    show(rt, &out, leg.bytes, &said, leg.said)?;
     let cursor = leg.cursor;
-    cursor
+    Ok(cursor)
 }
 
 // The sums of the legs that stand.
-fn print_total(c: Cursor) {
+fn print_total(rt: &HostRuntime, c: Cursor) -> io::Result<()> {
     let mut out = [0u8; 95];
     let bytes = write_total(&mut out, c.index, c.duration, c.runs);
-    print(&out, bytes);
+    print(rt, &out, bytes)
 }
 
 fn is_refused(c: Cursor) -> bool
@@ -68,56 +70,52 @@ fn is_refused(c: Cursor) -> bool
 }
 
 // The legs of a mosaic from tile to tile, and the cursor after them.
-fn print_legs(m: ReadMosaic, way: Way) -> Cursor
-    ensures { result ≡ MosaicAnswers.cursor_at (Ways.planner_by way 8000) m (m.count - 1) }
+fn print_legs(rt: &HostRuntime, m: ReadMosaic, way: Way) -> io::Result<Cursor>
+    ensures { IfOk result (λ c. c ≡ MosaicAnswers.cursor_at (Ways.planner_by way 8000) m (m.count - 1)) }
 {
     let p = m.problem;
     let momenta = p.momenta;
     let mut c = start(momenta);
     let mut k: usize = 1;
     while k < m.count {
-        c = print_leg(m, way, c);
+        c = print_leg(rt, m, way, c)?;
         if is_refused(c) {
-            return c;
+            return Ok(c);
         }
         k += 1;
     }
-    c
+    Ok(c)
 }
 
 // The answer to a mosaic's text, planned by a way.
-pub fn print_mosaic(text: &[u8], way: Way) {
+pub fn print_mosaic(rt: &HostRuntime, text: &[u8], way: Way) -> io::Result<()> {
     let m = read_counted(text);
     let fate = m.fate;
     match fate {
-        Fate::Refused(number, place) => print_refused(number, place),
-        Fate::Going => print_total(print_legs(m, way)),
+        Fate::Refused(number, place) => print_refused(rt, number, place),
+        Fate::Going => print_total(rt, print_legs(rt, m, way)?),
     }
 }
 
 // A text longer than 16,384 bytes is refused, so one byte more is all that is looked at.
-fn print_input(way: Way) {
+fn print_input(rt: &HostRuntime, way: Way) -> io::Result<()> {
     let mut text = [0u8; 16385];
-    let length = io::read_full(STDIN_FILENO, &mut text);
-    print_mosaic(&text[..length], way);
+    let length = read_full(rt, &mut text)?;
+    print_mosaic(rt, &text[..length], way)
 }
 
-pub fn run() {
-    let given = os::arg_count();
+pub fn run(rt: &HostRuntime) -> io::Result<()> {
+    let given = arg_count(rt);
     if given < 2 {
-        print_input(Way::Search);
-        return;
+        return print_input(rt, Way::Search);
     }
-    if given == 2 && asks(1, b"eigenaxis") {
-        print_input(Way::Eigenaxis(Shape::Fastest));
-        return;
+    if given == 2 && asks(rt, 1, b"eigenaxis") {
+        return print_input(rt, Way::Eigenaxis(Shape::Fastest));
     }
-    if given == 3 && asks(1, b"eigenaxis") && asks(2, b"gentle") {
-        print_input(Way::Eigenaxis(Shape::Gentle));
-        return;
+    if given == 3 && asks(rt, 1, b"eigenaxis") && asks(rt, 2, b"gentle") {
+        return print_input(rt, Way::Eigenaxis(Shape::Gentle));
     }
-    io::write_all(
-        STDERR_FILENO,
+    rt.stderr().write_all(
         b"slew_mosaic takes no argument, or the word eigenaxis to plan each leg about one axis, and behind it gentle for the gentle shape.\n",
-    );
+    )
 }

@@ -4,9 +4,10 @@ ghost use Rattle.programs.specs.Programs as Programs;
 ghost use Rattle.programs.specs.Programs.{Answers};
 
 use crate::output::show;
-use libc::STDIN_FILENO;
 use plan_text::plan_text;
+use program_io::read_full;
 use refusal_text::explain_plan;
+use std::io;
 
 // How many bytes are for standard output, and how many for standard error.
 #[derive(Clone, Copy)]
@@ -30,11 +31,11 @@ pub fn answer(text: &[u8], out: &mut [u8], said: &mut [u8]) -> Answered
 }
 
 // A text longer than 4,096 bytes is refused, so one byte more is all that is looked at.
-pub fn run() {
+pub fn run(rt: &HostRuntime) -> io::Result<()> {
     let mut text = [0u8; 4097];
-    let length = io::read_full(STDIN_FILENO, &mut text);
+    let length = read_full(rt, &mut text)?;
     let mut out = [0u8; 16384];
     let mut said = [0u8; 256];
     let answered = answer(&text[..length], &mut out, &mut said);
-    show(&out, answered.bytes, &said, answered.said);
+    show(rt, &out, answered.bytes, &said, answered.said)
 }

@@ -13,10 +13,12 @@ use arguments::{Requested, read_requested};
 use board_text::write_numbers;
 use eigenaxis_samples::plan_eigenaxis_course;
 use eigenaxis_seed::Shape;
-use libc::{STDERR_FILENO, STDIN_FILENO};
 use mosaic::ways::Way;
+use program_io::{arg, arg_count, read_full};
 use sample_text::lines::write_step;
 use sample_text::{Course, plan_course};
+use std::io;
+use std::io::Print;
 
 // What is asked for behind the number of samples: the drive board's numbers or not, the way that the slew is planned by, and the number of the argument behind
 // these words.
@@ -54,67 +56,79 @@ pub fn course(text: &[u8], way: Way) -> Course
 }
 
 // Prints one sample, and answers whether another follows.
-fn print_sample(c: Course, requested: usize, index: usize) -> bool {
+fn print_sample(rt: &HostRuntime, c: Course, requested: usize, index: usize) -> io::Result<bool> {
     let mut out = [0u8; 272];
     let mut said = [0u8; 212];
     let line = write_step(c, requested, c.alpha, index, &mut out, &mut said);
-    show(&out, line.bytes, &said, line.said);
-    line.more
+    show(rt, &out, line.bytes, &said, line.said)?;
+    Ok(line.more)
 }
 
 // The same in the drive board's numbers.
-fn print_numbers(c: Course, requested: usize, index: usize) -> bool {
+fn print_numbers(rt: &HostRuntime, c: Course, requested: usize, index: usize) -> io::Result<bool> {
     let mut out = [0u8; 320];
     let mut said = [0u8; 212];
     let line = write_numbers(c, requested, c.alpha, index, &mut out, &mut said);
-    show(&out, line.bytes, &said, line.said);
-    line.more
+    show(rt, &out, line.bytes, &said, line.said)?;
+    Ok(line.more)
 }
 
-fn print_step(board: bool, c: Course, requested: usize, index: usize) -> bool {
+fn print_step(
+    rt: &HostRuntime,
+    board: bool,
+    c: Course,
+    requested: usize,
+    index: usize,
+) -> io::Result<bool> {
     if board {
-        return print_numbers(c, requested, index);
+        return print_numbers(rt, c, requested, index);
     }
-    print_sample(c, requested, index)
+    print_sample(rt, c, requested, index)
 }
 
 // No path has more than 100,000 samples.
-fn print_steps(board: bool, c: Course, requested: usize) {
+fn print_steps(rt: &HostRuntime, board: bool, c: Course, requested: usize) -> io::Result<()> {
     let mut index: usize = 0;
     while index < 100_000 {
-        if !print_step(board, c, requested, index) {
-            return;
+        if !print_step(rt, board, c, requested, index)? {
+            return Ok(());
         }
         index += 1;
     }
+    Ok(())
 }
 
 // Prints the dense samples of a text's plan.
-pub fn print_text(text: &[u8], requested: usize, wanted: Wanted) {
+pub fn print_text(
+    rt: &HostRuntime,
+    text: &[u8],
+    requested: usize,
+    wanted: Wanted,
+) -> io::Result<()> {
     let way = wanted.way;
     let c = course(text, way);
-    print_steps(wanted.board, c, requested);
+    print_steps(rt, wanted.board, c, requested)
 }
 
 // A text longer than 4,096 bytes is refused, so one byte more is all that is looked at.
-fn print_samples(requested: usize, wanted: Wanted) {
+fn print_samples(rt: &HostRuntime, requested: usize, wanted: Wanted) -> io::Result<()> {
     let mut text = [0u8; 4097];
-    let length = io::read_full(STDIN_FILENO, &mut text);
-    print_text(&text[..length], requested, wanted);
+    let length = read_full(rt, &mut text)?;
+    print_text(rt, &text[..length], requested, wanted)
 }
 
 // The way that the words from argument number k on ask for.
-fn way_at(k: usize, board: bool) -> Wanted
+fn way_at(rt: &HostRuntime, k: usize, board: bool) -> Wanted
     requires { k ≤ 3 }
 {
-    if !asks(k, b"eigenaxis") {
+    if !asks(rt, k, b"eigenaxis") {
         return Wanted {
             board: board,
             way: Way::Search,
             end: k,
         };
     }
-    if !asks(k + 1, b"gentle") {
+    if !asks(rt, k + 1, b"gentle") {
         return Wanted {
             board: board,
             way: Way::Eigenaxis(Shape::Fastest),
@@ -129,15 +143,15 @@ fn way_at(k: usize, board: bool) -> Wanted
 }
 
 // What the words behind the number of samples ask for.
-fn read_words() -> Wanted {
-    if asks(2, b"board") {
-        return way_at(3, true);
+fn read_words(rt: &HostRuntime) -> Wanted {
+    if asks(rt, 2, b"board") {
+        return way_at(rt, 3, true);
     }
-    way_at(2, false)
+    way_at(rt, 2, false)
 }
 
 // The number of samples asked for; none where a word stands behind those that are known.
-fn asked(given: usize, end: usize) -> Requested {
+fn asked(rt: &HostRuntime, given: usize, end: usize) -> Requested {
     if given < 2 {
         return Requested::Of(17);
     }
@@ -145,20 +159,17 @@ fn asked(given: usize, end: usize) -> Requested {
         return Requested::Not;
     }
     let mut word = [0u8; 64];
-    let length = os::arg(1, &mut word);
+    let length = arg(rt, 1, &mut word);
     read_requested(&word[..length])
 }
 
-pub fn run() {
-    let w = read_words();
-    let request = asked(os::arg_count(), w.end);
+pub fn run(rt: &HostRuntime) -> io::Result<()> {
+    let w = read_words(rt);
+    let request = asked(rt, arg_count(rt), w.end);
     match request {
-        Requested::Of(requested) => print_samples(requested, w),
-        Requested::Not => {
-            io::write_all(
-                STDERR_FILENO,
-                b"slew_samples takes the number of samples in decimal digits, behind it the word board for the drive board's numbers, eigenaxis for a slew about one axis, and gentle for its gentle shape.\n",
-            );
-        }
+        Requested::Of(requested) => print_samples(rt, requested, w),
+        Requested::Not => rt.stderr().write_all(
+            b"slew_samples takes the number of samples in decimal digits, behind it the word board for the drive board's numbers, eigenaxis for a slew about one axis, and gentle for its gentle shape.\n",
+        ),
     }
 }

@@ -1,8 +1,9 @@
 // A test program: a letter for each of some starts and replies. `stdout` comes from the minimax of the comparison (oracle/drive/src/region.rs), never from here.
 #![tactic(auto)]
 
-use libc::STDOUT_FILENO;
 use reach_avoid::{DraughtReply, StartOutcome};
+use std::io;
+use std::io::Print;
 
 // The first choice as 0 to 4, H home, X held off, O outside.
 fn start(angle: i64, rate: i64) -> u8 {
@@ -39,7 +40,7 @@ fn reply(angle: i64, rate: i64, left: usize, choice: i64) -> u8 {
     }
 }
 
-fn main() {
+fn main(rt: HostRuntime) -> io::Result<()> {
     let starts = [
         start(64, 0),
         start(-64, 0),
@@ -54,7 +55,7 @@ fn main() {
         start(0, -9),
         b'\n',
     ];
-    io::write_all(STDOUT_FILENO, &starts);
+    rt.stdout().write_all(&starts)?;
     let replies = [
         reply(64, 0, 16, -2),
         reply(64, 0, 17, -2),
@@ -72,5 +73,5 @@ fn main() {
         reply(20, 3, 5, 0),
         b'\n',
     ];
-    io::write_all(STDOUT_FILENO, &replies);
+    rt.stdout().write_all(&replies)
 }

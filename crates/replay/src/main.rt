@@ -8,7 +8,8 @@ mod samples;
 use cases::read::Case;
 use cases::tally::Tally;
 use cases::{read, tally};
-use libc::STDIN_FILENO;
+use program_io::read_full;
+use std::io;
 
 // Whether the port gives what is stored: the words that go in first, then those that come out.
 fn holds(number: u64, v: &[u64; 1024]) -> bool {
@@ -70,31 +71,31 @@ fn run(s: &[u8], start: Tally) -> Tally {
 }
 
 // The next block of the input.
-fn block(t: Tally) -> Tally {
-    let mut space = io::large_buffer();
-    let n = io::read_full(STDIN_FILENO, &mut space);
-    run(&space[..n], t.from(0))
+fn block(rt: &HostRuntime, t: Tally) -> io::Result<Tally> {
+    let mut space = [0u8; 65536];
+    let n = read_full(rt, &mut space)?;
+    Ok(run(&space[..n], t.from(0)))
 }
 
 // All groups' lines, and the last.
-fn print(t: Tally) {
+fn print(rt: &HostRuntime, t: Tally) -> io::Result<()> {
     let c = t.cases;
     let w = t.wrong;
-    tally::print_group(b"whole root, floats, angles: ", c[0], w[0]);
-    tally::print_group(b"attitudes, vectors, tensors: ", c[1], w[1]);
-    tally::print_group(b"actuators, control rows: ", c[2], w[2]);
-    tally::print_group(b"profile and seed: ", c[3], w[3]);
-    tally::print_group(b"forward runs, residuals: ", c[4], w[4]);
-    tally::print_group(b"dense samples: ", c[5], w[5]);
-    tally::print_total(t);
+    tally::print_group(rt, b"whole root, floats, angles: ", c[0], w[0])?;
+    tally::print_group(rt, b"attitudes, vectors, tensors: ", c[1], w[1])?;
+    tally::print_group(rt, b"actuators, control rows: ", c[2], w[2])?;
+    tally::print_group(rt, b"profile and seed: ", c[3], w[3])?;
+    tally::print_group(rt, b"forward runs, residuals: ", c[4], w[4])?;
+    tally::print_group(rt, b"dense samples: ", c[5], w[5])?;
+    tally::print_total(rt, t)
 }
 
-fn main() {
+fn main(rt: HostRuntime) -> io::Result<()> {
     let mut t = tally::none();
     let mut k: usize = 0;
     while k < 64 {
-        t = block(t);
+        t = block(&rt, t)?;
         k += 1;
     }
-    print(t);
+    print(&rt, t)
 }

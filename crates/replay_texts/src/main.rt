@@ -11,7 +11,8 @@ ghost use Rattle.replay_texts.specs.Heads as Heads;
 use cases::tally;
 use cases::tally::Tally;
 use head::Head;
-use libc::STDIN_FILENO;
+use program_io::read_full;
+use std::io;
 
 // The group of what is asked.
 fn group(kind: u64) -> u64 {
@@ -66,28 +67,28 @@ fn run(s: &[u8], start: Tally) -> Tally {
 }
 
 // The next block of the input.
-fn block(t: Tally) -> Tally {
-    let mut space = io::large_buffer();
-    let n = io::read_full(STDIN_FILENO, &mut space);
-    run(&space[..n], t.from(0))
+fn block(rt: &HostRuntime, t: Tally) -> io::Result<Tally> {
+    let mut space = [0u8; 65536];
+    let n = read_full(rt, &mut space)?;
+    Ok(run(&space[..n], t.from(0)))
 }
 
 // All groups' lines, and the last.
-fn print(t: Tally) {
+fn print(rt: &HostRuntime, t: Tally) -> io::Result<()> {
     let c = t.cases;
     let w = t.wrong;
-    tally::print_group(b"texts planned: ", c[0], w[0]);
-    tally::print_group(b"texts planned from a seed: ", c[1], w[1]);
-    tally::print_group(b"texts sampled: ", c[2], w[2]);
-    tally::print_total(t);
+    tally::print_group(rt, b"texts planned: ", c[0], w[0])?;
+    tally::print_group(rt, b"texts planned from a seed: ", c[1], w[1])?;
+    tally::print_group(rt, b"texts sampled: ", c[2], w[2])?;
+    tally::print_total(rt, t)
 }
 
-fn main() {
+fn main(rt: HostRuntime) -> io::Result<()> {
     let mut t = tally::none();
     let mut k: usize = 0;
     while k < 64 {
-        t = block(t);
+        t = block(&rt, t)?;
         k += 1;
     }
-    print(t);
+    print(&rt, t)
 }

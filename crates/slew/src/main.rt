@@ -1,6 +1,8 @@
 // Plans the problem whose text stands on standard input (crates/programs/src/plans.rt).
 #![tactic(auto)]
 
-fn main() {
-    programs::plans::run();
+use std::io;
+
+fn main(rt: HostRuntime) -> io::Result<()> {
+    programs::plans::run(&rt)
 }

@@ -4,26 +4,29 @@
 
 use canonical::canonical_text;
 use common::Fate;
-use libc::{STDERR_FILENO, STDIN_FILENO, STDOUT_FILENO};
+use program_io::read_full;
 use refusal_text::explain;
+use std::io;
+use std::io::Print;
 
 // What a refusal means, in a sentence.
-fn say(number: usize, place: usize) {
+fn say(rt: &HostRuntime, number: usize, place: usize) -> io::Result<()> {
     let mut sentence = [0u8; 256];
     let n = explain(number, place, 0, false, &mut sentence);
-    io::write_all(STDERR_FILENO, &sentence[..n]);
+    rt.stderr().write_all(&sentence[..n])
 }
 
 // A text longer than 4,096 bytes is refused, so one byte more is all that is looked at.
-fn main() {
+fn main(rt: HostRuntime) -> io::Result<()> {
     let mut text = [0u8; 4097];
-    let length = io::read_full(STDIN_FILENO, &mut text);
+    let length = read_full(&rt, &mut text)?;
     let mut out = [0u8; 4096];
     let told = canonical_text(&text[..length], &mut out);
     let bytes = told.bytes;
-    io::write_all(STDOUT_FILENO, &out[..bytes]);
+    rt.stdout().write_all(&out[..bytes])?;
     let fate = told.fate;
     if let Fate::Refused(number, place) = fate {
-        say(number, place);
+        return say(&rt, number, place);
     }
+    Ok(())
 }

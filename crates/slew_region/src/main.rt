@@ -6,9 +6,11 @@
 ghost use Rattle.std.specs.Prelude.{◌≤◌, length};
 
 use arguments::{Requested, read_requested};
-use libc::{STDERR_FILENO, STDOUT_FILENO};
+use program_io::{arg, arg_count};
 use region_text::words::{Whole, read_whole};
 use region_text::{write_region, write_reply, write_start};
+use std::io;
+use std::io::Print;
 
 // What a word that is no number is read as: no number that is read is so large.
 const NONE: i64 = 9999;
@@ -16,9 +18,9 @@ const NONE: i64 = 9999;
 const NO_TURNS: usize = 999_999;
 
 // Argument number k; the first of the program's arguments, number 0, is its own name.
-fn number(k: usize) -> i64 {
+fn number(rt: &HostRuntime, k: usize) -> i64 {
     let mut word = [0u8; 64];
-    let length = os::arg(k, &mut word);
+    let length = arg(rt, k, &mut word);
     let read = read_whole(&word[..length]);
     match read {
         Whole::Is(z) => z,
@@ -26,36 +28,34 @@ fn number(k: usize) -> i64 {
     }
 }
 
-fn say_usage() {
-    io::write_all(
-        STDERR_FILENO,
+fn say_usage(rt: &HostRuntime) -> io::Result<()> {
+    rt.stderr().write_all(
         b"slew_region takes an angle and a rate, or `reply` with an angle, a rate, the turns left and a choice, or nothing: whole numbers in decimal digits.\n",
-    );
+    )
 }
 
 // An answer's first bytes to standard output, a sentence's to standard error.
-fn show(out: &[u8], bytes: usize, said: &[u8], told: usize)
+fn show(rt: &HostRuntime, out: &[u8], bytes: usize, said: &[u8], told: usize) -> io::Result<()>
     requires { (bytes ≤ length out.now) × (told ≤ length said.now) }
 {
-    io::write_all(STDOUT_FILENO, &out[..bytes]);
-    io::write_all(STDERR_FILENO, &said[..told]);
+    rt.stdout().write_all(&out[..bytes])?;
+    rt.stderr().write_all(&said[..told])
 }
 
-fn print_start(angle: i64, rate: i64) {
+fn print_start(rt: &HostRuntime, angle: i64, rate: i64) -> io::Result<()> {
     if angle == NONE || rate == NONE {
-        say_usage();
-        return;
+        return say_usage(rt);
     }
     let mut out = [0u8; 100];
     let mut said = [0u8; 212];
     let printed = write_start(angle, rate, &mut out, &mut said);
-    show(&out, printed.bytes, &said, printed.said);
+    show(rt, &out, printed.bytes, &said, printed.said)
 }
 
 // Argument number k as turns left.
-fn turns_left(k: usize) -> usize {
+fn turns_left(rt: &HostRuntime, k: usize) -> usize {
     let mut word = [0u8; 64];
-    let length = os::arg(k, &mut word);
+    let length = arg(rt, k, &mut word);
     let read = read_requested(&word[..length]);
     match read {
         Requested::Of(n) => n,
@@ -63,27 +63,32 @@ fn turns_left(k: usize) -> usize {
     }
 }
 
-fn print_reply(angle: i64, rate: i64, left: usize, choice: i64) {
+fn print_reply(
+    rt: &HostRuntime,
+    angle: i64,
+    rate: i64,
+    left: usize,
+    choice: i64,
+) -> io::Result<()> {
     if angle == NONE || rate == NONE || left == NO_TURNS || choice == NONE {
-        say_usage();
-        return;
+        return say_usage(rt);
     }
     let mut out = [0u8; 100];
     let mut said = [0u8; 212];
     let printed = write_reply(angle, rate, left, choice, &mut out, &mut said);
-    show(&out, printed.bytes, &said, printed.said);
+    show(rt, &out, printed.bytes, &said, printed.said)
 }
 
-fn print_region() {
+fn print_region(rt: &HostRuntime) -> io::Result<()> {
     let mut out = [0u8; 12780];
     let bytes = write_region(&mut out);
-    show(&out, bytes, b"", 0);
+    show(rt, &out, bytes, b"", 0)
 }
 
 // Whether argument number 1 is the word `reply`.
-fn asks_reply() -> bool {
+fn asks_reply(rt: &HostRuntime) -> bool {
     let mut word = [0u8; 64];
-    let length = os::arg(1, &mut word);
+    let length = arg(rt, 1, &mut word);
     length == 5
         && word[0] == b'r'
         && word[1] == b'e'
@@ -92,15 +97,21 @@ fn asks_reply() -> bool {
         && word[4] == b'y'
 }
 
-fn main() {
-    let given = os::arg_count();
+fn main(rt: HostRuntime) -> io::Result<()> {
+    let given = arg_count(&rt);
     if given == 1 {
-        print_region();
+        print_region(&rt)
     } else if given == 3 {
-        print_start(number(1), number(2));
-    } else if given == 6 && asks_reply() {
-        print_reply(number(2), number(3), turns_left(4), number(5));
+        print_start(&rt, number(&rt, 1), number(&rt, 2))
+    } else if given == 6 && asks_reply(&rt) {
+        print_reply(
+            &rt,
+            number(&rt, 2),
+            number(&rt, 3),
+            turns_left(&rt, 4),
+            number(&rt, 5),
+        )
     } else {
-        say_usage();
+        say_usage(&rt)
     }
 }

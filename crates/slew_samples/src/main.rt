@@ -1,6 +1,8 @@
 // Prints the dense samples of the problem whose text stands on standard input (crates/programs/src/samples.rt).
 #![tactic(auto)]
 
-fn main() {
-    programs::samples::run();
+use std::io;
+
+fn main(rt: HostRuntime) -> io::Result<()> {
+    programs::samples::run(&rt)
 }
