@@ -21,7 +21,7 @@ fn planned(kind: u64, text: &[u8], seed: &[f64], stored: &[u8]) -> bool {
     let mut out = [0u8; 16384];
     let told = plan(kind, text, seed, &mut out);
     let bytes = told.bytes;
-    check::same(&out[..bytes], stored)
+    &out[..bytes] == stored
 }
 
 // The same with a case's words as the seed: the first n of v.
