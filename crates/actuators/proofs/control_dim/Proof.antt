@@ -10,26 +10,26 @@ use Rattle.actuators.proofs.control_dim.Tie as tie
 
 returns : tie.Need-returns-then-not-is_sized
 unfolding control_dim
-returns c = rw (← c.is_sized.ensures, not-true c.is_sized.result c.if-not-is_sized.true)
+returns c = rw (← c.is_sized.ensures, c.if-not-is_sized.true)
 
 returns_2 : tie.Need-returns-then-is_empty
 unfolding control_dim
 returns_2 c =
     rw (
       ← c.is_sized.ensures,
-      not-false c.is_sized.result c.if-not-is_sized.false,
+      c.if-not-is_sized.false,
       ← c.is_empty.ensures,
       c.if-is_empty.true,
     )
 
 add-result : tie.Need-overflow_add-result
 add-result c =
-    let s = sized_counts _ (sym c.is_sized.ensures ∙ not-false c.is_sized.result c.if-not-is_sized.false) in
+    let s = sized_counts _ (sym c.is_sized.ensures ∙ c.if-not-is_sized.false) in
     omega arith
 
 add-result-2 : tie.Need-overflow_add-result-2
 add-result-2 c =
-    let s = sized_counts _ (sym c.is_sized.ensures ∙ not-false c.is_sized.result c.if-not-is_sized.false) in
+    let s = sized_counts _ (sym c.is_sized.ensures ∙ c.if-not-is_sized.false) in
     omega (arith, c.gimbals.ensures, gimbals_most c.args.map.cmgs)
 
 returns_3 : tie.Need-returns
@@ -37,7 +37,7 @@ unfolding control_dim
 returns_3 c =
     rw (
       ← c.is_sized.ensures,
-      not-false c.is_sized.result c.if-not-is_sized.false,
+      c.if-not-is_sized.false,
       ← c.is_empty.ensures,
       c.if-is_empty.false,
       c.gimbals.ensures,

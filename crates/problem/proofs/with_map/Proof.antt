@@ -1,5 +1,5 @@
 -- `problem::with_map` meets its contract: each way out is a case of the definition, told by the tests on the way. Assumes nothing.
-use Rattle.geom.specs.Tests.{met, unmet}
+use Rattle.std.proofs.Common.{sym, ◌∙◌}
 use Rattle.problem.specs.Problems as Problems
 use borrow.Author.Rules.{rules}
 use Rattle.problem.proofs.with_map.Statement.{statement}
@@ -7,17 +7,17 @@ use Rattle.problem.proofs.with_map.Tie as tie
 
 returns : tie.Need-returns-then-not-numbers_fit
 unfolding Problems.with_map
-returns c = rw (unmet c.numbers_fit.ensures c.if-not-numbers_fit.true) c.refused.ensures
+returns c = rw ((sym c.numbers_fit.ensures ∙ c.if-not-numbers_fit.true)) c.refused.ensures
 
 returns_2 : tie.Need-returns-in-Refused
 unfolding Problems.with_map
 returns_2 c =
-    rw (met c.numbers_fit.ensures c.if-not-numbers_fit.false, ← c.check_starts-fate.ensures, c.in-Refused.is) c.refused-in-Refused.ensures
+    rw ((sym c.numbers_fit.ensures ∙ c.if-not-numbers_fit.false), ← c.check_starts-fate.ensures, c.in-Refused.is) c.refused-in-Refused.ensures
 
 returns_3 : tie.Need-returns-in-Going
 unfolding Problems.with_map
 returns_3 c =
-    rw (met c.numbers_fit.ensures c.if-not-numbers_fit.false, ← c.check_starts-fate.ensures, c.in-Going.is) c.with_starts.ensures
+    rw ((sym c.numbers_fit.ensures ∙ c.if-not-numbers_fit.false), ← c.check_starts-fate.ensures, c.in-Going.is) c.with_starts.ensures
 
 pub with_map_spec : {M : Type 1} → statement M
 with_map_spec =

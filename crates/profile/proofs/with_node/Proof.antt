@@ -11,7 +11,7 @@ use Rattle.profile.proofs.with_node.Tie as tie
 returns : tie.Need-returns
 returns c =
     let l : length c.args.v ≡ 51 = search rules in
-    put_node c.args.v c.args.t3 (3 * c.args.i) (omega arith) (search rules)
+    put_node c.args.v c.args.w (3 * c.args.i) (omega arith) (search rules)
 
 pub with_node_spec : {M : Type 1} → statement M
 with_node_spec =

@@ -1,24 +1,24 @@
+use Rattle.std.proofs.Common.{sym, ◌∙◌}
 use borrow.Author.Rules.{rules}
 use Rattle.reference_checks.proofs.check_start.Statement.{statement}
 use Rattle.reference_checks.proofs.check_start.Tie as tie
 use Rattle.reference_checks.specs.Checks as Checks
-use Rattle.geom.specs.Tests.{met, unmet}
 
 returns : tie.Need-returns-then-not-at_rest
 unfolding Checks.check_start
-returns c = rw (unmet c.at_rest.ensures c.if-not-at_rest.true)
+returns c = rw ((sym c.at_rest.ensures ∙ c.if-not-at_rest.true))
 
 returns_2 : tie.Need-returns-then-not-equal_attitudes
 unfolding Checks.check_start
-returns_2 c = rw (met c.at_rest.ensures c.if-not-at_rest.false, unmet c.equal_attitudes.ensures c.if-not-equal_attitudes.true)
+returns_2 c = rw ((sym c.at_rest.ensures ∙ c.if-not-at_rest.false), (sym c.equal_attitudes.ensures ∙ c.if-not-equal_attitudes.true))
 
 returns_3 : tie.Need-returns-then-not-equal
 unfolding Checks.check_start
-returns_3 c = rw (met c.at_rest.ensures c.if-not-at_rest.false, met c.equal_attitudes.ensures c.if-not-equal_attitudes.false, unmet c.equal.ensures c.if-not-equal.true)
+returns_3 c = rw ((sym c.at_rest.ensures ∙ c.if-not-at_rest.false), (sym c.equal_attitudes.ensures ∙ c.if-not-equal_attitudes.false), (sym c.equal.ensures ∙ c.if-not-equal.true))
 
 returns-4 : tie.Need-returns
 unfolding Checks.check_start
-returns-4 c = rw (met c.at_rest.ensures c.if-not-at_rest.false, met c.equal_attitudes.ensures c.if-not-equal_attitudes.false, met c.equal.ensures c.if-not-equal.false)
+returns-4 c = rw ((sym c.at_rest.ensures ∙ c.if-not-at_rest.false), (sym c.equal_attitudes.ensures ∙ c.if-not-equal_attitudes.false), (sym c.equal.ensures ∙ c.if-not-equal.false))
 
 pub check_start_spec : {M : Type 1} → statement M
 check_start_spec =

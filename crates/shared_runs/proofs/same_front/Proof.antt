@@ -4,7 +4,6 @@ use mathlib.Core.Path.{◌≡◌, refl, sym, ◌∙◌}
 use native.Mathlib.Omega.{arith}
 use Rattle.common.specs.Lists.{at}
 use Rattle.float_bits.specs.BitLaws.{same_is}
-use Rattle.geom.specs.Tests.{met}
 use Rattle.shared_runs.specs.Shared.{Agree}
 use borrow.Author.Count.{below_more}
 use borrow.Author.Rules.{rules}
@@ -27,7 +26,7 @@ loop-again : tie.Need-loop-i-preserved invariant_loop decreases_loop
 loop-again c =
     let l = c.loop-i in
     let a = c.args in
-    (omega arith, below_more (λ k. at a.y.now k ≡ at a.z.now k) l.i l.invariant.1 (same_is _ _ (met c.same_bits.ensures c.if-not-same_bits.false)))
+    (omega arith, below_more (λ k. at a.y.now k ≡ at a.z.now k) l.i l.invariant.1 (same_is _ _ ((sym c.same_bits.ensures ∙ c.if-not-same_bits.false))))
 
 returns_2 : tie.Need-returns invariant_loop decreases_loop
 returns_2 c =

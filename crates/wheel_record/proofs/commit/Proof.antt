@@ -7,13 +7,13 @@ use Rattle.wheel_record.proofs.commit.Tie as tie
 
 returns : tie.Need-returns-then-not-answered
 unfolding Commits.commit
-returns c = rw (not-true c.args.answered c.if-not-answered.true) c.not_started.ensures
+returns c = rw (c.if-not-answered.true) c.not_started.ensures
 
 returns_2 : tie.Need-returns-then-k-on_record
 unfolding Commits.commit
 returns_2 c =
     let if1 = c.if-not-answered in
-    rw (not-false c.args.answered if1.false, ← c.leading_same-k.ensures, ne_eqb _ _ c.if-k-on_record.true) c.not_started-then-k-on_record.ensures
+    rw (if1.false, ← c.leading_same-k.ensures, ne_eqb _ _ c.if-k-on_record.true) c.not_started-then-k-on_record.ensures
 
 returns_3 : tie.Need-returns-then-k-began
 unfolding Commits.commit
@@ -21,7 +21,7 @@ returns_3 c =
     let if1 = c.if-not-answered in
     let leading-same = c.leading_same-k in
     rw (
-      not-false c.args.answered if1.false,
+      if1.false,
       ← leading-same.ensures,
       eq-eqb _ _ c.if-k-on_record.false,
       ne_eqb _ _ c.if-k-began.true,
@@ -34,7 +34,7 @@ returns-4 c =
     let if1 = c.if-not-answered in
     let leading-same = c.leading_same-k in
     rw (
-      not-false c.args.answered if1.false,
+      if1.false,
       ← leading-same.ensures,
       eq-eqb _ _ c.if-k-on_record.false,
       eq-eqb _ _ c.if-k-began.false,

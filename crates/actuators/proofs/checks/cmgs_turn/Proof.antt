@@ -11,8 +11,7 @@ returns c = rw c.in_default.is
 returns_2 : tie.Need-returns-in-Without
 unfolding Prepare.cmgs_next
 returns_2 c =
-    let enum_told = c.enum_told-1 in
-    rw (enum_told.given.1, c.in-Without.is) c.so_far.ensures
+    rw (c.in-Going.is, c.in-Without.is) c.so_far.ensures
 
 returns_3 : tie.Need-returns-then-pyramid_outside
 unfolding Prepare.cmgs_next
