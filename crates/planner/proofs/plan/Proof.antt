@@ -28,8 +28,8 @@ returns_2 : tie.Need-returns-in-Going
 unfolding Plans.plan
 returns_2 c =
     let good = c.before.before.before.before.before.before.before.before.well_formed in
-    let enum_told = c.enum_told-1 in
-    entry_as (λ r. Answers c.args.p (own_seed (check c.args.p).problem) r) (outcome_as c.with_profile.ensures (rw (← c.check-checked.ensures, enum_told.given.1) refl)) (λ fit. plan_answers _ (problem_held c.args.p _ good.0) _)
+    let enum_told = c.in-Going in
+    entry_as (λ r. Answers c.args.p (own_seed (check c.args.p).problem) r) (outcome_as c.with_profile.ensures (rw (← c.check-checked.ensures, enum_told.is) refl)) (λ fit. plan_answers _ (problem_held c.args.p _ good.0) _)
 
 pub plan_spec : {M : Type 1} → statement M
 plan_spec =

@@ -27,9 +27,9 @@ returns c =
 returns_2 : tie.Need-returns-in-Going
 returns_2 c =
     let good = c.before.before.before.before.before.before.before.before.before.before.before.well_formed in
-    let enum_told = c.enum_told-1 in
+    let enum_told = c.in-Going in
     let counted = c.counted in
-    entry_as (λ r. Answers c.args.p (Plans.seed_of (check c.args.p).problem c.args.duration c.args.torques.now) r) (from_as c.args.p c.args.duration c.args.rates.now c.args.torques.now _ c.check-checked.ensures enum_told.given.1 counted.ensures c.with_seed.ensures) (λ fit. plan_from_answers _ (problem_held c.args.p _ good.0) _ _ _ _ fit)
+    entry_as (λ r. Answers c.args.p (Plans.seed_of (check c.args.p).problem c.args.duration c.args.torques.now) r) (from_as c.args.p c.args.duration c.args.rates.now c.args.torques.now _ c.check-checked.ensures enum_told.is counted.ensures c.with_seed.ensures) (λ fit. plan_from_answers _ (problem_held c.args.p _ good.0) _ _ _ _ fit)
 
 pub plan_from_spec : {M : Type 1} → statement M
 plan_from_spec =

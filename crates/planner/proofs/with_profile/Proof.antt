@@ -15,9 +15,9 @@ returns c =
 returns_2 : tie.Need-returns-in-Going
 returns_2 c =
     let profiled = c.profiled-made in
-    let enum_told = c.enum_told-1 in
+    let enum_told = c.in-Going in
     let sample-seed = c.sample_seed in
-    profiled_as _ _ profiled.ensures enum_told.given.1 sample-seed.ensures c.with_profile_seed.ensures
+    profiled_as _ _ profiled.ensures enum_told.is sample-seed.ensures c.with_profile_seed.ensures
 
 pub with_profile_spec : {M : Type 1} → statement M
 with_profile_spec =

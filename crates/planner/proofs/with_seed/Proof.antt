@@ -24,8 +24,8 @@ returns_2 : tie.Need-returns-in-Going
 unfolding Plans.with_seed
 returns_2 c =
     let served = c.served-fate in
-    let enum_told = c.enum_told-1 in
-    outcome_as c.seeded.ensures (rw (← served.ensures, enum_told.given.1) refl)
+    let enum_told = c.in-Going in
+    outcome_as c.seeded.ensures (rw (← served.ensures, enum_told.is) refl)
 
 pub with_seed_spec : {M : Type 1} → statement M
 with_seed_spec =

@@ -19,10 +19,10 @@ start-requires c κs =
 turns-requires : tie.Need-turns-requires
 turns-requires c κs =
     let residuals-of = c.residuals_of-e in
-    let enum_told = c.enum_told-1 in
+    let enum_told = c.in-Going in
     let numbers = c.numbers-n in (
       sizes_of c.args.p _ _ _ c.requires.0 c.requires.1 numbers.ensures c.width-m.ensures c.requires.2,
-      (rw c.start.ensures refl, (rw c.start.ensures refl, (rw c.start.ensures refl, rw c.start.ensures (known_of _ residuals-of.ensures enum_told.given.1 c.width-m.ensures refl)))),
+      (rw c.start.ensures refl, (rw c.start.ensures refl, (rw c.start.ensures refl, rw c.start.ensures (known_of _ residuals-of.ensures enum_told.is c.width-m.ensures refl)))),
     )
 
 conclude-requires : tie.Need-conclude-requires
@@ -40,10 +40,10 @@ returns_2 : tie.Need-returns-in-Going
 unfolding Search.search Search.searched
 returns_2 c =
     let residuals-of = c.residuals_of-e in
-    let enum_told = c.enum_told-1 in
+    let enum_told = c.in-Going in
     let width = c.width-m in
     let start = c.start in
-    let first = ap (λ (x : Progress). x.state) start.ensures ∙ start_going c.args.p c.args.seed residuals-of.ensures width.ensures enum_told.given.1 in
+    let first = ap (λ (x : Progress). x.state) start.ensures ∙ start_going c.args.p c.args.seed residuals-of.ensures width.ensures enum_told.is in
     (c.conclude.ensures ∙ ap (λ (s : SearchState). Search.conclude c.args.p s) (c.turns.ensures ∙ ap (λ (s : SearchState). iter (Search.turn c.args.p) s 40) first), c.turns.auto.ws)
 
 pub search_spec : {M : Type 1} → statement M

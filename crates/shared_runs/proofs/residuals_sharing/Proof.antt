@@ -61,7 +61,7 @@ returns_2 c =
 returns_3 : tie.Need-returns-in-Going
 unfolding Runs.run_under
 returns_3 c =
-    let enum_told = c.enum_told-1 in
+    let enum_told = c.in-Going in
     let a = c.args in
     let pre = c.requires in
     let s = c.shares.ensures (c.if-not-shares.false) in
@@ -69,7 +69,7 @@ returns_3 c =
     let r = c.run_on-w.ensures in
     let u = c.run_on-w.new.nodes in
     let whole = r.whole (Runs.start_of a.p) (after_shared a.p a.n a.z.now a.y.now a.b a.nodes.now a.errors.now pre.1.1.0 (held.1 s.0) s.1) in (
-      rw (c.of_rows.ensures, c.target_of.ensures) (told_going a.p a.y.now c.run_on-w.result u whole enum_told.given.1),
+      rw (c.of_rows.ensures, c.target_of.ensures) (told_going a.p a.y.now c.run_on-w.result u whole enum_told.is),
       (record { nodes = r.size ∙ held.0.nodes; errors = held.0.errors }, λ on. kept_same a.p a.z.now a.b a.nodes.now u a.errors.now r.size r.below (held.1 on)),
     )
 

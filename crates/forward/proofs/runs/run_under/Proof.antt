@@ -15,8 +15,8 @@ returns_2 : tie.Need-returns-in-Going
 unfolding told
 returns_2 c =
     let run-into = c.run_into-w in
-    let enum_told = c.enum_told-1 in
-    rw (c.sqrt.ensures, c.nodes_in-nodes.ensures) (rw enum_told.given.1 at run-into.ensures.0)
+    let enum_told = c.in-Going in
+    rw (c.sqrt.ensures, c.nodes_in-nodes.ensures) (rw enum_told.is at run-into.ensures.0)
 
 pub run_under_spec : {M : Type 1} → statement M
 run_under_spec =

@@ -36,8 +36,8 @@ returns_2 : tie.Need-returns-then-over_power
 unfolding Ieee.of_bits
 returns_2 c =
     let step-gimbals = c.step_gimbals-g in
-    let enum_told = c.enum_told-1 in
-    finished_refused _ _ _ _ _ c.refuse_dynamics-then-over_power.ensures (λ q q2. ends_powered _ _ _ (with_attitude q c.args.s) _ _ _ q2 step-gimbals.ensures enum_told.given.1 refl (sym c.over_power.ensures ∙ c.if-over_power.true))
+    let enum_told = c.in-Going in
+    finished_refused _ _ _ _ _ c.refuse_dynamics-then-over_power.ensures (λ q q2. ends_powered _ _ _ (with_attitude q c.args.s) _ _ _ q2 step-gimbals.ensures enum_told.is refl (sym c.over_power.ensures ∙ c.if-over_power.true))
 
 part-momenta-next-end : tie.Need-slice_bounds-momenta_next-end
 part-momenta-next-end c =
@@ -47,12 +47,12 @@ returns_3 : tie.Need-returns
 unfolding Ieee.of_bits
 returns_3 c =
     let step-gimbals = c.step_gimbals-g in
-    let enum_told = c.enum_told-1 in
+    let enum_told = c.in-Going in
     let over-power = c.over_power in
     let if1 = c.if-over_power in
     let momenta_next_law = c.momenta_next-hw2 in
     let body-momentum = c.body_momentum-h2 in
-    finished_going _ _ _ _ _ c.dynamics_from.ensures (λ q q2. ends_finished _ _ _ (with_attitude q c.args.s) _ _ _ q2 step-gimbals.ensures enum_told.given.1 refl (sym over-power.ensures ∙ if1.false) momenta_next_law.ensures body-momentum.ensures) (hands_on _ _ _ _ _ step-gimbals.ensures enum_told.given.1)
+    finished_going _ _ _ _ _ c.dynamics_from.ensures (λ q q2. ends_finished _ _ _ (with_attitude q c.args.s) _ _ _ q2 step-gimbals.ensures enum_told.is refl (sym over-power.ensures ∙ if1.false) momenta_next_law.ensures body-momentum.ensures) (hands_on _ _ _ _ _ step-gimbals.ensures enum_told.is)
 
 pub finish_dynamics_spec : {M : Type 1} → statement M
 finish_dynamics_spec =

@@ -10,8 +10,8 @@ returns c = rw (c.stop.ensures, c.in-Refused.is) (rooted_stop _ _ _)
 
 returns_2 : tie.Need-returns-in-Going
 returns_2 c =
-    let enum_told = c.enum_told-1 in
-    rw enum_told.given.1 refl
+    let enum_told = c.in-Going in
+    rw enum_told.is refl
 
 pub joined_at_spec : {M : Type 1} → statement M
 joined_at_spec = tie.close (tie.spec (λ c. search rules) (λ c κs. search rules) (λ c. search rules) returns returns_2)

@@ -13,8 +13,8 @@ unfolding Ieee.of_bits
 returns c =
     let gimbals-next = c.gimbals_next-e in
     let pyramid-known = c.pyramid_known-m in
-    let enum-told2 = c.enum_told-in-Going-1 in
-    rw (← pyramid_steps c.args.p c.args.u.now c.args.d c.args.dt c.args.k c.args.skew c.requires.1.0 gimbals-next.ensures pyramid-known.ensures, enum-told2.given.1, ← c.singularity_of.ensures, c.if-singularity_of-p.true) c.refuse_gimbals-then-singularity_of-p.ensures
+    let enum-told2 = c.in-Going in
+    rw (← pyramid_steps c.args.p c.args.u.now c.args.d c.args.dt c.args.k c.args.skew c.requires.1.0 gimbals-next.ensures pyramid-known.ensures, enum-told2.is, ← c.singularity_of.ensures, c.if-singularity_of-p.true) c.refuse_gimbals-then-singularity_of-p.ensures
 
 returns_2 : tie.Need-returns-in-Refused
 returns_2 c =
@@ -25,8 +25,8 @@ returns_3 : tie.Need-returns-else-singularity_of-p
 returns_3 c =
     let gimbals-next = c.gimbals_next-e in
     let pyramid-known = c.pyramid_known-m in
-    let enum-told2 = c.enum_told-in-Going-1 in
-    rw (← pyramid_steps c.args.p c.args.u.now c.args.d c.args.dt c.args.k c.args.skew c.requires.1.0 gimbals-next.ensures pyramid-known.ensures, enum-told2.given.1, ← c.singularity_of.ensures, c.if-singularity_of-p.false)
+    let enum-told2 = c.in-Going in
+    rw (← pyramid_steps c.args.p c.args.u.now c.args.d c.args.dt c.args.k c.args.skew c.requires.1.0 gimbals-next.ensures pyramid-known.ensures, enum-told2.is, ← c.singularity_of.ensures, c.if-singularity_of-p.false)
 
 pub step_pyramid_spec : {M : Type 1} → statement M
 step_pyramid_spec =

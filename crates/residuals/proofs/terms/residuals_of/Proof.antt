@@ -25,9 +25,9 @@ returns c = c.refused_residuals.ensures ∙ told_refused _ _ _ _ c.run_into-w.en
 
 returns_2 : tie.Need-returns-in-Going
 returns_2 c =
-    let enum_told = c.enum_told-1 in
+    let enum_told = c.in-Going in
     let target-of = c.target_of in
-    rw (c.of_rows.ensures, target-of.ensures) (told_going _ _ _ _ c.run_into-w.ensures.0 enum_told.given.1)
+    rw (c.of_rows.ensures, target-of.ensures) (told_going _ _ _ _ c.run_into-w.ensures.0 enum_told.is)
 
 pub residuals_of_spec : {M : Type 1} → statement M
 residuals_of_spec =

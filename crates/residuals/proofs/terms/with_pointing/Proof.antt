@@ -21,10 +21,10 @@ closing-requires c κs = let pre = c.requires in (omega arith, (pre.0, pre.1.0))
 returns_2 : tie.Need-returns
 unfolding Ieee.of_bits
 returns_2 c =
-    let enum_told = c.enum_told-1 in
+    let enum_told = c.in-Going in
     let root = c.sqrt-scale.ensures in
     rw (c.closing.ensures, c.put3.ensures, c.scale3.ensures, root)
-    (with_going _ _ _ _ _ c.args.error (rw root at (rw enum_told.given.1 at c.pointed-fate.ensures)) c.requires.1.1.end)
+    (with_going _ _ _ _ _ c.args.error (rw root at (rw enum_told.is at c.pointed-fate.ensures)) c.requires.1.1.end)
 
 pub with_pointing_spec : {M : Type 1} → statement M
 with_pointing_spec =

@@ -79,7 +79,7 @@ returns_2 c =
 
 returns_3 : tie.Need-returns-in-Going
 returns_3 c =
-    let enum_told = c.enum_told-1 in
+    let enum_told = c.in-Going in
     let gather = c.gather in
     let r = c.before.before.before.before.before.before.before.before.before.before.before in
     let a = (start r).args in
@@ -87,7 +87,7 @@ returns_3 c =
     let gathered = rw (run r) at gather.ensures in
     let put = rw c.kept-in-Going.ensures at c.put_column-in-Going.ensures in (
       (
-        sym enum_told.given.1 ∙ ap (λ (x : ResidualVector). x.fate) (run r),
+        sym enum_told.is ∙ ap (λ (x : ResidualVector). x.fate) (run r),
         λ r0 g z. column_stands put (slopes_kept a.m _ r0 _ _ (width_laid a.p em) gathered g (width_zeros a.p (perturb a.p a.z.now a.c) em) z),
       ),
       c.residuals_sharing-e.ensures.1,

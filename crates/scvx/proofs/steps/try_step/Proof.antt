@@ -26,9 +26,9 @@ returns_2 c =
     let trial-of = c.trial_of-t in
     let residuals-of = c.residuals_of-e in
     let count_runs = c.count_runs-s1 in
-    let enum_told = c.enum_told-1 in
+    let enum_told = c.in-Going in
     let sizes = c.requires.0 in
-    let goes = enum_told.given.1 in
+    let goes = enum_told.is in
     let t = c.judge.ensures in (
       rw (← trial-of.ensures.0, ← trial-of.ensures.1, ← residuals-of.ensures, goes) (rw (c.with_state-in-Going.ensures, count_runs.ensures, c.trial_candidate.ensures, sizes.m_is) at t.0),
       λ j a h. t.1 c.args.p (rw c.trial_candidate.ensures (known_of _ residuals-of.ensures goes sizes.m_is refl)) j a (rw (c.with_state-in-Going.ensures, count_runs.ensures) h),
