@@ -12,7 +12,7 @@ use Rattle.control_limits.proofs.project_parts.Tie as tie
 hold-part-requires-3 : tie.Need-hold_part-requires-3
 hold-part-requires-3 c κs =
     let m = fewer_most c.gimbals.result (length c.args.u.now - (c.args.r.wheel_count + c.args.r.thruster_count)) in
-    (omega (arith, c.gimbals.ensures), omega arith)
+    (omega (arith, c.gimbals.ensures), omega (arith, m, c.fewer-n.ensures, c.gimbals.ensures))
 
 returns : tie.Need-returns
 returns c =

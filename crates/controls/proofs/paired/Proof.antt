@@ -14,7 +14,7 @@ returns c = (rw (lt-leb _ _ c.if-wheel_count-gt-MAX_WHEELS.true), (search rules,
 returns_2 : tie.Need-returns
 unfolding Controls.paired
 returns_2 c =
-    (rw (c.fewer.ensures, le-leb _ _ c.if-wheel_count-gt-MAX_WHEELS.false), (omega arith, omega arith))
+    (rw (c.fewer.ensures, le-leb _ _ c.if-wheel_count-gt-MAX_WHEELS.false), (omega (arith, c.fewer.ensures), omega (arith, c.fewer.ensures)))
 
 pub paired_spec : {M : Type 1} → statement M
 paired_spec = tie.close (tie.spec returns (λ c κs. search rules) returns_2)

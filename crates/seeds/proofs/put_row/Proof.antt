@@ -18,13 +18,13 @@ loop-again : tie.Need-loop-i-preserved invariant_loop decreases_loop
 loop-again c =
     let l = c.loop-i in
     let s = c.before.before in
-    let e : length c.args.t2 ≡ 20 = s.well_formed.1.0.1.0.1 in
-    (omega arith, (simp length-set (omega arith), taken_more l.row c.args.t2 l.i (omega arith) (omega arith) l.invariant.1.1))
+    let e : length c.args.u ≡ 20 = search rules in
+    (omega arith, (simp length-set (omega arith), taken_more l.row c.args.u l.i (omega arith) (omega arith) l.invariant.1.1))
 
 returns : tie.Need-returns invariant_loop decreases_loop
 returns c =
     let l = c.loop-i in
-    taken_all l.row c.args.t2 l.i (length c.args.row.now) (omega arith) (omega arith) l.invariant.1.1
+    taken_all l.row c.args.u l.i (length c.args.row.now) (omega arith) (omega arith) l.invariant.1.1
 
 pub put_row_spec : {M : Type 1} → statement M
 put_row_spec =

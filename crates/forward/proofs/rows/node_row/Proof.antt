@@ -9,7 +9,7 @@ use Rattle.forward.proofs.rows.node_row.Tie as tie
 returns : tie.Need-returns
 returns c =
     let w : length c.args.s.w ≡ 3 = search rules in
-    let u : length c.args.t4 ≡ 3 = search rules in
+    let u : length c.args.tau ≡ 3 = search rules in
     let h : length c.args.s.h ≡ 3 = search rules in
     let m : length c.args.s.hw ≡ 8 = search rules in
     numbers_node _ _ _ _ w u h m

@@ -22,6 +22,7 @@ use native.Mathlib.Omega.{arith}
 use borrow.Author.Rules.{rules}
 use Rattle.forward.proofs.runs.steps_on.Statement.{statement}
 use Rattle.forward.proofs.runs.steps_on.Tie as tie
+use Rattle.forward.proofs.runs.steps_on.Lts.{then-k-i, else-k-i}
 
 abbrev invariant_loop : tie.invariant-loop-i
 invariant_loop r wheels powers thrusters f skew lut n z k end c nodes₀ dt s₀ l₀ length₀ square₀ i₀ nodes s l long square i =
@@ -108,20 +109,20 @@ loop-again c =
     let g = v.1.1.0 in
     let a = next-dynamics.ensures in
     let e = c.exp_at-turned.ensures in
-    ⊎_elim
-    (λ w. rw (w.10, w.11, w.12, nodes_set) (
+    elim c.if-k-i.branch [
+      then-k-i w ↦ rw (w.nodes-is, w.s-is, w.square-is, nodes_set) (
       (omega (arith, o.0), omega (arith, h)),
       (
-        (below_set c.args.k c.args.nodes.now lp.nodes (lp.i - 1) w.8.result (omega (arith, w.0.taken)) o.1.0.0, length-set lp.nodes (lp.i - 1) w.8.result ∙ o.1.0.1),
+        (below_set c.args.k c.args.nodes.now lp.nodes (lp.i - 1) w.node_row-row.result (omega (arith, w.if-k-i.true)) o.1.0.0, length-set lp.nodes (lp.i - 1) w.node_row-row.result ∙ o.1.0.1),
         (
-          rollout_next (Runs.rollout_turn _ _ _) _ _ _ w.0.taken v.0
-              (one_turn _ _ _ _ _ _ _ (pipelined_step _ _ _ _ _ _ g w.0.taken h (attitude_by_length _ _ _ w.2.ensures e (v.1.1.1 w.0.taken)) w.3.ensures) w.8.ensures w.9.ensures.1 w.5.given.1),
-          (w.9.ensures.0, (pipelined_next _ _ _ _ _ _ g a w.0.taken h (attitude_by_length _ _ _ w.2.ensures e (v.1.1.1 w.0.taken)) w.3.ensures w.5.given.1, λ y. c.norm3-length.ensures)),
+          rollout_next (Runs.rollout_turn _ _ _) _ _ _ w.if-k-i.true v.0
+              (one_turn _ _ _ _ _ _ _ (pipelined_step _ _ _ _ _ _ g w.if-k-i.true h (attitude_by_length _ _ _ w.attitude.ensures e (v.1.1.1 w.if-k-i.true)) w.join-g.ensures) w.node_row-row.ensures w.larger_square-square.ensures.1 w.in-Going.is),
+          (w.larger_square-square.ensures.0, (pipelined_next _ _ _ _ _ _ g a w.if-k-i.true h (attitude_by_length _ _ _ w.attitude.ensures e (v.1.1.1 w.if-k-i.true)) w.join-g.ensures w.in-Going.is, λ y. c.norm3-length.ensures)),
         ),
       ),
-    ))
-    (λ w. rw (w.1, w.2, w.3) ((omega (arith, o.0), omega (arith, h)), (o.1.0, (rollout_waits _ _ _ _ (omega (arith, o.0)) v.0, (v.1.0, (pipelined_first _ _ _ _ _ _ g a (omega (arith, o.0)), λ y. c.norm3-length.ensures))))))
-    c.if-k-i.branch
+    )
+      | else-k-i w ↦ rw (w.nodes-is, w.s-is, w.square-is) ((omega (arith, o.0), omega (arith, h)), (o.1.0, (rollout_waits _ _ _ _ (omega (arith, o.0)) v.0, (v.1.0, (pipelined_first _ _ _ _ _ _ g a (omega (arith, o.0)), λ y. c.norm3-length.ensures)))))
+    ]
 
 returns_2 : tie.Need-returns invariant_loop decreases_loop
 returns_2 c =

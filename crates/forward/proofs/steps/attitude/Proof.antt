@@ -9,14 +9,12 @@ returns c = rw c.in_default.is refl
 
 returns_2 : tie.Need-returns-in_default-normalized
 returns_2 c =
-    let turned = c.turned-1 in
-    rw (turned.given.1, ← c.mul.ensures, ← c.normalized.ensures, c.in_default-normalized.is) refl
+    rw (c.in-Is.is, ← c.mul.ensures, ← c.normalized.ensures, c.in_default-normalized.is) refl
 
 returns_3 : tie.Need-returns
 returns_3 c =
-    let turned = c.turned-1 in
     let mul = c.mul in
-    rw (turned.given.1, ← mul.ensures, ← c.normalized.ensures, c.in-Is-normalized.is) refl
+    rw (c.in-Is.is, ← mul.ensures, ← c.normalized.ensures, c.in-Is-normalized.is) refl
 
 pub attitude_spec : {M : Type 1} → statement M
 attitude_spec =

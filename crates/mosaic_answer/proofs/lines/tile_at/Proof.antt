@@ -9,7 +9,7 @@ use Rattle.mosaic_answer.proofs.lines.tile_at.Tie as tie
 
 returns_2 : tie.Need-returns
 unfolding Ieee.div Ieee.of_bits
-returns_2 c = sym (get_or-eq_default c.args.t1 _ (omega arith))
+returns_2 c = sym (get_or-eq_default c.args.tiles _ (omega arith))
 
 pub tile_at_spec : {M : Type 1} → statement M
 tile_at_spec = tie.close (tie.spec (search rules) (search rules) (search rules) returns_2)
