@@ -11,8 +11,10 @@ use Rattle.control_limits.proofs.project_parts.Tie as tie
 
 hold-part-requires-3 : tie.Need-hold_part-requires-3
 hold-part-requires-3 c κs =
+    let f = c.fewer-n.ensures in
     let m = fewer_most c.gimbals.result (length c.args.u.now - (c.args.r.wheel_count + c.args.r.thruster_count)) in
-    (omega (arith, c.gimbals.ensures), omega (arith, m, c.fewer-n.ensures, c.gimbals.ensures))
+    let g = gimbals_most c.args.r.cmgs in
+    (omega (arith, c.gimbals.ensures), omega arith)
 
 returns : tie.Need-returns
 returns c =

@@ -14,7 +14,8 @@ returns c = (rw (lt-leb _ _ c.if-wheel_count-gt-MAX_WHEELS.true), (search rules,
 returns_2 : tie.Need-returns
 unfolding Controls.paired
 returns_2 c =
-    (rw (c.fewer.ensures, le-leb _ _ c.if-wheel_count-gt-MAX_WHEELS.false), (omega (arith, c.fewer.ensures), omega (arith, c.fewer.ensures)))
+    let m = fewer_most c.args.wheel_count c.args.n in
+    (rw (c.fewer.ensures, le-leb _ _ c.if-wheel_count-gt-MAX_WHEELS.false), (omega arith, omega arith))
 
 pub paired_spec : {M : Type 1} → statement M
 paired_spec = tie.close (tie.spec returns (λ c κs. search rules) returns_2)

@@ -14,6 +14,8 @@ add-result-2 c = omega (arith, numbers_most c.args.p c.requires, width_most c.ar
 
 mul-result : tie.Need-overflow_mul-result
 mul-result c =
+    let n = numbers_most c.args.p c.requires in
+    let m = width_most c.args.p in
     omega (arith, product_most c.numbers-n.result c.width-m.result (omega arith) (omega arith))
 
 mul-result-2 : tie.Need-overflow_mul-result-2
@@ -21,6 +23,8 @@ mul-result-2 c = omega (arith, width_most c.args.p)
 
 add-result-3 : tie.Need-overflow_add-result-3
 add-result-3 c =
+    let n = numbers_most c.args.p c.requires in
+    let m = width_most c.args.p in
     omega (arith, product_most c.numbers-n.result c.width-m.result (omega arith) (omega arith))
 
 returns : tie.Need-returns

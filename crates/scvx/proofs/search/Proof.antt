@@ -14,7 +14,7 @@ use Rattle.scvx.proofs.search.Tie as tie
 
 start-requires : tie.Need-start-requires
 start-requires c κs =
-    omega (arith, c.width-m.ensures)
+    let w = width_most c.args.p in omega (arith, c.width-m.ensures)
 
 turns-requires : tie.Need-turns-requires
 turns-requires c κs =
@@ -27,8 +27,10 @@ turns-requires c κs =
 
 conclude-requires : tie.Need-conclude-requires
 conclude-requires c κs =
+    let n = numbers_most c.args.p c.requires.1 in
     let one : c.start.result.state.runs ≡ 1 = ap (λ (x : Progress). x.state.runs) c.start.ensures in
     let q = ap (λ (x : SearchState). x.runs) c.turns.ensures in
+    let most = turns_le c.args.p c.start.result.state 40 in
     (c.requires.0, (c.requires.1, omega arith))
 
 returns : tie.Need-returns-in-Refused

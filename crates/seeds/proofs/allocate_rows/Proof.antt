@@ -45,7 +45,9 @@ part-out-end c =
 put-row-requires : tie.Need-put_row-requires invariant_loop decreases_loop
 put-row-requires c κs =
     let n = c.args.n in
+    let h = c.requires.1.0 in
     let l = c.loop-k in
+    let r = room l.k n (omega arith) h in
     omega (arith, length_slice l.out (1 + l.k * n) (1 + l.k * n + n) (omega arith))
 
 loop-again : tie.Need-loop-k-preserved invariant_loop decreases_loop
@@ -53,6 +55,7 @@ loop-again c =
     let n = c.args.n in
     let l = c.loop-k in
     let f = c.put_row in
+    let r = room l.k n (omega arith) c.requires.1.0 in
     let g = length_slice l.out (1 + l.k * n) (1 + l.k * n + n) (omega arith) in
     let e : 1 + l.k * n + n - (1 + l.k * n) ≡ n = omega arith in
     (omega arith, (length_pasted l.out f.new.row (1 + l.k * n) (1 + l.k * n + n) (omega arith) (omega arith) f.auto.row ∙ l.invariant.1.0, iter_next _ _ _ l.invariant.1.1 (rw (← c.requires.0, f.ensures, g, e, c.row_of-u.ensures))))

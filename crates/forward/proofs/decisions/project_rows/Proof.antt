@@ -38,10 +38,11 @@ part-out-end c = omega (arith, row_end c.loop-k.k 16 c.args.n (search rules), c.
 loop-again : tie.Need-loop-k-preserved invariant_loop decreases_loop
 loop-again c =
     let d = c.args.n in
+    let h = c.requires.1 in
     let l = c.loop-k in
     let f = c.project_controls in
-    let below = row_end l.k 16 d (search rules) in
-    (search rules, (length_pasted l.out f.new.u (1 + l.k * d) (1 + l.k * d + d) (omega arith) (omega (arith, below, c.requires.1, l.invariant.1.0)) f.auto.u ∙ l.invariant.1.0, iter_next _ _ _ l.invariant.1.1 (rw (← c.requires.0, f.ensures))))
+    let r = row_end l.k 16 d (omega arith) in
+    (search rules, (length_pasted l.out f.new.u (1 + l.k * d) (1 + l.k * d + d) (omega arith) (omega arith) f.auto.u ∙ l.invariant.1.0, iter_next _ _ _ l.invariant.1.1 (rw (← c.requires.0, f.ensures))))
 
 returns : tie.Need-returns invariant_loop decreases_loop
 returns c = let e : c.loop-k.k ≡ 16 = omega arith in rw (← e) c.loop-k.invariant.1.1

@@ -13,22 +13,22 @@ use Rattle.residuals.proofs.terms.of_rows.Tie as tie
 with-pointing-requires : tie.Need-with_pointing-requires
 unfolding Ieee.of_bits
 with-pointing-requires c κs =
-    let error = c.error-1 in
+    let error = c.in-By in
     let a = c.args in
     let pre = c.requires in
     let e = c.error_in-error.ensures ∙ error_row a.nodes.now a.t.qf 16 (omega (arith, pre.1.sums.long)) in
-    (pre.0, (pre.1.sums, record { kept = pre.1.kept c.if-weights.true; end = sym error.given.1 ∙ e }))
+    (pre.0, (pre.1.sums, record { kept = pre.1.kept c.if-weights.true; end = sym error.is ∙ e }))
 
 returns : tie.Need-returns-then-weights
 unfolding Residuals.of_nodes Ieee.of_bits node_from
 returns c =
-    let error = c.error-1 in
+    let error = c.in-By in
     let rate-in = c.rate_in in
     let ends = c.ends-r in
     let a = c.args in
     let long = c.requires.1.sums.long in
     let e = c.error_in-error.ensures ∙ error_row a.nodes.now a.t.qf 16 (omega (arith, long)) in
-    rw (← e, error.given.1, c.if-weights.true, c.with_pointing.ensures, ends.ensures, rate-in.ensures, nodes_at a.nodes.now 16 (omega (arith, long)))
+    rw (← e, error.is, c.if-weights.true, c.with_pointing.ensures, ends.ensures, rate-in.ensures, nodes_at a.nodes.now 16 (omega (arith, long)))
 
 returns_2 : tie.Need-returns-in-Outside
 unfolding Residuals.of_nodes
@@ -40,13 +40,13 @@ returns_2 c =
 returns_3 : tie.Need-returns-else-weights
 unfolding Residuals.of_nodes Ieee.of_bits node_from
 returns_3 c =
-    let error = c.error-1 in
+    let error = c.in-By in
     let rate-in = c.rate_in in
     let ends = c.ends-r in
     let a = c.args in
     let long = c.requires.1.sums.long in
     let e = c.error_in-error.ensures ∙ error_row a.nodes.now a.t.qf 16 (omega (arith, long)) in
-    rw (← e, error.given.1, c.if-weights.false, c.without_pointing.ensures, ends.ensures, rate-in.ensures, nodes_at a.nodes.now 16 (omega (arith, long)))
+    rw (← e, error.is, c.if-weights.false, c.without_pointing.ensures, ends.ensures, rate-in.ensures, nodes_at a.nodes.now 16 (omega (arith, long)))
 
 pub of_rows_spec : {M : Type 1} → statement M
 of_rows_spec =

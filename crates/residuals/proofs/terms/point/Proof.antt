@@ -8,8 +8,8 @@ returns c = rw c.in-Outside.is
 
 returns_2 : tie.Need-returns-in-By
 returns_2 c =
-    let error = c.error-1 in
-    rw (error.given.1, c.put3.ensures, c.scale3.ensures)
+    let error = c.in-By in
+    rw (error.is, c.put3.ensures, c.scale3.ensures)
 
 pub point_spec : {M : Type 1} → statement M
 point_spec =

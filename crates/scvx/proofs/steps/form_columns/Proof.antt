@@ -15,6 +15,7 @@ jacobian-requires c κs = let h = c.requires in (h.0, (known_zeros h.1.1.known h
 
 count-runs-requires : tie.Need-count_runs-requires
 count-runs-requires c κs =
+    let b = broken_le _ _ _ (rw c.in-Broken.is at c.jacobian-j.ensures.0) in
     omega (arith, c.requires.0.n_is, c.requires.0.n_most, c.requires.1.0)
 
 sum-columns-requires : tie.Need-sum_columns-requires
