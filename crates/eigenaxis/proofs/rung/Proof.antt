@@ -10,7 +10,7 @@ returns : tie.Need-returns-then-not-seeding
 returns c =
     let z = c.seed_at-seeding in
     let t = c.args.t in
-    (c.passed.ensures ∙ rung_over _ _ _ _ t z.ensures (c.if-not-seeding.true), keeps_over _ _ _ t c.passed.ensures)
+    (c.passed.ensures ∙ rung_over _ _ _ _ t z.ensures (not-true z.result.fits c.if-not-seeding.true), keeps_over _ _ _ t c.passed.ensures)
 
 returns_2 : tie.Need-returns-in-Refused
 returns_2 c =
@@ -19,7 +19,7 @@ returns_2 c =
     let z = c.seed_at-seeding in
     let e = tried.ensures in
     let t = c.args.t in
-    (c.passed-in-Refused.ensures ∙ rung_refused _ _ _ _ t z.ensures (if1.false) e.0.0 c.in-Refused.is, keeps_refused _ _ _ t _ c.passed-in-Refused.ensures e.1.0)
+    (c.passed-in-Refused.ensures ∙ rung_refused _ _ _ _ t z.ensures (not-false z.result.fits if1.false) e.0.0 c.in-Refused.is, keeps_refused _ _ _ t _ c.passed-in-Refused.ensures e.1.0)
 
 returns_3 : tie.Need-returns-in-Going
 returns_3 c =
@@ -28,7 +28,7 @@ returns_3 c =
     let z = c.seed_at-seeding in
     let e = tried.ensures in
     let t = c.args.t in
-    (c.reached.ensures ∙ rung_reached _ _ _ _ t z.ensures (if1.false) e.0.0 c.in-Going.is, keeps_reached _ _ _ t _ c.reached.ensures e.1.0 z.ensures e.1.1)
+    (c.reached.ensures ∙ rung_reached _ _ _ _ t z.ensures (not-false z.result.fits if1.false) e.0.0 c.in-Going.is, keeps_reached _ _ _ t _ c.reached.ensures e.1.0 z.ensures e.1.1)
 
 pub rung_spec : {M : Type 1} → statement M
 rung_spec = tie.close (tie.spec (λ c κs. search rules) (λ c κs. search rules) returns (λ c κs. search rules) (λ c. search rules) (λ c κs. search rules) (λ c. search rules) (λ c κs. search rules) (λ c. search rules) returns_2 (λ c. search rules) returns_3)
