@@ -110,17 +110,17 @@ loop-again c =
     let a = next-dynamics.ensures in
     let e = c.exp_at-turned.ensures in
     elim c.if-k-i.branch [
-      then-k-i w ↦ rw (w.nodes-is, w.s-is, w.square-is, nodes_set) (
-      (omega (arith, o.0), omega (arith, h)),
-      (
-        (below_set c.args.k c.args.nodes.now lp.nodes (lp.i - 1) w.node_row-row.result (omega (arith, w.if-k-i.true)) o.1.0.0, length-set lp.nodes (lp.i - 1) w.node_row-row.result ∙ o.1.0.1),
+      | then-k-i w ↦ rw (w.nodes-is, w.s-is, w.square-is, nodes_set) (
+        (omega (arith, o.0), omega (arith, h)),
         (
-          rollout_next (Runs.rollout_turn _ _ _) _ _ _ w.if-k-i.true v.0
-              (one_turn _ _ _ _ _ _ _ (pipelined_step _ _ _ _ _ _ g w.if-k-i.true h (attitude_by_length _ _ _ w.attitude.ensures e (v.1.1.1 w.if-k-i.true)) w.join-g.ensures) w.node_row-row.ensures w.larger_square-square.ensures.1 w.in-Going.is),
-          (w.larger_square-square.ensures.0, (pipelined_next _ _ _ _ _ _ g a w.if-k-i.true h (attitude_by_length _ _ _ w.attitude.ensures e (v.1.1.1 w.if-k-i.true)) w.join-g.ensures w.in-Going.is, λ y. c.norm3-length.ensures)),
+          (below_set c.args.k c.args.nodes.now lp.nodes (lp.i - 1) w.node_row-row.result (omega (arith, w.if-k-i.true)) o.1.0.0, length-set lp.nodes (lp.i - 1) w.node_row-row.result ∙ o.1.0.1),
+          (
+            rollout_next (Runs.rollout_turn _ _ _) _ _ _ w.if-k-i.true v.0
+                (one_turn _ _ _ _ _ _ _ (pipelined_step _ _ _ _ _ _ g w.if-k-i.true h (attitude_by_length _ _ _ w.attitude.ensures e (v.1.1.1 w.if-k-i.true)) w.join-g.ensures) w.node_row-row.ensures w.larger_square-square.ensures.1 w.in-Going.is),
+            (w.larger_square-square.ensures.0, (pipelined_next _ _ _ _ _ _ g a w.if-k-i.true h (attitude_by_length _ _ _ w.attitude.ensures e (v.1.1.1 w.if-k-i.true)) w.join-g.ensures w.in-Going.is, λ y. c.norm3-length.ensures)),
+          ),
         ),
-      ),
-    )
+      )
       | else-k-i w ↦ rw (w.nodes-is, w.s-is, w.square-is) ((omega (arith, o.0), omega (arith, h)), (o.1.0, (rollout_waits _ _ _ _ (omega (arith, o.0)) v.0, (v.1.0, (pipelined_first _ _ _ _ _ _ g a (omega (arith, o.0)), λ y. c.norm3-length.ensures)))))
     ]
 

@@ -74,8 +74,8 @@ visit-returns-then-turn-clause-result_after t c =
     let i = c.loop-after.invariant in
     let l : get_or c.args.after.now c.loop-after.low 0 < c.args.n = rw i.2 at c.loop-after-test.true in
     shut _ _ _ _ _ _ _ _ (get_or c.args.after.now c.loop-after.low 0 + 1) (omega (arith, l))
-        (past_link _ _ _ _ _ _ _ _ c.args.after.now c.requires.links c.loop-after.low i.0 i.3 refl i.1 i.2 c.if-turn.true c.turn.ensures.result_after) refl
-        ∙ sym (visit_some _ _ _ _ _ _ _ _ (omega arith))
+    (past_link _ _ _ _ _ _ _ _ c.args.after.now c.requires.links c.loop-after.low i.0 i.3 refl i.1 i.2 c.if-turn.true c.turn.ensures.result_after) refl
+    ∙ sym (visit_some _ _ _ _ _ _ _ _ (omega arith))
 
 pub visit-loop-after-preserved : goal.visit-loop-after-preserved
 visit-loop-after-preserved t c =
