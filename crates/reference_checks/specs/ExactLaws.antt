@@ -10,7 +10,8 @@ use Rattle.common.specs.Floats.{plus_zero}
 use Rattle.float.specs.Ops.{abs}
 use Rattle.float_laws.specs.Signs.{plus, above_zero_plus}
 use Rattle.float_laws.specs.Finite.{le_finite}
-use Rattle.float.specs.Exact.{mag, exact}
+use Rattle.float_laws.specs.Place.{mag}
+use Rattle.float_laws.specs.Exact.{exact}
 use Rattle.geom.specs.Vec.{is_positive_value}
 use Rattle.reference_checks.specs.Checks as Checks
 use Rattle.reference_checks.specs.Promises.{AtMost}

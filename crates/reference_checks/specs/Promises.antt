@@ -8,7 +8,7 @@ use Rattle.common.specs.declared.Fate.{Fate}
 use Rattle.common.specs.declared.Fate.TheVariants.{Going, Refused}
 use Rattle.common.specs.declared.Limit.TheVariants.{At}
 use Rattle.float.specs.Ops.{abs}
-use Rattle.float.specs.Exact.{exact}
+use Rattle.float_laws.specs.Exact.{exact}
 use Rattle.geom.specs.Quats.{norm3}
 use Rattle.geom.specs.declared.Quat.{Quat}
 use Rattle.geom.specs.declared.Rotation.TheVariants as Rotation
