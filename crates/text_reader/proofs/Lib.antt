@@ -1,2 +1,1 @@
 -- What the walks share.
-pub mod Held

@@ -11,15 +11,11 @@ returns c = simp c.in-Refused.is
 
 returns_2 : tie.Need-returns-then-row-actuators
 unfolding judge_count
-returns_2 c =
-    let enum-told2 = c.enum_told-in-Going-1 in
-    simp (enum-told2.given.1, eq-eqb _ _ c.if-row-actuators.true)
+returns_2 c = simp (c.in-Going.is, eq-eqb _ _ c.if-row-actuators.true)
 
 returns_3 : tie.Need-returns-else-row-actuators
 unfolding judge_count
-returns_3 c =
-    let enum-told2 = c.enum_told-in-Going-1 in
-    simp (enum-told2.given.1, ne_eqb _ _ c.if-row-actuators.false) c.nothing.ensures
+returns_3 c = simp (c.in-Going.is, ne_eqb _ _ c.if-row-actuators.false) c.nothing.ensures
 
 pub judge_count_spec : {M : Type 1} → statement M
 judge_count_spec = tie.close (tie.spec (search rules) (search rules) (search rules) (search rules) returns returns_2 returns_3)

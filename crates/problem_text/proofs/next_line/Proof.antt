@@ -10,7 +10,7 @@ returns c = simp c.in-Refused.is
 
 returns_2 : tie.Need-returns-in-Going
 unfolding next_line
-returns_2 c = simp c.in-Going.is (rw c.before.line_at_lem.ensures at c.with_row.ensures)
+returns_2 c = simp c.in-Going.is (rw c.line_at.ensures at c.with_row.ensures)
 
 pub next_line_spec : {M : Type 1} → statement M
 next_line_spec = tie.close (tie.spec (search rules) (search rules) (search rules) (search rules) returns returns_2)

@@ -23,7 +23,7 @@ returns_3 c =
     let at-put-heading = at-put-rows.before.before.before.before.before in
     let at-if2 = at-put-heading.before.before in
     let at-if1 = at-if2.before in
-    simp (le-leb _ _ at-if1.if-controls-gt12.false, le-leb _ _ at-if2.if-wheels-gt8.false) (puts_join (puts_join (puts_join at-put-heading.put_heading-i.ensures at-put-rows.put_rows-j.ensures) at-put-nodes.put_nodes-k.ensures) at-put-all.put_all_lem.ensures)
+    simp (le-leb _ _ at-if1.if-controls-gt12.false, le-leb _ _ at-if2.if-wheels-gt8.false) (puts_join (puts_join (puts_join at-put-heading.put_heading-i.ensures at-put-rows.put_rows-j.ensures) at-put-nodes.put_nodes-k.ensures) at-put-all.put_all.ensures)
 
 pub write_path_spec : {M : Type 1} → statement M
 write_path_spec =

@@ -13,7 +13,7 @@ returns c =
     let at-put-counted2 = at-put-counted3.before.before.before.before.before in
     let at-put-counted = at-put-counted2.before.before.before.before.before in
     let at-put-all = at-put-counted.before.before.before.before.before in
-    puts_join (puts_join (puts_join (puts_join at-put-all.put_all_lem.ensures at-put-counted.put_counted-j.ensures) at-put-counted2.put_counted-k.ensures) at-put-counted3.put_counted-l.ensures) at-put-all2.put_all.ensures
+    puts_join (puts_join (puts_join (puts_join at-put-all.put_all-i.ensures at-put-counted.put_counted-j.ensures) at-put-counted2.put_counted-k.ensures) at-put-counted3.put_counted-l.ensures) at-put-all2.put_all.ensures
 
 pub write_refused_spec : {M : Type 1} → statement M
 write_refused_spec =

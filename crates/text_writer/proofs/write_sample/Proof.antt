@@ -12,7 +12,7 @@ returns c =
     let at-put-words = at-put-all2.before.before.before.before.before in
     let at-state-of = at-put-words.before.before.before in
     let at-put-all = at-state-of.before.before.before in
-    puts_join (puts_join at-put-all.put_all_lem.ensures (rw at-state-of.state_of-state.ensures at at-put-words.put_words-j.ensures)) at-put-all2.put_all.ensures
+    puts_join (puts_join at-put-all.put_all-i.ensures (rw at-state-of.state_of-state.ensures at at-put-words.put_words-j.ensures)) at-put-all2.put_all.ensures
 
 pub write_sample_spec : {M : Type 1} → statement M
 write_sample_spec =

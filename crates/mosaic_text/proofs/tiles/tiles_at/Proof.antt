@@ -24,12 +24,12 @@ loop-holds c = (omega arith, rw c.no_tile-tile.ensures (iter_none _ _), omega ar
 returns : tie.Need-returns-then-not-c invariant_loop decreases_loop
 returns c =
     let l = c.loop-k in
-    tiles_early _ _ l.c l.k l.invariant.1 (omega arith) (c.if-not-c.true)
+    tiles_early _ _ l.c l.k l.invariant.1 (omega arith) (not-true _ c.if-not-c.true)
 
 loop-again : tie.Need-loop-k-preserved invariant_loop decreases_loop
 loop-again c =
     let l = c.loop-k in
-    (omega arith, iter_next _ _ l.k l.invariant.1 (turn_goes _ l.k _ _ (c.if-not-c.false) c.next_line-c.ensures), rw c.next_line-c.ensures (tiles_low _ _ _ l.invariant.2))
+    (omega arith, iter_next _ _ l.k l.invariant.1 (turn_goes _ l.k _ _ (not-false _ c.if-not-c.false) c.next_line-c.ensures), rw c.next_line-c.ensures (tiles_low _ _ _ l.invariant.2))
 
 returns_2 : tie.Need-returns invariant_loop decreases_loop
 returns_2 c = let l = c.loop-k in tiles_whole _ _ l.c l.k l.invariant.1 (omega arith)

@@ -15,7 +15,7 @@ returns_2 c =
     let t = c.before in
     let w = t.before.before in
     let e = w.before in
-    budget_wrong _ (sym e.is_at.ensures.is ∙ e.if-not-is_at.false) w.word_at-w.ensures (t.if-not-w.true) c.wrong_word-then-not-w.ensures
+    budget_wrong _ (sym e.is_at.ensures.is ∙ e.if-not-is_at.false) w.word_at-w.ensures (not-true _ t.if-not-w.true) c.wrong_word-then-not-w.ensures
 
 returns_3 : tie.Need-returns-then-not-is_at-2
 returns_3 c =
@@ -24,7 +24,7 @@ returns_3 c =
     let o = a.before.before in
     let w = o.before.before in
     let e = w.before in
-    budget_unended _ (sym e.is_at.ensures.is ∙ e.if-not-is_at.false) w.word_at-w.ensures (o.if-not-w.false)
+    budget_unended _ (sym e.is_at.ensures.is ∙ e.if-not-is_at.false) w.word_at-w.ensures (not-false _ o.if-not-w.false)
     (sym a.is_at-2.ensures.is ∙ t.if-not-is_at-2.true) c.wrong_word-then-not-is_at-2.ensures
 
 returns-4 : tie.Need-returns
@@ -33,7 +33,7 @@ returns-4 c =
     let o = a.before.before in
     let w = o.before.before in
     let e = w.before in
-    budget_ended _ (sym e.is_at.ensures.is ∙ e.if-not-is_at.false) w.word_at-w.ensures (o.if-not-w.false)
+    budget_ended _ (sym e.is_at.ensures.is ∙ e.if-not-is_at.false) w.word_at-w.ensures (not-false _ o.if-not-w.false)
     (sym a.is_at-2.ensures.is ∙ c.if-not-is_at-2.false) (a.is_at-2.ensures.within (c.if-not-is_at-2.false))
 
 pub budget_at_spec : {M : Type 1} → statement M

@@ -16,7 +16,7 @@ returns_2 : tie.Need-returns-then-not-c
 returns_2 c =
     let r = c.before.before.before in
     let e = r.before in
-    line_wrong _ _ _ _ _ _ (sym e.is_at.ensures.is ∙ e.if-not-is_at.false) r.row_at-c.ensures (c.if-not-c.true)
+    line_wrong _ _ _ _ _ _ (sym e.is_at.ensures.is ∙ e.if-not-is_at.false) r.row_at-c.ensures (not-true _ c.if-not-c.true)
 
 returns_3 : tie.Need-returns-then-not-ends_at
 returns_3 c =
@@ -24,7 +24,7 @@ returns_3 c =
     let o = a.before in
     let r = o.before.before.before in
     let e = r.before in
-    line_unended _ _ _ _ _ _ (sym e.is_at.ensures.is ∙ e.if-not-is_at.false) r.row_at-c.ensures (o.if-not-c.false)
+    line_unended _ _ _ _ _ _ (sym e.is_at.ensures.is ∙ e.if-not-is_at.false) r.row_at-c.ensures (not-false _ o.if-not-c.false)
     (sym a.ends_at.ensures.is ∙ c.if-not-ends_at.true)
 
 -- a row that is ended lies within the text
@@ -39,7 +39,7 @@ returns-4 c =
     let o = a.before in
     let r = o.before.before.before in
     let e = r.before in
-    line_ended _ _ _ _ _ _ (sym e.is_at.ensures.is ∙ e.if-not-is_at.false) r.row_at-c.ensures (o.if-not-c.false)
+    line_ended _ _ _ _ _ _ (sym e.is_at.ensures.is ∙ e.if-not-is_at.false) r.row_at-c.ensures (not-false _ o.if-not-c.false)
     (sym a.ends_at.ensures.is ∙ x.if-not-ends_at.false) c.tail_length.ensures (inside c)
 
 pub line_at_spec : {M : Type 1} → statement M

@@ -5,14 +5,14 @@ use native.Mathlib.Omega.{arith}
 use Rattle.problem_text.proofs.listing.close_at.Statement.{statement}
 use Rattle.problem_text.proofs.listing.close_at.Tie as tie
 
-add-t13 : tie.Need-overflow-add-t13
+add-t13 : tie.Need-overflow_add-result-then-is_at
 add-t13 c = omega (arith, c.is_at.ensures.within c.if-is_at.true)
 
 returns : tie.Need-returns-then-is_at
 unfolding close_at
 returns c = simp (← c.is_at.ensures.is, c.if-is_at.true)
 
-add-end-at : tie.Need-overflow-add-end-at
+add-end-at : tie.Need-overflow_add-at
 add-end-at c = omega (arith, c.is_at-2.ensures.within c.if-is_at-2.true)
 
 returns_2 : tie.Need-returns-then-is_at-2
@@ -34,4 +34,4 @@ returns_3 c =
 pub close_at_spec : {M : Type 1} → statement M
 close_at_spec =
     tie.close
-    (tie.spec (λ c κs. search rules) (λ c. search rules) (λ c. search rules) returns (λ c κs. search rules) (λ c. search rules) (λ c κs. search rules) returns_2 (λ c κs. search rules) returns_3)
+    (tie.spec (λ c κs. search rules) (λ c. search rules) add-t13 returns (λ c κs. search rules) add-end-at (λ c κs. search rules) returns_2 (λ c κs. search rules) returns_3)

@@ -12,7 +12,7 @@ returns c =
     let no-actuators = c.no_actuators-none in
     simp (sym c.is_at.ensures.is ∙ c.if-not-is_at.true) (rw no-actuators.ensures at c.wrong_line.ensures)
 
-add-close-at : tie.Need-overflow-add-close-at
+add-close-at : tie.Need-overflow_add-at
 add-close-at c = omega (arith, c.is_at.ensures.within (c.if-not-is_at.false))
 
 returns_2 : tie.Need-returns
@@ -22,4 +22,4 @@ returns_2 c =
     simp (sym c.is_at.ensures.is ∙ c.if-not-is_at.false) (rw no-actuators.ensures at c.close_at.ensures)
 
 pub first_line_spec : {M : Type 1} → statement M
-first_line_spec = tie.close (tie.spec (λ c κs. search rules) (λ c κs. search rules) (λ c κs. search rules) returns (λ c. search rules) (λ c κs. search rules) returns_2)
+first_line_spec = tie.close (tie.spec (λ c κs. search rules) (λ c κs. search rules) (λ c κs. search rules) returns add-close-at (λ c κs. search rules) returns_2)

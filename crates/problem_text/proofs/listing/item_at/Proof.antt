@@ -6,18 +6,18 @@ use Rattle.problem_text.proofs.listing.item_at.Tie as tie
 
 returns : tie.Need-returns-then-wheel
 unfolding item_at
-returns c = simp (← c.before.line_at_lem.ensures, c.if-wheel.true)
+returns c = simp (← c.line_at-wheel.ensures, c.if-wheel.true)
 
 returns_2 : tie.Need-returns-then-thruster
 unfolding item_at
-returns_2 c = let none = c.before.before.before.before in simp (← none.before.line_at_lem.ensures, none.if-wheel.false, ← c.line_at-thruster.ensures, c.if-thruster.true)
+returns_2 c = let none = c.before.before.before.before in simp (← c.line_at-wheel.ensures, none.if-wheel.false, ← c.line_at-thruster.ensures, c.if-thruster.true)
 
 returns_3 : tie.Need-returns-then-pyramid
 unfolding item_at
 returns_3 c =
     let second = c.before.before.before.before in
     let none = second.before.before.before.before in
-    simp (← none.before.line_at_lem.ensures, none.if-wheel.false, ← second.line_at-thruster.ensures, second.if-thruster.false, ← c.line_at-pyramid.ensures, c.if-pyramid.true)
+    simp (← c.line_at-wheel.ensures, none.if-wheel.false, ← second.line_at-thruster.ensures, second.if-thruster.false, ← c.line_at-pyramid.ensures, c.if-pyramid.true)
 
 returns-4 : tie.Need-returns
 unfolding item_at
@@ -25,7 +25,7 @@ returns-4 c =
     let third = c.before in
     let second = third.before.before.before.before in
     let none = second.before.before.before.before in
-    simp (← none.before.line_at_lem.ensures, none.if-wheel.false, ← second.line_at-thruster.ensures, second.if-thruster.false, ← third.line_at-pyramid.ensures, third.if-pyramid.false, c.wrong_row.ensures)
+    simp (← c.line_at-wheel.ensures, none.if-wheel.false, ← second.line_at-thruster.ensures, second.if-thruster.false, ← third.line_at-pyramid.ensures, third.if-pyramid.false, c.wrong_row.ensures)
 
 pub item_at_spec : {M : Type 1} → statement M
 item_at_spec =

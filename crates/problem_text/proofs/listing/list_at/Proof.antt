@@ -29,12 +29,12 @@ loop-holds c = (omega arith, iter_none _ _, rw c.first_line-c.ensures (counts_fi
 returns_2 : tie.Need-returns-then-not-c invariant_loop decreases_loop
 returns_2 c =
     let l = c.before.before.before in
-    list_early _ _ _ l.loop-k.c l.loop-k.k l.first_line-c.ensures l.loop-k.invariant.1 l.if-s-gt4096.false (omega arith) (c.if-not-c.true)
+    list_early _ _ _ l.loop-k.c l.loop-k.k l.first_line-c.ensures l.loop-k.invariant.1 l.if-s-gt4096.false (omega arith) (not-true _ c.if-not-c.true)
 
 loop-again : tie.Need-loop-k-preserved invariant_loop decreases_loop
 loop-again c =
     let l = c.loop-k in
-    (omega arith, iter_next _ _ _ l.invariant.1 (turn_goes _ l.k _ _ (c.if-not-c.false) c.next_line-c.ensures), rw c.next_line-c.ensures (counts_next _ _ _ l.invariant.2))
+    (omega arith, iter_next _ _ _ l.invariant.1 (turn_goes _ l.k _ _ (not-false _ c.if-not-c.false) c.next_line-c.ensures), rw c.next_line-c.ensures (counts_next _ _ _ l.invariant.2))
 
 returns_3 : tie.Need-returns invariant_loop decreases_loop
 returns_3 c =

@@ -12,7 +12,7 @@ returns c =
     let at-put-all2 = c.before.before in
     let at-put-digits = at-put-all2.before.before.before.before.before in
     let at-put-all = at-put-digits.before.before.before.before in
-    puts_most (omega arith) (puts_join (puts_join at-put-all.put_all_lem.ensures at-put-digits.put_digits-j.ensures) at-put-all2.put_all.ensures)
+    puts_most (omega arith) (puts_join (puts_join at-put-all.put_all-i.ensures at-put-digits.put_digits-j.ensures) at-put-all2.put_all.ensures)
 
 pub put_counted_spec : {M : Type 1} → statement M
 put_counted_spec = tie.close (tie.spec (λ c κs. search rules) (λ c κs. search rules) (λ c κs. search rules) (λ c. search rules) returns)

@@ -11,7 +11,7 @@ returns c =
     let at-put-all2 = c.before.before in
     let at-put-word = at-put-all2.before.before.before.before.before in
     let at-put-all = at-put-word.before.before.before.before in
-    puts_join (puts_join at-put-all.put_all_lem.ensures at-put-word.put_word-j.ensures) at-put-all2.put_all.ensures
+    puts_join (puts_join at-put-all.put_all-i.ensures at-put-word.put_word-j.ensures) at-put-all2.put_all.ensures
 
 pub put_duration_spec : {M : Type 1} → statement M
 put_duration_spec = tie.close (tie.spec (λ c κs. search rules) (λ c κs. search rules) (λ c κs. search rules) (λ c. search rules) returns)

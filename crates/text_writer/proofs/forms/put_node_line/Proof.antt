@@ -14,7 +14,7 @@ returns c =
     let at-put-words2 = at-put-all2.before.before.before.before.before in
     let at-put-words = at-put-words2.before.before.before.before in
     let at-put-all = at-put-words.before.before.before.before in
-    puts_join (puts_join (puts_join at-put-all.put_all_lem.ensures at-put-words.put_words-j.ensures) at-put-words2.put_words-k.ensures) at-put-all2.put_all.ensures)
+    puts_join (puts_join (puts_join at-put-all.put_all-i.ensures at-put-words.put_words-j.ensures) at-put-words2.put_words-k.ensures) at-put-all2.put_all.ensures)
 
 pub put_node_line_spec : {M : Type 1} → statement M
 put_node_line_spec = tie.close (tie.spec (λ c κs. search rules) (λ c κs. search rules) (λ c κs. search rules) (λ c κs. search rules) (λ c. search rules) returns)

@@ -12,7 +12,7 @@ returns c =
     let at-put-all2 = c.before.before in
     let at-put-words = at-put-all2.before.before.before.before.before in
     let at-put-all = at-put-words.before.before.before.before in
-    puts_most (omega arith) (puts_join (puts_join at-put-all.put_all_lem.ensures at-put-words.put_words-j.ensures) at-put-all2.put_all.ensures)
+    puts_most (omega arith) (puts_join (puts_join at-put-all.put_all-i.ensures at-put-words.put_words-j.ensures) at-put-all2.put_all.ensures)
 
 pub put_row_spec : {M : Type 1} → statement M
 put_row_spec =

@@ -58,7 +58,7 @@ loop-again c =
     let l = at-loop.loop-rest in
     let t = turn at-loop.loop-rest.k at-loop.loop-rest.weight at-loop.loop-rest.rest at-loop.loop-rest.invariant.1 at-loop.loop-rest.invariant.7 at-loop.loop-rest.invariant.2 at-loop-test.loop-rest-test.true in
     let d = rest_some l.k l.rest (l.weight / 16) at-loop-test.loop-rest-test.true t.more t.weight in
-    let p : at-put2.put-in-loop-rest.new.0 ≡ set l.b l.i (digit_byte (l.rest / (l.weight / 16))) = at-put2.put-in-loop-rest.ensures ∙ rw at-hex-byte2.hex_byte-in-loop-rest.ensures in (
+    let p : at-put2.put-in-loop-rest.new.b ≡ set l.b l.i (digit_byte (l.rest / (l.weight / 16))) = at-put2.put-in-loop-rest.ensures ∙ rw at-hex-byte2.hex_byte-in-loop-rest.ensures in (
       omega arith,
       t.weight,
       t.less,
@@ -79,7 +79,7 @@ returns c =
     let start = at-hex-byte.before.before.before in
     let a = start.args in
     let l = c.loop-rest in
-    let p : at-put.put.new.0 ≡ set a.b.now a.at (digit_byte (a.x / 1152921504606846976)) = at-put.put.ensures ∙ rw at-hex-byte.hex_byte.ensures in
+    let p : at-put.put.new.b ≡ set a.b.now a.at (digit_byte (a.x / 1152921504606846976)) = at-put.put.ensures ∙ rw at-hex-byte.hex_byte.ensures in
     let z = rest_none l.k l.rest c.loop-rest-test.false in
     let e = puts_turn a.b.now _ _ a.at _ (text_is a.x) in
     record {
