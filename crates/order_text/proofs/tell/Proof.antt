@@ -6,13 +6,11 @@ use Rattle.order_text.proofs.tell.Tie as tie
 
 returns : tie.Need-returns-in-Refused
 returns c =
-    let fate = c.fate-1 in
-    prints_refused _ _ fate.given.1 c.write_refused-bytes.ensures
+    prints_refused _ _ c.in-Refused.is c.write_refused-bytes.ensures
 
 returns_2 : tie.Need-returns-in-Going
 returns_2 c =
-    let enum_told = c.enum_told-1 in
-    prints_found _ _ enum_told.given.1 c.write_ordered-bytes.ensures
+    prints_found _ _ c.in-Going.is c.write_ordered-bytes.ensures
 
 pub tell_spec : {M : Type 1} → statement M
 tell_spec = tie.close (tie.spec (search rules) (search rules) (search rules) (search rules) (search rules) returns (search rules) returns_2)

@@ -10,9 +10,8 @@ returns c = (c.refused.ensures ∙ rw c.in-Refused.is, rw c.refused.ensures (lea
 
 returns_2 : tie.Need-returns-in-Going
 returns_2 c =
-    let at-plan = c.before.before in
-    let made = at-plan.plan.ensures in
-    (made.0 ∙ rw at-plan.before.before.before.enum_told.given.1, made.1.0)
+    let made = c.plan.ensures in
+    (made.0 ∙ rw c.in-Going.is, made.1.0)
 
 pub plan_read_spec : {M : Type 1} → statement M
 plan_read_spec = tie.close (tie.spec (search rules) (search rules) (search rules) (search rules) returns (search rules) returns_2)

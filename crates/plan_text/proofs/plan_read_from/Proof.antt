@@ -10,9 +10,8 @@ returns c = (c.refused.ensures ∙ rw c.in-Refused.is, rw c.refused.ensures (lea
 
 returns_2 : tie.Need-returns-in-Going
 returns_2 c =
-    let at-plan-seeded = c.before.before in
-    let made = at-plan-seeded.plan_seeded.ensures in
-    (made.0 ∙ rw at-plan-seeded.before.before.before.enum_told.given.1, made.1)
+    let made = c.plan_seeded.ensures in
+    (made.0 ∙ rw c.in-Going.is, made.1)
 
 pub plan_read_from_spec : {M : Type 1} → statement M
 plan_read_from_spec = tie.close (tie.spec (search rules) (search rules) (search rules) (search rules) returns (search rules) returns_2)

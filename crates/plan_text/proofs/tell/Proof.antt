@@ -7,13 +7,11 @@ use Rattle.plan_text.proofs.tell.Tie as tie
 
 returns : tie.Need-returns-in-Refused
 returns c =
-    let fate = c.fate-1 in
-    prints_refusal fate.given.1 c.tell_refused.ensures
+    prints_refusal c.in-Refused.is c.tell_refused.ensures
 
 returns_2 : tie.Need-returns-in-Going
 returns_2 c =
-    let enum_told = c.enum_told-1 in
-    prints_path enum_told.given.1 refl c.print_path-bytes.ensures
+    prints_path c.in-Going.is refl c.print_path-bytes.ensures
 
 pub tell_spec : {M : Type 1} → statement M
 tell_spec = tie.close (tie.spec (search rules) (search rules) (search rules) (search rules) (search rules) returns (search rules) returns_2)

@@ -8,7 +8,7 @@ use Rattle.refusal_text.proofs.write_table.Tie as tie
 
 returns : tie.Need-returns
 unfolding table
-returns c = puts_most (omega arith) c.before.before.put_all_lem.ensures
+returns c = puts_most (omega arith) c.put_all.ensures
 
 pub write_table_spec : {M : Type 1} → statement M
 write_table_spec = tie.close (tie.spec (λ c κs. search rules) (λ c. search rules) returns)

@@ -13,7 +13,7 @@ returns c =
     let rates = last.before.before.before.before.before in
     let less = rates.before.before.before.before in
     let first = less.before.before.before.before in
-    puts_most (omega arith) (puts_join (puts_join (puts_join first.put_all_lem.ensures less.put_less-j.ensures) rates.put_rates-k.ensures) last.put_all.ensures)
+    puts_most (omega arith) (puts_join (puts_join (puts_join c.put_all-i.ensures less.put_less-j.ensures) rates.put_rates-k.ensures) last.put_all.ensures)
 
 pub put_angle_spec : {M : Type 1} → statement M
 put_angle_spec = tie.close (tie.spec (λ c κs. search rules) (λ c κs. search rules) (λ c κs. search rules) (λ c κs. search rules) (λ c. search rules) returns)

@@ -18,7 +18,7 @@ returns c =
     let middle = choice.before.before.before.before in
     let first = middle.before.before.before.before.before in
     let s = first.before.before.before.before in
-    puts_most (omega arith) (puts_join (puts_join (puts_join first.put_counted-i.ensures middle.put_all_lem.ensures) (rw (to_z-of_z s.ranges.u) at choice.put_choice-k.ensures)) last.put_all.ensures)
+    puts_most (omega arith) (puts_join (puts_join (puts_join first.put_counted-i.ensures c.put_all-j.ensures) (rw (to_z-of_z s.ranges.u) at choice.put_choice-k.ensures)) last.put_all.ensures)
 
 pub put_forced_spec : {M : Type 1} → statement M
 put_forced_spec =

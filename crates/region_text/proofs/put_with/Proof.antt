@@ -17,7 +17,7 @@ returns c =
     let choice = last.before.before.before.before.before in
     let first = choice.before.before.before.before in
     let s = first.before.before.before.before in
-    puts_most (omega arith) (puts_join (puts_join first.put_all_lem.ensures (rw (to_z-of_z s.ranges.d) at choice.put_choice-j.ensures)) last.put_all.ensures)
+    puts_most (omega arith) (puts_join (puts_join c.put_all-i.ensures (rw (to_z-of_z s.ranges.d) at choice.put_choice-j.ensures)) last.put_all.ensures)
 
 pub put_with_spec : {M : Type 1} → statement M
 put_with_spec = tie.close (tie.spec (λ c κs. search rules) put-choice-requires (λ c κs. search rules) (λ c. search rules) returns)

@@ -13,7 +13,7 @@ returns c =
     let lines = last.before.before.before.before.before in
     let first = lines.before.before.before.before.before in
     let table = first.before.before.before in
-    rw (← table.region-t.ensures) (puts_most (omega arith) (puts_join (puts_join first.put_all_lem.ensures lines.put_angles-j.ensures) last.put_all.ensures))
+    rw (← table.region-t.ensures) (puts_most (omega arith) (puts_join (puts_join c.put_all-i.ensures lines.put_angles-j.ensures) last.put_all.ensures))
 
 pub write_region_spec : {M : Type 1} → statement M
 write_region_spec = tie.close (tie.spec (λ c κs. search rules) (λ c κs. search rules) (λ c κs. search rules) (λ c κs. search rules) (λ c. search rules) returns)

@@ -30,7 +30,7 @@ returns_2 c =
     let replied = none.before.before in
     let s = replied.before.before.before in
     let e = rw (to_z-of_z s.ranges.angle, to_z-of_z s.ranges.rate, to_z-of_z s.ranges.choice) at replied.reply-d.ensures.0 in
-    rw (← e, none.in-Without.is) (prints_given _ (omega arith) put.put_all_lem.ensures)
+    rw (← e, none.in-Without.is) (prints_given _ (omega arith) c.put_all-without.ensures)
 
 returns_3 : tie.Need-returns-in-Outside
 returns_3 c =

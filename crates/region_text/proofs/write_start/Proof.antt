@@ -20,7 +20,7 @@ returns c =
     let told = home.before.before in
     let s = told.before.before.before in
     let e = rw (to_z-of_z s.ranges.angle, to_z-of_z s.ranges.rate) at told.outcome-s.ensures.0 in
-    rw (← e, home.in-Home.is) (prints_given _ (omega arith) put.put_all_lem.ensures)
+    rw (← e, home.in-Home.is) (prints_given _ (omega arith) c.put_all-home.ensures)
 
 returns_2 : tie.Need-returns-in-Forced
 returns_2 c =

@@ -17,7 +17,7 @@ returns c =
     rw (actuators_text start.args.a)
     (puts_most (omega (arith, start.requires.1.0, start.requires.1.1))
     (puts_join
-    (puts_join (puts_join (puts_join begun.put_all_lem.ensures wheels.put_wheels-j.ensures) thrusters.put_thrusters-k.ensures) gyros.put_gyros-l.ensures)
+    (puts_join (puts_join (puts_join c.put_all-i.ensures wheels.put_wheels-j.ensures) thrusters.put_thrusters-k.ensures) gyros.put_gyros-l.ensures)
     last.put_all.ensures))
 
 pub put_actuators_spec : {M : Type 1} → statement M

@@ -19,7 +19,7 @@ returns c =
     let head = line (bytes "(problem") [] (bytes "\n") in
     let from = line (bytes " (q0") (quat args.q0) close in
     let to = line (bytes " (qf") (quat args.qf) close in
-    puts_most (omega arith) (puts_pieces (head ++ from) to (puts_pieces head from begun.put_all_lem.ensures first.put_quat-j.ensures) second.put_quat.ensures)
+    puts_most (omega arith) (puts_pieces (head ++ from) to (puts_pieces head from c.put_all-i.ensures first.put_quat-j.ensures) second.put_quat.ensures)
 
 pub put_attitudes_spec : {M : Type 1} → statement M
 put_attitudes_spec = tie.close (tie.spec (λ c κs. search rules) (λ c κs. search rules) (λ c κs. search rules) (λ c. search rules) returns)

@@ -9,14 +9,11 @@ use Rattle.canonical.proofs.writing.put_limit.Tie as tie
 
 returns : tie.Need-returns-in-Nothing
 returns c =
-    let enum_told = c.enum_told-1 in
-    rw enum_told.given.1 (puts_most (omega arith) (puts_piece non c.before.before.put_all_lem.ensures))
+    rw c.in-Nothing.is (puts_most (omega arith) (puts_piece non c.put_all.ensures))
 
 returns_2 : tie.Need-returns-in-At
 returns_2 c =
-    let at-put-word = c.before.before in
-    let at-limit = at-put-word.before.before.before in
-    rw at-limit.limit.given.1 (puts_piece (num at-limit.limit.given.0.0) at-put-word.put_word.ensures)
+    rw c.in-At.is (puts_piece (num c.in-At.x) c.put_word.ensures)
 
 pub put_limit_spec : {M : Type 1} → statement M
 put_limit_spec = tie.close (tie.spec (λ c. search rules) (λ c κs. search rules) (λ c. search rules) (λ c κs. search rules) (λ c. search rules) returns (λ c. search rules) returns_2)

@@ -10,7 +10,7 @@ returns c =
     let tail = c.before.before in
     let words = tail.before.before.before.before in
     let head = words.before.before.before.before in
-    rw (line_text _ _ _ _) (puts_join (puts_join head.put_all_lem.ensures words.put_words-j.ensures) tail.put_all.ensures)
+    rw (line_text _ _ _ _) (puts_join (puts_join c.put_all-i.ensures words.put_words-j.ensures) tail.put_all.ensures)
 
 pub put_line_spec : {M : Type 1} → statement M
 put_line_spec = tie.close (tie.spec (search rules) (search rules) (search rules) (search rules) returns)

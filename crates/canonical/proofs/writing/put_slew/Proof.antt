@@ -19,7 +19,7 @@ returns c =
     let tail = lit (bytes ")\n") in
     puts_most (omega arith)
     (puts_pieces (head ∷ limit slew ∷ []) (tail ∷ [])
-    (puts_pieces (head ∷ []) (limit slew ∷ []) (puts_piece head begun.put_all_lem.ensures) limited.put_limit-j.ensures)
+    (puts_pieces (head ∷ []) (limit slew ∷ []) (puts_piece head c.put_all-i.ensures) limited.put_limit-j.ensures)
     (puts_piece tail last.put_all.ensures))
 
 pub put_slew_spec : {M : Type 1} → statement M

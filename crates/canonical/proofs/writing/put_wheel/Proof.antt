@@ -23,7 +23,7 @@ returns c =
     puts_most (omega arith)
     (puts_pieces (numbers ++ power) (lit (bytes ")") ∷ [])
     (puts_pieces numbers power lined.put_line-i.ensures powered.put_limit-j.ensures)
-    last.put_all_lem.ensures)
+    c.put_all.ensures)
 
 pub put_wheel_spec : {M : Type 1} → statement M
 put_wheel_spec =

@@ -9,7 +9,7 @@ returns : tie.Need-returns
 unfolding heading
 returns c =
     let end = c.before.before in
-    puts_join end.put_counted-i.ensures end.put_all_lem.ensures
+    puts_join end.put_counted-i.ensures c.put_all.ensures
 
 pub write_heading_spec : {M : Type 1} → statement M
 write_heading_spec = tie.close (tie.spec (λ c κs. search rules) (λ c κs. search rules) (λ c. search rules) returns)

@@ -13,7 +13,7 @@ returns c =
     let duration = runs.before.before.before.before.before in
     let legs = duration.before.before.before.before in
     let begin = legs.before.before.before.before.before in
-    puts_join (puts_join (puts_join (puts_join begin.put_all_lem.ensures legs.put_counted-j.ensures) duration.put_duration-k.ensures) runs.put_counted-l.ensures) end.put_all.ensures
+    puts_join (puts_join (puts_join (puts_join c.put_all-i.ensures legs.put_counted-j.ensures) duration.put_duration-k.ensures) runs.put_counted-l.ensures) end.put_all.ensures
 
 pub write_total_spec : {M : Type 1} → statement M
 write_total_spec =

@@ -20,7 +20,7 @@ unfolding next_line
 returns_2 c =
     let r = c.before in
     let e = r.before.before.before in
-    simp (sym e.is_at.ensures.is ∙ e.if-is_at.false) (rw r.line_at_lem.ensures at c.with_tile.ensures)
+    simp (sym e.is_at.ensures.is ∙ e.if-is_at.false) (rw c.line_at-row.ensures at c.with_tile.ensures)
 
 pub next_line_spec : {M : Type 1} → statement M
 next_line_spec =

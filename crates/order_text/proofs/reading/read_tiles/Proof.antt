@@ -30,7 +30,7 @@ returns-4 c =
     let w = o.before.before in
     let e = w.before in
     let i = e.before in
-    c.rows_of_lem.ensures ∙ text_rows _ i.if-s-gt4096.false (sym i.is_at.ensures.is ∙ e.if-not-is_at.false) w.budget_at-w.ensures.0 (not-false _ o.if-not-w.false)
+    c.rows_of.ensures ∙ text_rows _ i.if-s-gt4096.false (sym i.is_at.ensures.is ∙ e.if-not-is_at.false) w.budget_at-w.ensures.0 (not-false _ o.if-not-w.false)
 
 pub read_tiles_spec : {M : Type 1} → statement M
 read_tiles_spec =

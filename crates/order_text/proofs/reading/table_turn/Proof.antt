@@ -19,12 +19,12 @@ returns c = table_shut _ _ _ _ c.if-c-ne0.true
 returns_2 : tie.Need-returns-then-not-r
 returns_2 c =
     let l = c.before.before.before in
-    table_wrong _ _ _ _ l.if-c-ne0.false refl l.line_at_lem.ensures (not-true _ c.if-not-r.true)
+    table_wrong _ _ _ _ l.if-c-ne0.false refl c.line_at-r.ensures (not-true _ c.if-not-r.true)
 
 returns_3 : tie.Need-returns
 returns_3 c =
     let l = c.before.before.before in
-    table_more _ _ _ _ l.if-c-ne0.false refl l.line_at_lem.ensures (not-false _ c.if-not-r.false)
+    table_more _ _ _ _ l.if-c-ne0.false refl c.line_at-r.ensures (not-false _ c.if-not-r.false)
 
 pub table_turn_spec : {M : Type 1} → statement M
 table_turn_spec =

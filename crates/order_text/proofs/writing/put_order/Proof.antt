@@ -7,8 +7,7 @@ use Rattle.order_text.proofs.writing.put_order.Tie as tie
 
 returns : tie.Need-returns
 returns c =
-    let put_all_lem = c.before.before.before.before.before.before.put_all_lem in
-    puts_most (omega arith) (puts_join put_all_lem.ensures c.put_tiles.ensures)
+    puts_most (omega arith) (puts_join c.put_all-i.ensures c.put_tiles.ensures)
 
 pub put_order_spec : {M : Type 1} → statement M
 put_order_spec = tie.close (tie.spec (λ c κs. search rules) (λ c κs. search rules) (λ c. search rules) returns)

@@ -8,7 +8,7 @@ use Rattle.order_text.proofs.writing.put_used_up.Tie as tie
 returns : tie.Need-returns-then-exhausted
 returns c =
     let if1 = c.if-exhausted in
-    rw if1.true (puts_most (omega arith) c.before.before.put_all_lem.ensures)
+    rw if1.true (puts_most (omega arith) c.put_all.ensures)
 
 returns_2 : tie.Need-returns
 returns_2 c =

@@ -22,7 +22,7 @@ returns_2 c =
     let o = k.before.before.before.before.before in
     rw (le-leb _ _ o.if-n-gt10.false)
     (puts_most (omega arith)
-    (puts_join (puts_join (puts_join (puts_join (puts_join o.put_order-i.ensures k.put_counted-j.ensures) p.put_counted-k.ensures) u.put_used_up-l.ensures) f.put_counted-m.ensures) z.put_all_lem.ensures))
+    (puts_join (puts_join (puts_join (puts_join (puts_join o.put_order-i.ensures k.put_counted-j.ensures) p.put_counted-k.ensures) u.put_used_up-l.ensures) f.put_counted-m.ensures) c.put_all.ensures))
 
 pub write_ordered_spec : {M : Type 1} → statement M
 write_ordered_spec =

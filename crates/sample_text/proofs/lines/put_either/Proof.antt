@@ -8,7 +8,7 @@ returns : tie.Need-returns-then-first
 returns c =
     let put = c.before.before in
     let start = put.before.before.before.before.before.before in
-    rw put.if-first.true (puts_most (omega (arith, start.requires)) put.put_all_lem.ensures)
+    rw put.if-first.true (puts_most (omega (arith, start.requires)) c.put_all.ensures)
 
 returns_2 : tie.Need-returns
 returns_2 c =
