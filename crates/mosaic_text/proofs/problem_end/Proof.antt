@@ -10,10 +10,10 @@ use Rattle.mosaic_text.proofs.problem_end.Statement.{statement}
 use Rattle.mosaic_text.proofs.problem_end.Tie as tie
 
 abbrev invariant_loop : tie.invariant-loop-i
-invariant_loop s i₀ t3 t4 i = (i ≤ length s) × (end_from s (length s - 8) 8 ≡ end_from s (length s - i) i) × (8 ≤ i)
+invariant_loop s i₀ i = (i ≤ length s) × (end_from s (length s - 8) 8 ≡ end_from s (length s - i) i) × (8 ≤ i)
 
 abbrev decreases_loop : tie.decreases-loop-i
-decreases_loop s i₀ t3 t4 i = length s - i
+decreases_loop s i₀ i = length s - i
 
 add-result : tie.Need-overflow_add-result invariant_loop decreases_loop
 add-result c = omega (arith, c.is_at.ensures.within c.if-is_at.true)
@@ -25,7 +25,7 @@ returns c =
     let w = i.is_at.ensures.within c.if-is_at.true in
     record { is = sym (l.invariant.1 ∙ end_closed _ _ _ (omega arith) (sym i.is_at.ensures.is ∙ c.if-is_at.true)); after = omega (arith, l.invariant.2); within = w }
 
-add-result-2 : tie.Need-overflow-add-result-2 invariant_loop decreases_loop
+add-result-2 : tie.Need-overflow_add-result-then-is_at-2 invariant_loop decreases_loop
 add-result-2 c = omega (arith, c.is_at-in-loop-i.ensures.within c.if-is_at-2.true)
 
 returns_2 : tie.Need-returns-then-is_at-2 invariant_loop decreases_loop
@@ -53,4 +53,4 @@ returns_3 c =
 pub problem_end_spec : {M : Type 1} → statement M
 problem_end_spec =
     tie.close
-    (tie.spec invariant_loop decreases_loop (λ c. search rules) (λ c κs. search rules) add-result returns (λ c κs. search rules) (λ c. search rules) returns_2 (λ c. search rules) (λ c. search rules) loop-again returns_3)
+    (tie.spec invariant_loop decreases_loop (λ c. search rules) (λ c κs. search rules) add-result returns (λ c κs. search rules) add-result-2 returns_2 (λ c. search rules) (λ c. search rules) loop-again returns_3)

@@ -15,19 +15,14 @@ returns c =
 returns_2 : tie.Need-returns-in-Refused
 unfolding with_tiles
 returns_2 c =
-    let m = c.before.before in
-    let j = m.before in
-    let e = j.before.before in
-    let start = e.args in
-    simp (not-false start.t.right e.if-not-t.false) (rw (← j.judge_ends-ends.ensures, m.in-Refused.is) c.wrong-in-Refused.ensures)
+    let start = c.args in
+    simp (not-false start.t.right c.if-not-t.false) (rw (← c.judge_ends-ends.ensures, c.in-Refused.is) c.wrong-in-Refused.ensures)
 
 returns_3 : tie.Need-returns-in-Going
 unfolding with_tiles
 returns_3 c =
-    let j = c.before in
-    let e = j.before.before in
-    let start = e.args in
-    simp (not-false start.t.right e.if-not-t.false) (rw (← j.judge_ends-ends.ensures, c.in-Going.is))
+    let start = c.args in
+    simp (not-false start.t.right c.if-not-t.false) (rw (← c.judge_ends-ends.ensures, c.in-Going.is))
 
 pub with_tiles_spec : {M : Type 1} → statement M
 with_tiles_spec = tie.close (tie.spec (search rules) (search rules) returns (search rules) (search rules) (search rules) (search rules) returns_2 returns_3)

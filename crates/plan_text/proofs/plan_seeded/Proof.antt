@@ -11,12 +11,9 @@ use Rattle.plan_text.proofs.plan_seeded.Tie as tie
 returns : tie.Need-returns-then-seed-ne103
 unfolding Ieee.of_bits
 returns c =
-    let at-plan-from = c.before.before in
-    let at-if1 = at-plan-from.before.before.before.before in
-    let entry = at-if1.before.before.before in
-    let start = entry.args in
-    let made = at-plan-from.plan_from.ensures in
-    (made.0 ∙ seed_miscounted start.p start.seed.now (length start.ws.now) at-if1.if-seed-ne103.true, made.1.0)
+    let start = c.args in
+    let made = c.plan_from.ensures in
+    (made.0 ∙ seed_miscounted start.p start.seed.now (length start.ws.now) c.if-seed-ne103.true, made.1.0)
 
 shared-slice-read-plan-from : tie.Need-bounds-seed-0
 shared-slice-read-plan-from c = omega (arith, c.if-seed-ne103.false)
@@ -29,12 +26,9 @@ part-plan-from-end-2 c = omega (arith, c.if-seed-ne103.false)
 
 returns_2 : tie.Need-returns
 returns_2 c =
-    let at-plan-from2 = c.before.before in
-    let at-if1 = at-plan-from2.before.before.before.before.before in
-    let entry = at-if1.before.before.before in
-    let start = entry.args in
-    let made = at-plan-from2.plan_from-2.ensures in
-    (made.0 ∙ seed_counted start.p start.seed.now (length start.ws.now) at-if1.if-seed-ne103.false, made.1.0)
+    let start = c.args in
+    let made = c.plan_from-2.ensures in
+    (made.0 ∙ seed_counted start.p start.seed.now (length start.ws.now) c.if-seed-ne103.false, made.1.0)
 
 pub plan_seeded_spec : {M : Type 1} → statement M
 plan_seeded_spec =

@@ -6,7 +6,7 @@ use Rattle.mosaic_text.specs.TileLines.{next_line}
 use Rattle.mosaic_text.proofs.tiles.next_line.Statement.{statement}
 use Rattle.mosaic_text.proofs.tiles.next_line.Tie as tie
 
-after-end : tie.Need-overflow-add-closed
+after-end : tie.Need-overflow_add-at
 after-end c = omega (arith, c.is_at.ensures.within c.if-is_at.true)
 
 returns : tie.Need-returns-then-is_at
@@ -25,4 +25,4 @@ returns_2 c =
 pub next_line_spec : {M : Type 1} → statement M
 next_line_spec =
     tie.close
-    (tie.spec (λ c κs. search rules) (λ c. search rules) (λ c κs. search rules) returns (λ c κs. search rules) (λ c κs. search rules) returns_2)
+    (tie.spec (λ c κs. search rules) after-end (λ c κs. search rules) returns (λ c κs. search rules) (λ c κs. search rules) returns_2)
