@@ -26,7 +26,7 @@ use Rattle.run_laws.specs.Values.{goes}
 use Rattle.run_laws.specs.Steps.{Once, step_goes}
 use Rattle.published_law.specs.Published as Published
 use Rattle.published_law.specs.Published.{Still, rollout_at, Unladen}
-use Rattle.published_law.specs.Agreement.{reconstruct_agrees}
+use Rattle.published_law.proofs.Agreement.{reconstruct_agrees}
 
 zero_still : Still Vec.zero3
 unfolding of_bits
