@@ -22,7 +22,7 @@ use Rattle.drive_numbers.specs.declared.Whole.TheVariants as Whole
 use Rattle.drive_numbers.specs.declared.AttitudeRow.{AttitudeRow}
 use Rattle.drive_numbers.specs.declared.VectorRow.{VectorRow}
 use Rattle.drive_numbers.specs.Numbers.{in_range, part}
-use Rattle.drive_numbers.specs.Laws.{number_says}
+use Rattle.drive_numbers.proofs.Laws.{number_says}
 use Rattle.drive_numbers.specs.Drive.{inside, number, all, wholes, parts, refused, numbered}
 use Rattle.drive_numbers.specs.Inner.{attitude, vector, attitude_row, vector_row}
 use Rattle.drive_numbers.specs.InnerLaws.{and_true, all_rows}

@@ -4,13 +4,10 @@ pub mod Numbers  -- a float as a whole number of units, and the way back
 pub mod Drive  -- a sample's 13 numbers, or a refusal
 pub mod Lists  -- a path's whole list, up to the first sample that is refused
 -- ---- laws
-pub mod Laws  -- what a number says of its float, and the way back
-pub mod SampleLaws  -- what 13 numbers say of their sample, and when there are none
 pub mod ListLaws  -- what a list says of its samples
 pub mod Examples  -- the rule at some numbers
 pub mod NearestLaws  -- the nearest whole number of units, a tie to the even one
 pub mod SumLaws  -- a sum with a power of two counts units in its pattern
-pub mod PartLaws  -- a part by what the code works out
 pub mod BackLaws  -- the float of a number of units is exact
 pub mod InnerLaws  -- a sample's parts are inside where those of its rows are
 -- ---- inner words of proofs

@@ -4,7 +4,7 @@ use native.Mathlib.Omega.{arith}
 use borrow.Author.Rules.{rules}
 use mir.Facts.{to_z_pos}
 use mir.Syntax.{w32}
-use Rattle.drive_numbers.specs.PartLaws.{inside_plus, outside_plus, inside_minus, outside_minus}
+use Rattle.drive_numbers.proofs.PartLaws.{inside_plus, outside_plus, inside_minus, outside_minus}
 use Rattle.drive_numbers.specs.declared.Whole.TheVariants as Whole
 use Rattle.drive_numbers.proofs.Signs.{off_64, off_32, cut_is}
 use Rattle.drive_numbers.proofs.placed.Statement.{statement}
