@@ -9,7 +9,8 @@ use Rattle.common.specs.declared.Fate.TheVariants.{Going, Refused}
 use Rattle.problem.specs.Problems.{check}
 use Rattle.problem.specs.declared.Problem.{Problem}
 use Rattle.planner.specs.Plans as Plans
-use Rattle.planner.specs.PlanLaws.{leaves_none, leaves_twice}
+use Rattle.planner.specs.PlanLaws.{leaves_none}
+use Rattle.planner.proofs.PlanLaws.{leaves_twice}
 use Rattle.planner.specs.Promises as Promises
 use Rattle.planner.specs.declared.Planned.{Planned}
 use Rattle.eigenaxis_seed.specs.declared.Shape.{Shape}

@@ -47,7 +47,7 @@ unfolding root_units
 root_units_fits f n = units_fits f false (nearer n (2 ^ drops f n) (keeps f n)) (drops f n) (kept_le f n)
 
 pub sqrt_fits : (f : Format) (x : Float) → T (fits f x) → T (fits f (sqrt f x))
-unfolding sqrt
+unfolding sqrt fits
 sqrt_fits f nan h = nan-fits f
 sqrt_fits f (inf s) h = cond-fits f s nan (inf false) (nan-fits f) (inf-fits f false)
 sqrt_fits f (fin s zero e) h = h

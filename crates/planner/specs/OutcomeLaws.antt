@@ -1,7 +1,6 @@
 -- How the outcome of a stage follows from that of the stage before. Assumes nothing.
-use Rattle.std.specs.Prelude.{ℕ, ◌≡◌, refl, Bool, List, length, replicate, Float}
+use Rattle.std.specs.Prelude.{ℕ, ◌≡◌, refl, Bool, List, Float}
 use Rattle.std.proofs.Common.{sym, ap, subst, ◌∙◌}
-use Rattle.common.specs.Floats.{plus_zero}
 use Rattle.common.specs.declared.Fate.TheVariants.{Going}
 use Rattle.profile.specs.Seeds.{sample_seed}
 use Rattle.profile.specs.declared.Profiled.{Profiled}
@@ -11,11 +10,9 @@ use Rattle.problem.specs.declared.Checked.{Checked}
 use Rattle.problem.specs.declared.CheckedProblem.{CheckedProblem}
 use Rattle.problem.specs.declared.Problem.{Problem}
 use Rattle.forward.specs.StepLaws.{refused_going}
-use Rattle.scvx.specs.Search.{search}
-use Rattle.search_laws.specs.Counts.{runs_least}
 use Rattle.search_laws.specs.Fits.{Fit}
 use Rattle.planner.specs.Plans as Plans
-use Rattle.planner.specs.PlanLaws.{answered_runs, leaves_none, leaves_begun}
+use Rattle.planner.specs.PlanLaws.{leaves_none}
 use Rattle.planner.specs.Promises.{own_seed}
 use Rattle.planner.specs.declared.Planned.{Planned}
 use Rattle.planner.specs.Outcomes.{Outcome, Entry}
@@ -27,17 +24,6 @@ refusal ws e f = record { same = e ∙ f; left = rw e (leaves_none ws); held = �
 -- what the next stage does is this one's outcome
 pub outcome_as : {was is : Planned} {ws z : List Float} {r : Planned} {exit : List Float} → Outcome was ws z r exit → was ≡ is → Outcome is ws z r exit
 outcome_as o e = record { same = o.same ∙ e; left = o.left; held = o.held }
-
--- after a search from the seed's decision: the workspace was cleared
-pub solved : (p : CheckedProblem) {is : Planned} (ws : List Float) {z seed : List Float} {was held : List ℕ} {r : Planned} {exit : List Float} → seed ≡ z → was ≡ held → r ≡ Plans.answered p (search p seed) was → exit ≡ replicate (length ws) plus_zero → Fit seed
-    → Plans.answered p (search p z) held ≡ is → Outcome is ws z r exit
-solved p ws {z} {held = held} e w f g h i =
-    let j = rw (e, w) at f in
-    record {
-      same = j ∙ i;
-      left = g ∙ rw (j, answered_runs p (search p z) held) (leaves_begun (search p z).runs ws (runs_least p z));
-      held = λ _. subst Fit e h;
-    }
 
 -- our own seed, in the code's steps
 pub profiled_as : (p : CheckedProblem) (size : ℕ) {ws : List Float} {r : Planned} {exit : List Float} {made : Profiled} {s : Seed} → made ≡ Plans.profiled p → made.fate ≡ Going → s ≡ sample_seed made.profile

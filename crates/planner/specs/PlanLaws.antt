@@ -1,9 +1,8 @@
 -- What the stages answer, in the code's steps, and what is left in the workspace. Assumes nothing.
-use Rattle.std.specs.Prelude.{ℕ, zero, suc, ◌+◌, ◌<◌, ◌≤◌, ◌≡◌, Bool, true, false, cond, ◌&&◌, List, eqb, length, replicate, Float}
+use Rattle.std.specs.Prelude.{ℕ, ◌<◌, ◌≤◌, ◌≡◌, Bool, true, false, cond, ◌&&◌, List, eqb, length, replicate, Float}
 use Rattle.std.proofs.Math.Path.{refl}
-use Rattle.std.proofs.Common.{sym, ap, ◌∙◌, zero-add, add-zero, arith}
+use Rattle.std.proofs.Common.{arith}
 use borrow.Author.Tests.{eqb-true, eq-eqb, ne_eqb, lt-ltb, le-ltb}
-use Rattle.std.proofs.lemmas.List.{length-replicate}
 use Rattle.common.specs.Floats.{plus_zero}
 use Rattle.common.specs.declared.Fate.{Fate}
 use Rattle.common.specs.declared.Fate.TheVariants.{Going, Refused}
@@ -83,16 +82,3 @@ leaves_begun runs ws h = go (eqb runs 0) refl
     go : (b : Bool) → eqb runs 0 ≡ b → replicate (length ws) plus_zero ≡ cond b ws (replicate (length ws) plus_zero)
     go true e = let z : runs ≡ 0 = eqb-true runs 0 e in absurd (omega arith)
     go false e = refl
-
--- it stays as long as it is, and what two calls leave is what their runs together leave
-pub leaves_length : (n : ℕ) (ws : List Float) → length (Plans.leaves n ws) ≡ length ws
-leaves_length zero ws = ap length (sym (leaves_none ws))
-leaves_length (suc n) ws = ap length (sym (leaves_begun (suc n) ws (omega arith))) ∙ length-replicate (length ws) plus_zero
-
-pub leaves_twice : (a b : ℕ) (ws : List Float) → Plans.leaves b (Plans.leaves a ws) ≡ Plans.leaves (a + b) ws
-leaves_twice zero b ws = rw (← leaves_none ws, zero-add b) refl
-leaves_twice (suc a) zero ws = rw (add-zero (suc a)) (sym (leaves_none (Plans.leaves (suc a) ws)))
-leaves_twice (suc a) (suc b) ws =
-    sym (leaves_begun (suc b) (Plans.leaves (suc a) ws) (omega arith))
-    ∙ ap (λ (n : ℕ). replicate n plus_zero) (leaves_length (suc a) ws)
-    ∙ leaves_begun (suc a + suc b) ws (omega arith)

@@ -1,13 +1,11 @@
 -- Demand 3 is kept: by the entry with a caller's seed, and by our own entry. Assumes nothing.
 use Rattle.std.specs.Prelude.{◌≡◌, Bool, not, cond, ◌&&◌, List, ℕ, ◌<◌, ◌≤◌, T, ltb, length, Float}
 use Rattle.std.proofs.Math.Path.{refl, ap}
-use Rattle.std.proofs.Common.{sym, subst, ◌∙◌, arith, ltb→lt, nltb→le}
+use Rattle.std.proofs.Common.{sym, ◌∙◌, arith, ltb→lt, nltb→le}
 use Rattle.std.proofs.Math.Bool.{true, false}
 use Rattle.std.specs.Float.{binary64}
 use Rattle.std.specs.Float.Ieee.{le, fits, of_bits}
 use Rattle.std.specs.Float.Ieee.Scale.{finite}
-use Rattle.common.specs.Answer.{Given}
-use Rattle.common.specs.Answer as Answers
 use Rattle.common.specs.Lists.{at}
 use Rattle.common.specs.declared.Fate.{Fate}
 use Rattle.common.specs.declared.Fate.TheVariants.{Going, Refused}
@@ -55,9 +53,7 @@ use Rattle.search_laws.specs.OwnSeed.{duration_fits, torques_fit}
 use Rattle.search_laws.specs.Seeds.{seed_long, seed_past, seed_fits, seed_projected}
 use Rattle.planner.specs.Plans as Plans
 use Rattle.planner.specs.HeldKept.{path_held, counts_most, counts_past}
-use Rattle.planner.specs.Promises.{PassesByLess, residual_length, Promised, Answers, own_seed, own_held}
-use Rattle.planner.specs.RefusalLaws.{Blank, plan_blank, plan_from_blank}
-use Rattle.planner.specs.declared.Path.{Path}
+use Rattle.planner.specs.Promises.{PassesByLess, residual_length, Promised, own_seed, own_held}
 use Rattle.planner.specs.declared.Planned.{Planned}
 
 -- ---- from the checked problem's numbers to the user's
@@ -272,26 +268,3 @@ module _ (p : Problem) (F : FitsP p) where
   -- a path whose search stays at our own seed has the counts of the seed's allocated rows
   pub plan_held : (size : ℕ) → (Plans.plan p size).fate ≡ Going → (search (check p).problem (own_seed (check p).problem)).tried ≡ false → (Plans.plan p size).path.held ≡ own_held (check p).problem
   plan_held size g = (own_whole size g).1
-
--- ---- what the entries answer, in the specification's numbers
-module _ (r : Planned) where
-  given_path : (path : Path) → Plans.answer r ≡ Given path → (r.fate ≡ Going) × (r.path ≡ path)
-  given_path path h = go r.fate refl
-    where
-      go : (e : Fate) → r.fate ≡ e → (r.fate ≡ Going) × (r.path ≡ path)
-      go Going e = let g : Given r.path ≡ Given path = rw e at h in (e, cc)
-      go (Refused n k) e = let g : Answers.Refused n k r.runs ≡ Given path = rw e at h in let z : ◌≡◌ {A = ℕ} 0 1 = cc in absurd (omega arith)
-
-  answers : (p : Problem) (seed : List Float) → (r.fate ≡ Going → Promised p seed r.path r.runs) → Blank r → Answers p seed r
-  answers p seed h b = record {
-    given = λ path e. let g = given_path path e in subst (λ (x : Path). Promised p seed x r.runs) g.1 (h g.0);
-    refused = b;
-  }
-
-module _ (p : Problem) (F : FitsP p) where
-  pub plan_from_answers : (duration : Float) (rates torques : List Float) (size : ℕ) → ((Plans.plan_from p duration rates torques size).fate ≡ Going → Fit (Plans.seed_of (check p).problem duration torques))
-      → Answers p (Plans.seed_of (check p).problem duration torques) (Plans.plan_from p duration rates torques size)
-  plan_from_answers duration rates torques size G = answers (Plans.plan_from p duration rates torques size) p (Plans.seed_of (check p).problem duration torques) (λ g. plan_from_promised p F duration rates torques size (G g) g) (plan_from_blank p duration rates torques size)
-
-  pub plan_answers : (size : ℕ) → Answers p (own_seed (check p).problem) (Plans.plan p size)
-  plan_answers size = answers (Plans.plan p size) p (own_seed (check p).problem) (plan_promised p F size) (plan_blank p size)

@@ -18,7 +18,7 @@ use Rattle.run_laws.specs.Checked.{FitsP}
 use Rattle.search_laws.specs.Fits.{Fit}
 use Rattle.planner.specs.Plans as Plans
 use Rattle.planner.specs.Promises.{Promised, Answers}
-use Rattle.planner.specs.PromisesKept.{plan_answers, plan_from_answers}
+use Rattle.planner.proofs.PromisesKept.{plan_answers, plan_from_answers}
 use Rattle.planner.specs.declared.Path.{Path}
 use Rattle.planner.specs.declared.Planned.{Planned}
 use Rattle.samples.specs.declared.PathSample.{PathSample}

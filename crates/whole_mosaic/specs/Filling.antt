@@ -11,7 +11,8 @@ use Rattle.common.specs.declared.Fate.TheVariants.{Going, Refused}
 use Rattle.geom.specs.declared.Quat.{Quat}
 use Rattle.problem.specs.declared.Momenta.{Momenta}
 use Rattle.problem.specs.declared.Problem.{Problem}
-use Rattle.planner.specs.PlanLaws.{leaves_none, leaves_length, leaves_twice}
+use Rattle.planner.specs.PlanLaws.{leaves_none}
+use Rattle.planner.proofs.PlanLaws.{leaves_length, leaves_twice}
 use Rattle.planner.specs.Plans.{leaves}
 use Rattle.planner.specs.declared.Planned.{Planned}
 use Rattle.mosaic.specs.Mosaics.{Planner, Flight, most_runs, full_runs_value, start, took, halted, moved, added_by, leg_problem, leg_from, flown, momenta_at}

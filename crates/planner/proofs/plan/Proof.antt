@@ -6,7 +6,7 @@ use Rattle.planner.specs.Plans as Plans
 use Rattle.planner.specs.PlanLaws.{sized_as}
 use Rattle.planner.specs.OutcomeLaws.{outcome_as, entry_refused, entry_as}
 use Rattle.planner.specs.Promises.{Answers, own_seed}
-use Rattle.planner.specs.PromisesKept.{plan_answers}
+use Rattle.planner.proofs.PromisesKept.{plan_answers}
 use Rattle.planner.proofs.Fitting.{problem_held}
 use borrow.Author.Rules.{rules}
 use Rattle.planner.proofs.plan.Statement.{statement}

@@ -5,7 +5,7 @@ use Rattle.planner.specs.Plans as Plans
 use Rattle.planner.specs.PlanLaws.{sized_as, counted_long}
 use Rattle.planner.specs.OutcomeLaws.{from_as, entry_refused, entry_as}
 use Rattle.planner.specs.Promises.{Answers}
-use Rattle.planner.specs.PromisesKept.{plan_from_answers}
+use Rattle.planner.proofs.PromisesKept.{plan_from_answers}
 use Rattle.planner.proofs.Fitting.{problem_held}
 use borrow.Author.Rules.{rules}
 use Rattle.planner.proofs.plan_from.Statement.{statement}

@@ -1,7 +1,8 @@
 -- `planner::seeded` meets its contract: the three refusals are the definition's, in its order; past them `solve` gives the answer.
 use borrow.Author.Tests.{not-true, not-false}
 use Rattle.planner.specs.PlanLaws.{seeded_uncounted, seeded_untimed, seeded_short, seeded_search}
-use Rattle.planner.specs.OutcomeLaws.{refusal, solved}
+use Rattle.planner.specs.OutcomeLaws.{refusal}
+use Rattle.planner.proofs.OutcomeLaws.{solved}
 use borrow.Author.Rules.{rules}
 use Rattle.planner.proofs.seeded.Statement.{statement}
 use Rattle.planner.proofs.seeded.Tie as tie
