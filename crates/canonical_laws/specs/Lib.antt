@@ -5,15 +5,13 @@ pub mod Pieces  -- what a problem's text consists of, piece by piece, and the ca
 pub mod Texts  -- which texts are accepted, the problem of a text, its canonical text
 pub mod Looks  -- the accepted texts, told without a reader
 -- ---- laws
-pub mod Canonical  -- what is written is read back; one text for one problem; exactly the strict texts are canonical
-pub mod Shorter  -- the same float has the same digits, and a canonical text is never the longer one
 pub mod LookLaws  -- the accepted texts are exactly those that `Looks` tells
 pub mod Examples  -- the specification's example and texts near it
 pub mod TextLaws  -- a whole text is read as a problem exactly where its pieces stand
 pub mod ListLaws  -- the same of the list of actuators
 pub mod LineLaws  -- the same of one line
 pub mod PackLaws  -- a sorted list of actuators and the record that holds it: each is the other's
-pub mod PrintLaws  -- a canonical text is short, and no digit follows a float in it
+pub mod PrintLaws  -- no digit follows a float in a canonical text
 pub mod FormLaws  -- what the loose and the strict form of words have in common
 pub mod StrictLaws  -- in the strict form reading and writing a pattern are inverse
 pub mod CapitalLaws  -- capital digits, one step of the definition at a time

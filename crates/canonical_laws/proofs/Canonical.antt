@@ -15,7 +15,8 @@ use Rattle.canonical_laws.specs.Positions.{here, whole}
 use Rattle.canonical_laws.specs.FormLaws.{Lawful, loose_lawful, strict_lawful}
 use Rattle.canonical_laws.specs.Spans.{Spans, Fit, spans_of, fit_of, strict_text}
 use Rattle.canonical_laws.specs.TextLaws.{reads, stands}
-use Rattle.canonical_laws.specs.PrintLaws.{print_short, print_apart}
+use Rattle.canonical_laws.specs.PrintLaws.{print_apart}
+use Rattle.canonical_laws.proofs.PrintLaws.{print_short}
 use Rattle.canonical_laws.specs.Texts.{Writable, Accepted, problem, canonical, answer}
 
 abbrev put : Fate → Problem → Read
