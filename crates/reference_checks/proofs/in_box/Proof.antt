@@ -5,7 +5,7 @@ use Rattle.reference_checks.specs.Checks as Checks
 
 returns : tie.Need-returns
 unfolding Checks.in_box
-returns c = rw (c.fits4.ensures, c.fits-3.ensures, c.fits-2.ensures)
+returns c = rw (c.fits-3.ensures, c.fits-2.ensures, c.fits.ensures)
 
 pub in_box_spec : {M : Type 1} → statement M
 in_box_spec =

@@ -6,7 +6,7 @@ returns : tie.Need-returns-in-Nothing
 returns c = rw c.in-Nothing.is
 
 returns_2 : tie.Need-returns-in-At
-returns_2 c = rw (c.in-At.is, c.fits2.ensures, c.norm3.ensures)
+returns_2 c = rw (c.in-At.is, c.fits.ensures, c.norm3.ensures)
 
 pub rate_fits_spec : {M : Type 1} → statement M
 rate_fits_spec =

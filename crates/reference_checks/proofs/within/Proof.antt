@@ -19,7 +19,7 @@ loop-holds : tie.Need-loop-i-init invariant_loop decreases_loop
 loop-holds c = (search rules, iter_none _ _)
 
 loop-again : tie.Need-loop-i-preserved invariant_loop decreases_loop
-loop-again c = (search rules, iter_next _ _ _ c.loop-i.invariant.1 (rw c.fits2.ensures))
+loop-again c = (search rules, iter_next _ _ _ c.loop-i.invariant.1 (rw c.fits-here.ensures))
 
 returns : tie.Need-returns invariant_loop decreases_loop
 unfolding Checks.within

@@ -22,7 +22,7 @@ use native.Mathlib.Omega.{arith}
 use borrow.Author.Rules.{rules}
 use Rattle.forward.proofs.runs.steps_on.Statement.{statement}
 use Rattle.forward.proofs.runs.steps_on.Tie as tie
-use Rattle.forward.proofs.runs.steps_on.Lts.{then-k-i, else-k-i}
+use Rattle.forward.proofs.runs.steps_on.Lts.{then-k-i+in-Going, else-k-i}
 
 abbrev invariant_loop : tie.invariant-loop-i
 invariant_loop r wheels powers thrusters f skew lut n z k end c nodes₀ dt s₀ l₀ length₀ square₀ i₀ nodes s l long square i =
