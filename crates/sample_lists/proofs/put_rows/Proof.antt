@@ -1,7 +1,6 @@
 -- `sample_lists::put_rows` meets its contract: what is finished in turn j was turned in the turn before and placed in the one before that. Assumes nothing.
 use Prim.Native.Nat.{ℕ, ◌+◌, ◌-◌, ◌<◌, ◌≤◌}
 use mathlib.Core.Path.{◌≡◌, refl, sym, ◌∙◌, subst}
-use mathlib.Core.Logic.{⊎_elim}
 use mathlib.Core.List.{List}
 use native.Mathlib.Omega.{arith}
 use lib.ListN.{length, length-set}
@@ -14,6 +13,7 @@ use Rattle.sample_lists.proofs.Pipeline.{IsPlaced, IsTurned, place_next, turn_ne
 use borrow.Author.Rules.{rules}
 use Rattle.sample_lists.proofs.put_rows.Statement.{statement}
 use Rattle.sample_lists.proofs.put_rows.Tie as tie
+use Rattle.sample_lists.proofs.put_rows.Lts.{then-j-ge2+in-Going, else-j-ge2}
 
 abbrev invariant_loop : tie.invariant-loop-j
 invariant_loop inertia tolerance duration nodes count out₀ steps placed₀ turning₀ j₀ out placed turning j =
@@ -47,19 +47,18 @@ loop-again : tie.Need-loop-j-preserved invariant_loop decreases_loop
 loop-again c =
     let l = c.loop-j in (
       omega arith,
-      ⊎_elim (λ w. rw w.7 (length-set l.out (l.j - 2) w.6.result ∙ l.invariant.1)) (λ w. rw w.1 l.invariant.1) c.if-j-ge2.branch,
+      elim c.if-j-ge2.branch [ then-j-ge2+in-Going w ↦ rw w.out-is (length-set l.out (l.j - 2) w.numbers-row.result ∙ l.invariant.1) | else-j-ge2 w ↦ rw w.out-is l.invariant.1 ],
       c.place-next.ensures.1,
       c.place-next.ensures.2,
       rw (c.turn-turned.ensures, turning_node l.placed) l.invariant.2,
       place_next _ _ _ _ l.j c.place-next.ensures.0 c.held_index.ensures.1,
       turn_next _ _ _ _ l.j l.invariant.5 c.turn-turned.ensures,
-      ⊎_elim
-          (λ w.
-          let e : l.j - 2 + 1 ≡ l.j + 1 - 2 = omega (arith, w.0.taken) in
-          let is = finish_is _ _ _ _ _ _ _ c.step_rows-steps.ensures l.invariant.6 w.0.taken (omega arith) w.2.ensures in
-          rw (w.7, ← e) (goes_next _ l.invariant.7 is (omega (arith, c.requires, w.0.taken)) w.4.given.1 w.6.ensures))
-          (λ w. let e : l.j - 2 ≡ l.j + 1 - 2 = omega (arith, w.0.left) in rw (w.1, ← e) l.invariant.7)
-          c.if-j-ge2.branch,
+      elim c.if-j-ge2.branch [
+          then-j-ge2+in-Going w ↦
+          let e : l.j - 2 + 1 ≡ l.j + 1 - 2 = omega (arith, w.if-j-ge2.true) in
+          let is = finish_is _ _ _ _ _ _ _ c.step_rows-steps.ensures l.invariant.6 w.if-j-ge2.true (omega arith) w.finish-made.ensures in
+          rw (w.out-is, ← e) (goes_next _ l.invariant.7 is (omega (arith, c.requires, w.if-j-ge2.true)) w.in-Going.is w.numbers-row.ensures)
+          | else-j-ge2 w ↦ let e : l.j - 2 ≡ l.j + 1 - 2 = omega (arith, w.if-j-ge2.false) in rw (w.out-is, ← e) l.invariant.7 ],
     )
 
 returns_2 : tie.Need-returns invariant_loop decreases_loop

@@ -110,7 +110,7 @@ loop-again c =
     let a = next-dynamics.ensures in
     let e = c.exp_at-turned.ensures in
     elim c.if-k-i.branch [
-      | then-k-i w ↦ rw (w.nodes-is, w.s-is, w.square-is, nodes_set) (
+      | then-k-i+in-Going w ↦ rw (w.nodes-is, w.s-is, w.square-is, nodes_set) (
         (omega (arith, o.0), omega (arith, h)),
         (
           (below_set c.args.k c.args.nodes.now lp.nodes (lp.i - 1) w.node_row-row.result (omega (arith, w.if-k-i.true)) o.1.0.0, length-set lp.nodes (lp.i - 1) w.node_row-row.result ∙ o.1.0.1),

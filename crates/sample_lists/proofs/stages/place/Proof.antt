@@ -1,21 +1,20 @@
 -- `sample_lists::stages::place` meets its contract: a walk that goes on from where an earlier time's ended ends where one from the first node does. Assumes nothing.
 use Prim.Native.Nat.{ℕ, ◌<◌}
 use mathlib.Core.Path.{◌≡◌, sym, ◌∙◌}
-use mathlib.Core.Logic.{⊎_elim}
 use native.Mathlib.Omega.{arith}
 use Rattle.sample_lists.specs.StagesInner.{Passed, placed}
 use Rattle.sample_lists.specs.WalkLaws.{passed_none, passed_later}
 use borrow.Author.Rules.{rules}
 use Rattle.sample_lists.proofs.stages.place.Statement.{statement}
 use Rattle.sample_lists.proofs.stages.place.Tie as tie
+use Rattle.sample_lists.proofs.stages.place.Lts.{then-since-t, else-since-t}
 
 walk-requires : tie.Need-walk-i-requires
 walk-requires c κs =
     let s = c.before.before in
-    ⊎_elim
-    (λ w. rw w.1 (c.requires.2, passed_later c.args.nodes.now c.args.since c.time_of-t.result c.args.from s.well_formed.1.1.1.1.1.0.1 c.time_of-t.type_inv w.0.taken c.requires.3))
-    (λ w. rw w.1 (omega arith, passed_none c.args.nodes.now c.time_of-t.result))
-    c.if-since-t.branch
+    elim c.if-since-t.branch [
+    then-since-t w ↦ rw w.start-is (c.requires.2, passed_later c.args.nodes.now c.args.since c.time_of-t.result c.args.from s.well_formed.1.1.1.1.1.0.1 c.time_of-t.type_inv w.if-since-t.true c.requires.3)
+    | else-since-t w ↦ rw w.start-is (omega arith, passed_none c.args.nodes.now c.time_of-t.result) ]
 
 returns : tie.Need-returns
 unfolding placed

@@ -1,7 +1,6 @@
 -- `scvx::columns::jacobian` meets its contract: after c turns the first c columns stand, and the base run is kept in the lent rows.
 use Prim.Native.Nat.{◌*◌, ◌-◌, ◌≤◌}
 use mathlib.Core.Path.{◌≡◌, refl, sym, ◌∙◌}
-use mathlib.Core.Logic.{⊎_elim}
 use mathlib.Core.List.{List}
 use lib.ListN.{length}
 use lib.Ieee.{Float}
@@ -14,6 +13,7 @@ use native.Mathlib.Omega.{arith}
 use borrow.Author.Rules.{rules}
 use Rattle.scvx.proofs.columns.jacobian.Statement.{statement}
 use Rattle.scvx.proofs.columns.jacobian.Tie as tie
+use Rattle.scvx.proofs.columns.jacobian.Lts.{then-past_row, else-past_row}
 
 abbrev invariant_loop : tie.invariant-loop-c
 invariant_loop p v₀ n m z controls front nodes₀ errors₀ lut b₀ c₀ v nodes errors b c =
@@ -58,7 +58,7 @@ column-requires c κs =
     let s = (start j.before.before.before.before).pre.0 in
     let own = (start j.before.before.before.before).pre.1.1 in
     let g = (gathered j.before.before.before.before).gather.ensures in
-    (s.sized, (s.narrow, (c.control_dim-controls.ensures, (omega (arith, s.n_most), (s.m_is, (omega (arith, row_end l.c a.n (kept a.m) (omega arith), s.fits, l.invariant.1.0), (known, (answers_kept own g, ⊎_elim (λ w. rw (w.6, w.7, w.8) w.5.ensures) (λ w. rw (w.1, w.2, w.3) l.invariant.1.1.1.1) c.if-past_row.branch))))))))
+    (s.sized, (s.narrow, (c.control_dim-controls.ensures, (omega (arith, s.n_most), (s.m_is, (omega (arith, row_end l.c a.n (kept a.m) (omega arith), s.fits, l.invariant.1.0), (known, (answers_kept own g, elim c.if-past_row.branch [ then-past_row w ↦ rw (w.nodes-is, w.errors-is, w.b-is) w.base_next-b.ensures | else-past_row w ↦ rw (w.nodes-is, w.errors-is, w.b-is) l.invariant.1.1.1.1 ]))))))))
 
 returns : tie.Need-returns-in-Refused invariant_loop decreases_loop
 returns c =
