@@ -5,16 +5,10 @@ use Rattle.board_text.proofs.write_numbers.Statement.{statement}
 use Rattle.board_text.proofs.write_numbers.Tie as tie
 
 returns : tie.Need-returns-in-Refused
-returns c =
-    let told = c.before.before.before.before in
-    let fate = told.before.before.before.before in
-    steps_refused _ _ _ _ fate.board_course-b.ensures fate.is_planned-sampled.ensures fate.in-Refused.is told.tell_refused.ensures
+returns c = steps_refused _ _ _ _ c.board_course-b.ensures c.is_planned-sampled.ensures c.in-Refused.is c.tell_refused.ensures
 
 returns_2 : tie.Need-returns-in-Going
-returns_2 c =
-    let put = c.before.before in
-    let fate = put.before.before.before.before in
-    steps_given _ _ _ _ fate.board_course-b.ensures fate.in-Going.is put.is_last-last.ensures put.put_line-bytes.ensures
+returns_2 c = steps_given _ _ _ _ c.board_course-b.ensures c.in-Going.is c.is_last-last.ensures c.put_line-bytes.ensures
 
 pub write_numbers_spec : {M : Type 1} → statement M
 write_numbers_spec =
