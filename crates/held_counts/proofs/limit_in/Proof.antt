@@ -1,6 +1,6 @@
 -- `held_counts::limit_in` meets its contract: each way out is a case of the definition, told by the tests on the way. Assumes nothing.
 use Prim.Native.Nat.{◌<◌}
-use mathlib.Core.Path.{◌≡◌, sym, ◌∙◌}
+use mathlib.Core.Path.{◌≡◌, sym, ◌∙◌, subst}
 use mathlib.Core.Bool.{Bool, true, false}
 use Rattle.control_limits.specs.Limits as Limits
 use Rattle.control_rows.specs.Parts.{bare}
@@ -15,7 +15,7 @@ use Rattle.held_counts.proofs.limit_in.Tie as tie
 
 -- what the code asks is whether the map has no actuators
 asked : (m : ActuatorMap) {r : Rig} {b t : Bool} → r ≡ rig_of m → b ≡ bare r → b ≡ t → bare (rig_of m) ≡ t
-asked m e f g = rw (← e) (sym f ∙ g)
+asked m {r} {b} {t} e f g = subst (λ (x : Rig). bare x ≡ t) e (sym f ∙ g)
 
 below : (c : tie.Then-is_bare) → c.args.i < 3
 below c = held_bare _ _ c.requires (asked c.args.map c.rig_of.ensures c.is_bare.ensures c.if-is_bare.true)
