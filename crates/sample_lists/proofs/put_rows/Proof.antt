@@ -54,11 +54,12 @@ loop-again c =
       place_next _ _ _ _ l.j c.place-next.ensures.0 c.held_index.ensures.1,
       turn_next _ _ _ _ l.j l.invariant.5 c.turn-turned.ensures,
       elim c.if-j-ge2.branch [
-          then-j-ge2+in-Going w ↦
-          let e : l.j - 2 + 1 ≡ l.j + 1 - 2 = omega (arith, w.if-j-ge2.true) in
-          let is = finish_is _ _ _ _ _ _ _ c.step_rows-steps.ensures l.invariant.6 w.if-j-ge2.true (omega arith) w.finish-made.ensures in
-          rw (w.out-is, ← e) (goes_next _ l.invariant.7 is (omega (arith, c.requires, w.if-j-ge2.true)) w.in-Going.is w.numbers-row.ensures)
-          | else-j-ge2 w ↦ let e : l.j - 2 ≡ l.j + 1 - 2 = omega (arith, w.if-j-ge2.false) in rw (w.out-is, ← e) l.invariant.7 ],
+        | then-j-ge2+in-Going w ↦
+            let e : l.j - 2 + 1 ≡ l.j + 1 - 2 = omega (arith, w.if-j-ge2.true) in
+            let is = finish_is _ _ _ _ _ _ _ c.step_rows-steps.ensures l.invariant.6 w.if-j-ge2.true (omega arith) w.finish-made.ensures in
+            rw (w.out-is, ← e) (goes_next _ l.invariant.7 is (omega (arith, c.requires, w.if-j-ge2.true)) w.in-Going.is w.numbers-row.ensures)
+        | else-j-ge2 w ↦ let e : l.j - 2 ≡ l.j + 1 - 2 = omega (arith, w.if-j-ge2.false) in rw (w.out-is, ← e) l.invariant.7
+      ],
     )
 
 returns_2 : tie.Need-returns invariant_loop decreases_loop

@@ -13,8 +13,9 @@ walk-requires : tie.Need-walk-i-requires
 walk-requires c κs =
     let s = c.before.before in
     elim c.if-since-t.branch [
-    then-since-t w ↦ rw w.start-is (c.requires.2, passed_later c.args.nodes.now c.args.since c.time_of-t.result c.args.from s.well_formed.1.1.1.1.1.0.1 c.time_of-t.type_inv w.if-since-t.true c.requires.3)
-    | else-since-t w ↦ rw w.start-is (omega arith, passed_none c.args.nodes.now c.time_of-t.result) ]
+      | then-since-t w ↦ rw w.start-is (c.requires.2, passed_later c.args.nodes.now c.args.since c.time_of-t.result c.args.from s.well_formed.1.1.1.1.1.0.1 c.time_of-t.type_inv w.if-since-t.true c.requires.3)
+      | else-since-t w ↦ rw w.start-is (omega arith, passed_none c.args.nodes.now c.time_of-t.result)
+    ]
 
 returns : tie.Need-returns
 unfolding placed
