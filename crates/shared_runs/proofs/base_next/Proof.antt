@@ -12,7 +12,7 @@ use Rattle.shared_runs.proofs.base_next.Tie as tie
 steps-under-requires : tie.Need-steps_under-w-requires
 steps-under-requires c κs =
     let pre = c.requires in
-    let k = pre.1.1.1.1 (c.if-not-b.false) in
+    let k = pre.1.1.1.1 (not-false _ c.if-not-b.false) in
     (record { sized = pre.0; narrow = pre.1.0; angles = (k.skew, pre.1.1.0); sound = k.sound }, (omega arith, omega arith))
 
 sums-next-requires : tie.Need-sums_next-sums-requires
@@ -20,7 +20,7 @@ unfolding Ieee.of_bits
 sums-next-requires c κs =
     let a = c.args in
     let r = c.steps_under-w.ensures in
-    let k = c.requires.1.1.1.1 (c.if-not-b.false) in
+    let k = c.requires.1.1.1.1 (not-false _ c.if-not-b.false) in
     (omega arith, (kept_same a.p a.z.now a.b a.nodes.now c.steps_under-w.new.nodes a.errors.now r.size r.below k).begins.sums)
 
 keep-error-requires : tie.Need-keep_error-known-requires
@@ -28,7 +28,7 @@ keep-error-requires c κs =
     let a = c.args in
     let r = c.steps_under-w.ensures in
     let held = c.requires.1.1.1 in
-    let k = held.1 (c.if-not-b.false) in
+    let k = held.1 (not-false _ c.if-not-b.false) in
     rw c.target_of.ensures
     (omega arith, (r.size ∙ held.0.nodes, (held.0.errors, (kept_same a.p a.z.now a.b a.nodes.now c.steps_under-w.new.nodes a.errors.now r.size r.below k).begins.kept)))
 
@@ -40,7 +40,7 @@ returns_3 c =
     let sums = target.before in
     let held = c.requires.1.1.1 in
     let r = c.steps_under-w.ensures in
-    let k = held.1 (c.if-not-b.false) in (
+    let k = held.1 (not-false _ c.if-not-b.false) in (
       record { nodes = r.size ∙ held.0.nodes; errors = c.keep_error-known.ensures.1 },
       λ h.
           let g = c.goes.ensures h in

@@ -46,7 +46,7 @@ returns_2 c =
     let a = c.args in
     let z = c.requires.0 in
     let t = c.before.before.before.before.before.before.before.step_of_lem in (
-      c.try_step.ensures.0 ∙ solved a.p a.g.state a.n a.m _ a.g.r z.n_is z.m_is t.result.solved _ t.ensures.0 (c.if-not-step.false),
+      c.try_step.ensures.0 ∙ solved a.p a.g.state a.n a.m _ a.g.r z.n_is z.m_is t.result.solved _ t.ensures.0 (not-false _ c.if-not-step.false),
       (c.try_step.ensures.1, t.ensures.1.1),
     )
 
