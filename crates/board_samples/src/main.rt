@@ -4,5 +4,5 @@
 use std::io;
 
 fn main(rt: HostRuntime) -> io::Result<()> {
-    programs::samples::run(&rt)
+    programs::dense_samples::run(&rt)
 }

@@ -2,8 +2,8 @@
 #![tactic(auto)]
 
 pub mod axis_plans;
+pub mod dense_samples;
 pub mod mosaics;
 pub mod output;
 pub mod plans;
-pub mod samples;
 pub mod words;

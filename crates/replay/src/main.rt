@@ -2,8 +2,8 @@
 // and compared to the last bit, a NaN matching any NaN. Blocks of 65,536 bytes, which no line crosses, are filled up with empty lines.
 #![tactic(auto)]
 
+mod dense_samples;
 mod runs;
-mod samples;
 
 use cases::read::Case;
 use cases::tally::Tally;
@@ -22,7 +22,7 @@ fn holds(number: u64, v: &[u64; 1024]) -> bool {
     if number < 250 {
         return runs::holds(number, v);
     }
-    samples::holds(number, v)
+    dense_samples::holds(number, v)
 }
 
 // The group of a function: fifty numbers a group, those of whole plans and systems left out.

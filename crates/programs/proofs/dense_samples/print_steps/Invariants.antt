@@ -1,6 +1,6 @@
--- `samples::print_steps` ends: the loop counts up to its bound.
+-- `dense_samples::print_steps` ends: the loop counts up to its bound.
 use Rattle.std.proofs.Common.{◌-◌, ◌≤◌}
-use Rattle.programs.proofs.samples.print_steps.Given as goal
+use Rattle.programs.proofs.dense_samples.print_steps.Given as goal
 
 abbrev pub invariant-loop-index : goal.invariant-loop-index
 invariant-loop-index l = l.index ≤ 100000

@@ -1,6 +1,6 @@
--- `samples::nodes` ends: the loop counts its nodes.
+-- `dense_samples::nodes` ends: the loop counts its nodes.
 use Rattle.std.proofs.Common.{◌-◌, ◌≤◌}
-use Rattle.replay.proofs.samples.nodes.Given as goal
+use Rattle.replay.proofs.dense_samples.nodes.Given as goal
 
 abbrev pub invariant-loop-k : goal.invariant-loop-k
 invariant-loop-k l = l.k ≤ 17
