@@ -7,7 +7,7 @@ use Rattle.export_board.proofs.slew_board_list.Tie as tie
 returns : tie.Need-returns
 returns c =
     let e = rw c.tensor-inertia.ensures at c.drive_list-made.ensures in
-    list_told e c.place_of.ensures c.number_of_lem.ensures
+    list_told e c.place_of.ensures c.number_of.ensures
 
 pub slew_board_list_spec : {M : Type 1} → statement M
 slew_board_list_spec =

@@ -8,7 +8,7 @@ returns : tie.Need-returns
 returns c =
     let e = rw c.tensor-inertia.ensures at c.drive_sample-made.ensures in
     let driven = c.drive_sample-made.result in
-    let told = placed (of_fate_law driven.numbers driven.fate) c.place_of.ensures c.number_of_lem.ensures in
+    let told = placed (of_fate_law driven.numbers driven.fate) c.place_of.ensures c.number_of.ensures in
     record { placed = rw e at told; numbers_are = rw e }
 
 pub slew_board_sample_spec : {M : Type 1} → statement M

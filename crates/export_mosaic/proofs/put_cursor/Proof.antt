@@ -8,8 +8,8 @@ returns : tie.Need-returns
 returns c =
     let number = c.before.before.before in
     record {
-      number_is = number.number_of_lem.ensures;
-      counts_are = rw (number.number_of_lem.ensures, c.place_of-place.ensures);
+      number_is = number.number_of-number.ensures;
+      counts_are = rw (number.number_of-number.ensures, c.place_of-place.ensures);
       sums_are = refl;
     }
 

@@ -7,7 +7,7 @@ returns : tie.Need-returns
 returns c =
     let is = rw (c.last_of-last.ensures, c.momenta_of-from.ensures) at c.commit-made.ensures in
     record {
-      number_is = rw (c.number_of_lem.ensures, is);
+      number_is = rw (c.number_of.ensures, is);
       place_is = rw (c.place_of.ensures, is);
       wheels_are = rw is;
       momenta_are = rw is;

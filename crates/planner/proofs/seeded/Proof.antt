@@ -8,10 +8,10 @@ use Rattle.planner.proofs.seeded.Statement.{statement}
 use Rattle.planner.proofs.seeded.Tie as tie
 
 returns : tie.Need-returns-then-not-counted
-returns c = refusal _ c.refused.ensures (seeded_uncounted _ _ _ _ (not-true _ c.if-not-counted.true))
+returns c = refusal _ c.refused.ensures (seeded_uncounted _ _ _ _ c.if-not-counted.true)
 
 returns_2 : tie.Need-returns-then-not-is_positive
-returns_2 c = refusal _ c.refused-then-not-is_positive.ensures (seeded_untimed _ _ _ _ (not-false _ c.if-not-counted.false) c.is_positive.ensures (c.if-not-is_positive.true))
+returns_2 c = refusal _ c.refused-then-not-is_positive.ensures (seeded_untimed _ _ _ _ c.if-not-counted.false c.is_positive.ensures (c.if-not-is_positive.true))
 
 returns_3 : tie.Need-returns-then-ws-room
 returns_3 c =

@@ -9,7 +9,7 @@ returns : tie.Need-returns
 returns c =
     let told = of_plan c.args.r in
     record {
-      number_is = c.number_of_lem.ensures ∙ told.number;
+      number_is = c.number_of.ensures ∙ told.number;
       counts_are = rw (c.place_of-place.ensures, told.place, ← told.runs);
       duration_is = search rules;
       defect_is = search rules;

@@ -7,7 +7,7 @@ use Rattle.export.proofs.sampled.slew_sample_path.Tie as tie
 returns : tie.Need-returns
 returns c =
     let is = rw c.tensor-inertia.ensures at c.sample-made.ensures in
-    let told = placed (of_fate_law c.sample-made.result.sample c.sample-made.result.fate) c.place_of.ensures c.number_of_lem.ensures in
+    let told = placed (of_fate_law c.sample-made.result.sample c.sample-made.result.fate) c.place_of.ensures c.number_of.ensures in
     record { placed = rw is at told; numbers_are = rw (c.numbers_of.ensures, is) }
 
 pub slew_sample_path_spec : {M : Type 1} → statement M

@@ -7,7 +7,7 @@ use Rattle.export_runs.proofs.paths.slew_reconstruct.Tie as tie
 returns : tie.Need-returns
 returns c =
     let is = rw c.problem_of-p.ensures at c.reconstruct-made.ensures in
-    rw (← is) (run_told c.reconstruct-made.result c.place_of.ensures c.number_of_lem.ensures c.rows.ensures)
+    rw (← is) (run_told c.reconstruct-made.result c.place_of.ensures c.number_of.ensures c.rows.ensures)
 
 pub slew_reconstruct_spec : {M : Type 1} → statement M
 slew_reconstruct_spec =

@@ -7,7 +7,7 @@ use Rattle.export_runs.proofs.paths.slew_residuals.Tie as tie
 returns : tie.Need-returns
 returns c =
     let is = rw c.problem_of-p.ensures at c.residuals-measured.ensures in
-    rw (← is) (residuals_told c.residuals-measured.result c.place_of.ensures c.number_of_lem.ensures)
+    rw (← is) (residuals_told c.residuals-measured.result c.place_of.ensures c.number_of.ensures)
 
 pub slew_residuals_spec : {M : Type 1} → statement M
 slew_residuals_spec =

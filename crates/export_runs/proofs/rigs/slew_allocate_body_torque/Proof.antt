@@ -10,7 +10,7 @@ returns : tie.Need-returns
 returns c =
     let map = c.map_of-map in
     let row = c.allocate_body_torque-row.result in
-    let told = placed (of_fate_law (take (control_dim map.result) row.u) row.fate) c.place_of.ensures c.number_of_lem.ensures in
+    let told = placed (of_fate_law (take (control_dim map.result) row.u) row.fate) c.place_of.ensures c.number_of.ensures in
     record {
       placed = rw (c.allocate_body_torque-row.ensures, map.ensures) at told;
       out_is = rw (c.allocate_body_torque-row.ensures, map.ensures);

@@ -9,7 +9,7 @@ returns : tie.Need-returns
 returns c =
     let torque = c.body_torque-t.result in
     let is = rw c.map_of-map.ensures at c.body_torque-t.ensures in
-    record { number_is = c.number_of_lem.ensures ∙ (of_fate_law torque.tau torque.fate).number ∙ rw is; out_is = rw is }
+    record { number_is = c.number_of.ensures ∙ (of_fate_law torque.tau torque.fate).number ∙ rw is; out_is = rw is }
 
 pub slew_body_torque_spec : {M : Type 1} → statement M
 slew_body_torque_spec = tie.close (tie.spec (λ c κs. search rules) (λ c κs. search rules) (λ c κs. search rules) returns)

@@ -8,7 +8,7 @@ returns : tie.Need-returns
 returns c =
     let declared = c.actuators_of.ensures in
     let is = rw declared at c.prepare-prepared.ensures in
-    let told = placed (of_fate_law c.prepare-prepared.result.map c.prepare-prepared.result.fate) c.place_of.ensures c.number_of_lem.ensures in
+    let told = placed (of_fate_law c.prepare-prepared.result.map c.prepare-prepared.result.fate) c.place_of.ensures c.number_of.ensures in
     (rw is at told, (rw is, rw is))
 
 pub slew_prepare_spec : {M : Type 1} → statement M

@@ -9,7 +9,7 @@ use Rattle.export_runs.proofs.rigs.slew_pyramid_a.Tie as tie
 returns : tie.Need-returns
 returns c =
     let made = c.pyramid_a-made in
-    (c.number_of_lem.ensures ∙ (of_fate_law (rows made.result.a) made.result.fate).number ∙ rw made.ensures, rw made.ensures)
+    (c.number_of.ensures ∙ (of_fate_law (rows made.result.a) made.result.fate).number ∙ rw made.ensures, rw made.ensures)
 
 pub slew_pyramid_a_spec : {M : Type 1} → statement M
 slew_pyramid_a_spec = tie.close (tie.spec (λ c κs. search rules) (λ c κs. search rules) returns)

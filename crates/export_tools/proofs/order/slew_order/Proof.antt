@@ -8,7 +8,7 @@ ordered c = c.before.before.before.before.before
 
 returns : tie.Need-returns
 returns c = (
-  rw (c.number_of_lem.ensures, (ordered c).order-answer.ensures),
+  rw (c.number_of.ensures, (ordered c).order-answer.ensures),
   (rw (ordered c).order-answer.ensures, rw (c.flag-exhausted.ensures, (ordered c).order-answer.ensures)),
 )
 

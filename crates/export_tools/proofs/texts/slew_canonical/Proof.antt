@@ -10,7 +10,7 @@ use Rattle.export_tools.proofs.texts.slew_canonical.Tie as tie
 returns : tie.Need-returns
 returns c =
     let e = c.canonical_text-told.ensures in
-    let number = c.number_of_lem.ensures ∙ ap (λ (t : Told). fate_number t.fate) e.is in
+    let number = c.number_of.ensures ∙ ap (λ (t : Told). fate_number t.fate) e.is in
     let place = c.place_of.ensures ∙ ap (λ (t : Told). fate_place t.fate) e.is in
     (number, (e.bytes, (ap (λ (t : Told). t.bytes) e.is, place)))
 

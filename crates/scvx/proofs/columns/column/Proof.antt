@@ -36,7 +36,7 @@ residuals-sharing-requires c κs =
 gather-requires : tie.Need-gather-requires
 gather-requires c κs =
     let st = start c.before.before.before in
-    (width_laid st.args.p st.pre.1.1.1.1.0, omega (arith, width_most st.args.p, st.pre.1.1.1.1.0, long c.before.before.before))
+    (width_laid st.args.p st.requires.1.1.1.1.0, omega (arith, width_most st.args.p, st.requires.1.1.1.1.0, long c.before.before.before))
 
 -- where the decision is z again
 abbrev again : tie.After-put_column → tie.After-same_decision
@@ -45,16 +45,16 @@ again c = c.before.before.before.before
 put-column-requires : tie.Need-put_column-requires
 put-column-requires c κs =
     let st = first c.before.before.before in
-    let em = st.pre.1.1.1.1.0 in
-    rw c.kept.ensures (omega (arith, kept_most st.args.m (width_laid st.args.p em), width_most st.args.p, em), st.pre.1.1.1.1.1.0)
+    let em = st.requires.1.1.1.1.0 in
+    rw c.kept.ensures (omega (arith, kept_most st.args.m (width_laid st.args.p em), width_most st.args.p, em), st.requires.1.1.1.1.1.0)
 
 returns : tie.Need-returns-then-same_decision
 returns c =
     let t = c.before.before in
     let st = first (again t) in
     let a = st.args in
-    let em = st.pre.1.1.1.1.0 in
-    let answers = st.pre.1.1.1.1.1.1.1.0 in
+    let em = st.requires.1.1.1.1.0 in
+    let answers = st.requires.1.1.1.1.1.1.1.0 in
     let e : perturb a.p a.z.now a.c ≡ a.z.now = sym (again t).perturb-y.ensures ∙ (again t).same_decision.ensures c.if-same_decision.true in
     let gathered : Gathered a.m (residuals_of a.p (perturb a.p a.z.now a.c)).r a.r0.now =
     subst (λ y. Gathered a.m (residuals_of a.p y).r a.r0.now) (sym e) answers.rows in
@@ -63,14 +63,14 @@ returns c =
         sym (ap (λ (y : List Float). (residuals_of a.p y).fate) e ∙ answers.goes),
         λ r0 g z. column_stands put (slopes_kept a.m _ r0 _ _ (width_laid a.p em) gathered g (width_zeros a.p (perturb a.p a.z.now a.c) em) z),
       ),
-      st.pre.1.1.1.1.1.1.1.1,
+      st.requires.1.1.1.1.1.1.1.1,
     )
 
 put-column-requires-2 : tie.Need-put_column-requires-in-Going
 put-column-requires-2 c κs =
     let st = start c.before.before.before.before.before.before.before.before in
-    let em = st.pre.1.1.1.1.0 in
-    rw c.kept-in-Going.ensures (omega (arith, kept_most st.args.m (width_laid st.args.p em), width_most st.args.p, em), st.pre.1.1.1.1.1.0)
+    let em = st.requires.1.1.1.1.0 in
+    rw c.kept-in-Going.ensures (omega (arith, kept_most st.args.m (width_laid st.args.p em), width_most st.args.p, em), st.requires.1.1.1.1.1.0)
 
 returns_2 : tie.Need-returns-in-Refused
 returns_2 c =

@@ -41,12 +41,12 @@ loop-holds : tie.Need-loop-c-init invariant_loop decreases_loop
 loop-holds c = (search rules, (search rules, (λ r0 g z. front_none _ _ _ r0 _, (λ i h. refl, (record { nodes = refl; errors = refl }, c.base_start-b.ensures _ _ _ refl)))))
 
 past-row-requires : tie.Need-past_row-requires invariant_loop decreases_loop
-past-row-requires c κs = rw (gathered c.before.before).control_dim-controls.ensures (start c.before.before).pre.0.narrow
+past-row-requires c κs = rw (gathered c.before.before).control_dim-controls.ensures (start c.before.before).requires.0.narrow
 
 base-next-requires : tie.Need-base_next-b-requires invariant_loop decreases_loop
 base-next-requires c κs =
     let l = c.before.before.before.before.before.before.before in
-    let s = (start l.before).pre.0 in
+    let s = (start l.before).requires.0 in
     (s.sized, (s.narrow, (c.know_angles.ensures.1, c.loop-c.invariant.1.1.1.1)))
 
 column-requires : tie.Need-column-fate-requires invariant_loop decreases_loop
@@ -55,8 +55,8 @@ column-requires c κs =
     let known = c.know_angles.ensures.1 in
     let l = c.loop-c in
     let a = (start j.before.before.before.before).args in
-    let s = (start j.before.before.before.before).pre.0 in
-    let own = (start j.before.before.before.before).pre.1.1 in
+    let s = (start j.before.before.before.before).requires.0 in
+    let own = (start j.before.before.before.before).requires.1.1 in
     let g = (gathered j.before.before.before.before).gather.ensures in
     (s.sized, (s.narrow, (c.control_dim-controls.ensures, (omega (arith, s.n_most), (s.m_is, (omega (arith, row_end l.c a.n (kept a.m) (omega arith), s.fits, l.invariant.1.0), (known, (answers_kept own g, elim c.if-past_row.branch [ then-past_row w ↦ rw (w.nodes-is, w.errors-is, w.b-is) w.base_next-b.ensures | else-past_row w ↦ rw (w.nodes-is, w.errors-is, w.b-is) l.invariant.1.1.1.1 ]))))))))
 
@@ -71,8 +71,8 @@ returns c =
     let l = c.loop-c in
     let t = c.column-fate in
     let below = loop-test.true in
-    let past = left_past a.p a.m a.t5 a.r0 l.c l.v (l.invariant.1.1.0 a.r0 g z) t.new.v t.result (t.ensures.0.1 a.r0 g z) (a.n * kept a.m) (row_end l.c a.n (kept a.m) (below)) in
-    (front_broken a.p a.m a.t5 a.r0 l.c l.v (l.invariant.1.1.0 a.r0 g z) s.m_is (omega (arith, s.n_is, below)) (sym t.ensures.0.0 ∙ c.in-Refused.is), λ i h. past i h ∙ l.invariant.1.1.1.0 i h)
+    let past = left_past a.p a.m a.z a.r0 l.c l.v (l.invariant.1.1.0 a.r0 g z) t.new.v t.result (t.ensures.0.1 a.r0 g z) (a.n * kept a.m) (row_end l.c a.n (kept a.m) (below)) in
+    (front_broken a.p a.m a.z a.r0 l.c l.v (l.invariant.1.1.0 a.r0 g z) s.m_is (omega (arith, s.n_is, below)) (sym t.ensures.0.0 ∙ c.in-Refused.is), λ i h. past i h ∙ l.invariant.1.1.1.0 i h)
 
 loop-again : tie.Need-loop-c-preserved invariant_loop decreases_loop
 loop-again c =
@@ -86,13 +86,13 @@ loop-again c =
     let below = loop-test.true in
     let u = t.new.v in
     let here = l.invariant.1.1.0 a.r0 g z in
-    let size = left_length a.p a.m a.t5 a.r0 l.c l.v here u t.result (t.ensures.0.1 a.r0 g z) in
-    let past = left_past a.p a.m a.t5 a.r0 l.c l.v here u t.result (t.ensures.0.1 a.r0 g z) (a.n * kept a.m) (row_end l.c a.n (kept a.m) (below)) in (
+    let size = left_length a.p a.m a.z a.r0 l.c l.v here u t.result (t.ensures.0.1 a.r0 g z) in
+    let past = left_past a.p a.m a.z a.r0 l.c l.v here u t.result (t.ensures.0.1 a.r0 g z) (a.n * kept a.m) (row_end l.c a.n (kept a.m) (below)) in (
       omega (arith, below),
       (
         size ∙ l.invariant.1.0,
         (
-          λ r0 h o. front_next a.p a.m a.t5 r0 l.c l.v (l.invariant.1.1.0 r0 h o) u t.ensures.0.0 c.in-Going.is (t.ensures.0.1 r0 h o),
+          λ r0 h o. front_next a.p a.m a.z r0 l.c l.v (l.invariant.1.1.0 r0 h o) u t.ensures.0.0 c.in-Going.is (t.ensures.0.1 r0 h o),
           (λ i h. past i h ∙ l.invariant.1.1.1.0 i h, t.ensures.1),
         ),
       ),
@@ -106,7 +106,7 @@ returns_2 c =
     let l = c.loop-c in
     let e : l.c ≡ a.n = omega arith in
     let here = l.invariant.1.1.0 a.r0 (gathered first).gather.ensures (start first).requires.1.0 in
-    (front_whole a.p a.m a.t5 a.r0 a.n l.v s.n_is s.m_is (omega (arith, s.fits, l.invariant.1.0)) (rw e at here), l.invariant.1.1.1.0)
+    (front_whole a.p a.m a.z a.r0 a.n l.v s.n_is s.m_is (omega (arith, s.fits, l.invariant.1.0)) (rw e at here), l.invariant.1.1.1.0)
 
 pub jacobian_spec : {M : Type 1} → statement M
 jacobian_spec =
@@ -126,11 +126,11 @@ jacobian_spec =
     (λ c. sym c.know_angles.ensures.0)
     column-requires
     (λ c. search rules)
-    (λ c. omega (arith, c.loop-c-test.true, (start c.before.before.before.before.before.before.before.before.before.before.before.before.before.before).pre.0.n_most))
+    (λ c. omega (arith, c.loop-c-test.true, (start c.before.before.before.before.before.before.before.before.before.before.before.before.before.before).requires.0.n_most))
     (λ c. search rules)
     returns
     (λ c. search rules)
-    (λ c. omega (arith, c.loop-c-test.true, (start c.before.before.before.before.before.before.before.before.before.before.before.before.before.before).pre.0.n_most))
+    (λ c. omega (arith, c.loop-c-test.true, (start c.before.before.before.before.before.before.before.before.before.before.before.before.before.before).requires.0.n_most))
     (λ c. search rules)
     loop-again
     (λ c. search rules)

@@ -55,12 +55,12 @@ next c = (done c).iterate-g.ensures.0 ∙ sym (turn_going (start c).args.p (at-l
 returns : tie.Need-returns-in-Ended invariant_loop decreases_loop
 returns c =
     let l = (at-loop c.before).loop-k in
-    iter_stays _ _ (l.k + 1) 40 (omega arith) (iter_next _ _ l.k l.inv.1.1.1.1.0 (next c.before.before)) (λ j. turn_ended _ j _ c.in-Ended.is)
+    iter_stays _ _ (l.k + 1) 40 (omega arith) (iter_next _ _ l.k l.invariant.1.1.1.1.0 (next c.before)) (λ j. turn_ended _ j _ c.in-Ended.is)
 
 returns_2 : tie.Need-returns-in-Refused invariant_loop decreases_loop
 returns_2 c =
     let l = (at-loop c.before).loop-k in
-    iter_stays _ _ (l.k + 1) 40 (omega arith) (iter_next _ _ l.k l.inv.1.1.1.1.0 (next c.before.before)) (λ j. turn_refused _ j _ c.in-Refused.is)
+    iter_stays _ _ (l.k + 1) 40 (omega arith) (iter_next _ _ l.k l.invariant.1.1.1.1.0 (next c.before)) (λ j. turn_refused _ j _ c.in-Refused.is)
 
 -- the runs of an iteration are those of its definition
 runs_same : (c : tie.After-s-1 invariant_loop decreases_loop) → (done c).iterate-g.result.state.runs ≡ (Search.iterate (start c).args.p (at-loop c).loop-k.k (at-loop c).loop-k.g.state).runs
@@ -82,7 +82,7 @@ repeat-last-requires c κs =
     let l = (at-loop s).loop-k in
     let p = (start s).args.p in
     let pre = (start s).requires.0 in
-    (omega arith, repeats_most l.k l.g.state.runs _ (Search.numbers p) (omega arith) l.inv.1.0 (omega (arith, runs_same s, iterate_le p l.k l.g.state)) (omega (arith, pre.n_is, pre.n_most)))
+    (omega arith, repeats_most l.k l.g.state.runs _ (Search.numbers p) (omega arith) l.invariant.1.0 (omega (arith, runs_same s, iterate_le p l.k l.g.state)) (omega (arith, pre.n_is, pre.n_most)))
 
 -- the workspace is as long as it was
 same-length-3 : tie.Need-shape_of-ws-then-is_settled invariant_loop decreases_loop
@@ -115,8 +115,8 @@ loop-again c =
     let t = (done s).iterate-g in (
       omega (arith, (in-loop s).loop-k-test.true),
       (
-        omega (arith, pre.n_is, pre.n_most, l.inv.1.0, runs_same s, iterate_le (start s).args.p l.k l.g.state),
-        (t.kept.ws ∙ l.inv.1.1.0, (c.in-Going.is, (iter_next _ _ l.k l.inv.1.1.1.1.0 (next s), (t.kept.gram ∙ l.inv.1.1.1.1.1.0, t.ensures.1)))),
+        omega (arith, pre.n_is, pre.n_most, l.invariant.1.0, runs_same s, iterate_le (start s).args.p l.k l.g.state),
+        (t.auto.ws ∙ l.invariant.1.1.0, (c.in-Going.is, (iter_next _ _ l.k l.invariant.1.1.1.1.0 (next s), (t.auto.gram ∙ l.invariant.1.1.1.1.1.0, t.ensures.1)))),
       ),
     )
 
