@@ -1,7 +1,7 @@
 -- Every f64 of a parameter that is handed over by value is a number of binary64. Assumes nothing.
 use mathlib.Core.Bool.{true}
-use mathlib.Core.Path.{◌≡◌, refl, ap, subst, sym}
-use mathlib.Core.List.{List, [], ◌∷◌, map}
+use mathlib.Core.Path.{◌≡◌, subst, sym}
+use mathlib.Core.List.{List, [], ◌∷◌}
 use Prim.Native.Nat.{ℕ, zero, suc}
 use lib.Dec.{T}
 use lib.ListN.{get_or, length}
@@ -26,6 +26,8 @@ use Rattle.actuators.specs.declared.Wheel.{Wheel}
 use Rattle.actuators.specs.declared.Thruster.{Thruster}
 use Rattle.actuators.specs.declared.Actuators.{Actuators}
 use Rattle.actuators.specs.contracts.Actuators as ActuatorsOf
+use Rattle.actuators.specs.contracts.Wheel as WheelOf
+use Rattle.actuators.specs.contracts.Thruster as ThrusterOf
 use Rattle.problem.specs.declared.Problem.{Problem}
 use Rattle.problem.specs.contracts.Problem as ProblemOf
 use Rattle.run_laws.specs.Values.{FitsQ}
@@ -43,29 +45,25 @@ nan_held : T (fits binary64 nan)
 unfolding fits
 nan_held = tt
 
--- each element of an array, and what stands past its end; f takes an element to its fields
-each_held : {A B : Type 0} (f : A → B) (own : B → List Val → Fml) (P : A → Type 0) → ((x : A) (vs : List Val) → shadow (own (f x) vs) → P x) → (d : A) → P d
-    → (xs : List A) (us : List Val) → shadow (each B own (map f xs) us) → (i : ℕ) → P (get_or xs i d)
-each_held f own P h d past [] us s i = past
-each_held f own P h d past (x ∷ xs) [] s i = absurd s
-each_held f own P h d past (x ∷ xs) (u ∷ us) s zero = h x (u ∷ []) s.0
-each_held f own P h d past (x ∷ xs) (u ∷ us) s (suc i) = each_held f own P h d past xs us s.1 i
+-- each element of an array, and what stands past its end
+each_held : {A : Type 0} (own : A → List Val → Fml) (P : A → Type 0) → ((x : A) (vs : List Val) → shadow (own x vs) → P x) → (d : A) → P d
+    → (xs : List A) (us : List Val) → shadow (each A own xs us) → (i : ℕ) → P (get_or xs i d)
+each_held own P h d past [] us s i = past
+each_held own P h d past (x ∷ xs) [] s i = absurd s
+each_held own P h d past (x ∷ xs) (u ∷ us) s zero = h x (u ∷ []) s.0
+each_held own P h d past (x ∷ xs) (u ∷ us) s (suc i) = each_held own P h d past xs us s.1 i
 
 -- the numbers of an array in a struct
-field_held : (xs : List Float) (us : List Val) → shadow (each Float (FloatOf binary64).own (map (λ v. v) xs) us) → Fit xs
-field_held xs us s i = each_held (λ v. v) (FloatOf binary64).own (λ x. T (fits binary64 x)) (λ x vs g. held x g.1) nan nan_held xs us s i
-
-same : (xs : List Float) → map (λ v. v) xs ≡ xs
-same [] = refl
-same (x ∷ xs) = ap (λ l. x ∷ l) (same xs)
+field_held : (xs : List Float) (us : List Val) → shadow (each Float (FloatOf binary64).own_val xs us) → Fit xs
+field_held xs us s i = each_held (FloatOf binary64).own_val (λ x. T (fits binary64 x)) (λ x vs g. held x g.1) nan nan_held xs us s i
 
 -- the count of an array in a struct
-pub field_count : (n : ℕ) (xs : List Float) (vs : List Val) → Is (Array (FloatOf binary64) n) (map (λ v. v) xs) vs → length xs ≡ n
-field_count n xs vs g = subst (λ (l : List Float). length l ≡ n) (same xs) g.1.0.1
+pub field_count : (n : ℕ) (xs : List Float) (vs : List Val) → Is (Array (FloatOf binary64) n) xs vs → length xs ≡ n
+field_count n xs vs g = g.1.0.1
 
 -- the numbers of an array
 pub array_held : (n : ℕ) (xs : List Float) (vs : List Val) → Is (Array (FloatOf binary64) n) xs vs → Fit xs
-array_held n xs vs g = field_held xs g.0 (subst (λ (l : List Float). shadow (each Float (FloatOf binary64).own l g.0)) (sym (same xs)) g.1.1)
+array_held n xs vs g = field_held xs g.0 g.1.1
 
 -- ---- the actuators
 rate_held : (c : Cmgs) (vs : List Val) → Is CmgsOf.the_row c vs → RateFits c
@@ -76,10 +74,10 @@ actuators_held : (a : Actuators) (vs : List Val) → Is ActuatorsOf.the_row a vs
 actuators_held a vs g =
     let f = g.1.1 in
     record {
-      torque = each_held _ _ (λ (w : Wheel). T (fits binary64 w.max_torque_nm)) (λ w us h. held _ h.1.1.1.0.1) _ nan_held a.wheels _ f.0.1.1;
-      momentum = each_held _ _ (λ (w : Wheel). T (fits binary64 w.max_momentum_nms)) (λ w us h. held _ h.1.1.1.1.0.1) _ nan_held a.wheels _ f.0.1.1;
-      axis = each_held _ _ (λ (w : Wheel). Fit w.axis) (λ w us h. field_held w.axis _ h.1.1.0.1.1) _ (λ i. nan_held) a.wheels _ f.0.1.1;
-      thrust = each_held _ _ (λ (t : Thruster). T (fits binary64 t.max_torque_nm)) (λ t us h. held _ h.1.1.1.0.1) _ nan_held a.thrusters _ f.1.1.0.1.1;
+      torque = each_held WheelOf.the_row.own_val (λ (w : Wheel). T (fits binary64 w.max_torque_nm)) (λ w us h. held _ h.1.1.1.0.1) _ nan_held a.wheels _ f.0.1.1;
+      momentum = each_held WheelOf.the_row.own_val (λ (w : Wheel). T (fits binary64 w.max_momentum_nms)) (λ w us h. held _ h.1.1.1.1.0.1) _ nan_held a.wheels _ f.0.1.1;
+      axis = each_held WheelOf.the_row.own_val (λ (w : Wheel). Fit w.axis) (λ w us h. field_held w.axis _ h.1.1.0.1.1) _ (λ i. nan_held) a.wheels _ f.0.1.1;
+      thrust = each_held ThrusterOf.the_row.own_val (λ (t : Thruster). T (fits binary64 t.max_torque_nm)) (λ t us h. held _ h.1.1.1.0.1) _ nan_held a.thrusters _ f.1.1.0.1.1;
       rate = rate_held a.cmgs _ f.1.1.1.1.0;
     }
 
