@@ -13,10 +13,10 @@ in_format : (c : tie.After-size-a) → T (fits binary64 c.args.x)
 in_format c = subst T (sym c.before.well_formed.0.1) tt
 
 fine : (c : tie.Then-a) → Counted c.args.x (add binary64 c.size-a.result (of_bits binary64 4706261610602168320)) 4706261610602168320 Unit.Fine
-fine c = is_counted _ c.size-a.result (in_format c.before.before.before) c.size-a.ensures Unit.Fine c.if-a.true
+fine c = is_counted _ c.size-a.result (in_format c.before.before) c.size-a.ensures Unit.Fine c.if-a.true
 
 coarse : (c : tie.Then-a-2) → Counted c.args.x (add binary64 c.size-a.result (of_bits binary64 4751297606875873280)) 4751297606875873280 Unit.Coarse
-coarse c = is_counted _ c.size-a.result (in_format c.before.before.before) c.size-a.ensures Unit.Coarse c.if-a-2.true
+coarse c = is_counted _ c.size-a.result (in_format c.before.before) c.size-a.ensures Unit.Coarse c.if-a-2.true
 
 float-to-bits-placed : tie.Need-float_to_bits-a
 float-to-bits-placed c = (fine c).number
@@ -41,7 +41,7 @@ returns c = c.placed.ensures ∙ (fine c.before).is ∙ ap (part _) (sym c.in-Fi
 
 returns_2 : tie.Need-returns-else-a
 returns_2 c =
-    is_outside c.args.x c.size-a.result (in_format c.before.before.before) c.size-a.ensures Unit.Fine c.if-a.false
+    is_outside c.args.x c.size-a.result (in_format c.before.before) c.size-a.ensures Unit.Fine c.if-a.false
     ∙ ap (part _) (sym c.in-Fine.is)
 
 returns_3 : tie.Need-returns-then-a-2
@@ -49,7 +49,7 @@ returns_3 c = c.placed-then-a-2.ensures ∙ (coarse c.before).is ∙ ap (part _)
 
 returns-4 : tie.Need-returns-else-a-2
 returns-4 c =
-    is_outside c.args.x c.size-a.result (in_format c.before.before.before) c.size-a.ensures Unit.Coarse c.if-a-2.false
+    is_outside c.args.x c.size-a.result (in_format c.before.before) c.size-a.ensures Unit.Coarse c.if-a-2.false
     ∙ ap (part _) (sym c.in-Coarse.is)
 
 pub part_spec : {M : Type 1} → statement M
