@@ -85,7 +85,8 @@ pub fn place(
     ensures { Stages.PlacedFor nodes.now steps.now (Samples.time_of duration count k) result }
 {
     let t = time_of(duration, count, k);
-    let start = if since <= t { from } else { 0 };
+    let later = since <= t;
+    let start = if later { from } else { 0 };
     let i = walk(nodes, start, t);
     let s = t - time(nodes, i);
     let v = rotation(rate(nodes, i), step_change(steps, i), s);

@@ -7,14 +7,14 @@ use Rattle.sample_lists.specs.WalkLaws.{passed_none, passed_later}
 use borrow.Author.Rules.{rules}
 use Rattle.sample_lists.proofs.stages.place.Statement.{statement}
 use Rattle.sample_lists.proofs.stages.place.Tie as tie
-use Rattle.sample_lists.proofs.stages.place.Lts.{then-since-t, else-since-t}
+use Rattle.sample_lists.proofs.stages.place.Lts.{then-later, else-later}
 
 walk-requires : tie.Need-walk-i-requires
 walk-requires c κs =
     let s = c.before.before in
-    elim c.if-since-t.branch [
-      | then-since-t w ↦ rw w.start-is (c.requires.2, passed_later c.args.nodes.now c.args.since c.time_of-t.result c.args.from s.well_formed.1.1.1.1.1.0.1 c.time_of-t.type_inv w.if-since-t.true c.requires.3)
-      | else-since-t w ↦ rw w.start-is (omega arith, passed_none c.args.nodes.now c.time_of-t.result)
+    elim c.if-later.branch [
+      | then-later w ↦ rw w.start-is (c.requires.2, passed_later c.args.nodes.now c.args.since c.time_of-t.result c.args.from s.well_formed.1.1.1.1.1.0.1 c.time_of-t.type_inv w.if-later.true c.requires.3)
+      | else-later w ↦ rw w.start-is (omega arith, passed_none c.args.nodes.now c.time_of-t.result)
     ]
 
 returns : tie.Need-returns
