@@ -14,17 +14,32 @@ use Rattle.problem.specs.Problems.{check, refused}
 use Rattle.problem.specs.declared.Problem.{Problem}
 use Rattle.problem.specs.declared.CheckedProblem.{CheckedProblem}
 use Rattle.forward.specs.Decisions.{row_of, sixteen, step_time}
-use Rattle.forward.specs.Runs.{start_of, run_from, body_of, run_under, run_of}
+use Rattle.forward.specs.Runs.{start_of, run_from, end_of, end_by_value, rollout, body_of, run_under, run_of}
+use Rattle.forward.specs.declared.BodyState.{BodyState}
+use Rattle.float_laws.specs.Unit.{Below1}
 use Rattle.controls.specs.Controls.{rig_of}
 use Rattle.control_rows.specs.declared.WheelLaw.TheVariants.{Once}
 use Rattle.forward.specs.Steps.{Body}
 use Rattle.forward.specs.Reconstruct.{admit, reconstruct_by, reconstruct_under, reconstruct}
 use Rattle.run_laws.specs.Values.{goes}
 use Rattle.run_laws.specs.Torques.{at_slice}
-use Rattle.run_laws.specs.Runs.{StateOk, start_ok, Flown, run_flown}
+use Rattle.run_laws.specs.Runs.{StateOk, start_ok, Flown, Kept, keeps, ended_run_ok}
 use Rattle.run_laws.specs.Times.{time_finite}
 use Rattle.run_laws.specs.Checked.{FitsP, Ready, check_ready}
 use Rattle.run_laws.specs.Paths.{control, Path}
+
+module _ (b : Body) (n : ℕ) (z : List Float) (from : BodyState) (B : Below1 b.frame.tolerance) (F : (i : ℕ) → T (fits binary64 (at z i))) (S : StateOk b from) where
+  -- A RUN WITH NODES
+  pub run_flown : T (goes (run_from b n z from).fate) → Flown b n z from B F S (run_from b n z from)
+  unfolding run_from end_of
+  run_flown t = go (rollout b n z from).fate refl t
+    where
+      kept : T (goes (rollout b n z from).fate) → Kept b n z from B F S 16 (rollout b n z from)
+      kept t = unfold rollout in keeps b n z from B F S 16 (omega arith) t
+
+      go : (e : Fate) → (rollout b n z from).fate ≡ e → T (goes (end_by_value e b (rollout b n z from)).fate) → Flown b n z from B F S (end_by_value e b (rollout b n z from))
+      go Going p t = ended_run_ok b n z from B F S (rollout b n z from) (kept (rw p tt))
+      go (Refused i j) p t = absurd t
 
 -- a control of the decision is one of the row that a step reads
 dim_width : (m : ActuatorMap) (i : ℕ) → i < control_dim m → i < width (rig_of m) (gimbals m.cmgs)

@@ -243,7 +243,7 @@ module _ (b : Body) (n : ℕ) (z : List Float) (from : BodyState) (B : Below1 b.
       go Going p t = one_more k x l (K (rw p tt)) (went t)
       go (Refused i j) p t = absurd (rw p at t)
 
-  keeps : (k : ℕ) → k ≤ 17 → T (goes (iter (rollout_turn b n z) (start_rollout from) k).fate) → Kept k (iter (rollout_turn b n z) (start_rollout from) k)
+  pub keeps : (k : ℕ) → k ≤ 17 → T (goes (iter (rollout_turn b n z) (start_rollout from) k).fate) → Kept k (iter (rollout_turn b n z) (start_rollout from) k)
   unfolding iter
   keeps zero l t = record {
     state = S;
@@ -277,44 +277,33 @@ module _ (b : Body) (n : ℕ) (z : List Float) (from : BodyState) (B : Below1 b.
     -- node 0 is the start
     pub first : node_at r.nodes 0 ≡ node_of b.frame.dt 0 from (node_at r.nodes 0).tau
 
-  -- A RUN WITH NODES
-  pub run_flown : T (goes (run_from b n z from).fate) → Flown (run_from b n z from)
-  unfolding run_from end_of node_of
-  run_flown t = go (rollout b n z from).fate refl t
+  pub ended_run_ok : (x : Rollout) → Kept 16 x → Flown (ended_run b x)
+  unfolding node_of
+  ended_run_ok x K = record {
+    nodes = below_next (λ i. NodeOk wheels (node_at ns i)) 16 (rw same ok) (λ i h. rw (other i (λ (e : i ≡ 16). omega arith)) (K.nodes i h));
+    rows = K.rows;
+    time = K.time (omega arith);
+    defect = K.defect;
+    times = below_next (λ i. (node_at ns i).t ≡ time_of b.frame.dt i) 16 (ap (λ (y : Node). y.t) same) (λ i h. rw (other i (λ (e : i ≡ 16). omega arith)) (K.times i h));
+    stored = λ i h. rw (other i (λ (e : i ≡ 16). omega arith)) (K.stored i h);
+    repeats = ap (λ (y : Node). y.tau) same ∙ sym (ap (λ (y : Node). y.tau) (other 15 (λ (e : 15 ≡ 16). omega arith)));
+    first = rw (other 0 (λ (e : 0 ≡ 16). omega arith)) (K.first (omega arith));
+  }
     where
-      kept : T (goes (rollout b n z from).fate) → Kept 16 (rollout b n z from)
-      kept t = unfold rollout in keeps 16 (omega arith) t
+      node : Node
+      node = node_of b.frame.dt 16 x.s (node_at x.nodes 15).tau
 
-      ended_run_ok : (x : Rollout) → Kept 16 x → Flown (ended_run b x)
-      ended_run_ok x K = record {
-        nodes = below_next (λ i. NodeOk wheels (node_at ns i)) 16 (rw same ok) (λ i h. rw (other i (λ (e : i ≡ 16). omega arith)) (K.nodes i h));
-        rows = K.rows;
-        time = K.time (omega arith);
-        defect = K.defect;
-        times = below_next (λ i. (node_at ns i).t ≡ time_of b.frame.dt i) 16 (ap (λ (y : Node). y.t) same) (λ i h. rw (other i (λ (e : i ≡ 16). omega arith)) (K.times i h));
-        stored = λ i h. rw (other i (λ (e : i ≡ 16). omega arith)) (K.stored i h);
-        repeats = ap (λ (y : Node). y.tau) same ∙ sym (ap (λ (y : Node). y.tau) (other 15 (λ (e : 15 ≡ 16). omega arith)));
-        first = rw (other 0 (λ (e : 0 ≡ 16). omega arith)) (K.first (omega arith));
-      }
-        where
-          node : Node
-          node = node_of b.frame.dt 16 x.s (node_at x.nodes 15).tau
+      ns : List Node
+      ns = set x.nodes 16 node
 
-          ns : List Node
-          ns = set x.nodes 16 node
+      same : node_at ns 16 ≡ node
+      same = get_or-set_same x.nodes 16 node no_node (rw K.long (omega arith))
 
-          same : node_at ns 16 ≡ node
-          same = get_or-set_same x.nodes 16 node no_node (rw K.long (omega arith))
+      other : (i : ℕ) → (i ≡ 16 → ⊥) → node_at ns i ≡ node_at x.nodes i
+      other i h = get_or-set_other x.nodes 16 i node no_node h
 
-          other : (i : ℕ) → (i ≡ 16 → ⊥) → node_at ns i ≡ node_at x.nodes i
-          other i h = get_or-set_other x.nodes 16 i node no_node h
+      fifteen : NodeOk wheels (node_at x.nodes 15)
+      fifteen = K.nodes 15 (omega arith)
 
-          fifteen : NodeOk wheels (node_at x.nodes 15)
-          fifteen = K.nodes 15 (omega arith)
-
-          ok : NodeOk wheels node
-          ok = record { q = K.state.q; w = K.state.w; w_fits = K.state.w_fits; tau = fifteen.tau; tau_fits = fifteen.tau_fits; hw = K.state.hw; spare = K.state.spare }
-
-      go : (e : Fate) → (rollout b n z from).fate ≡ e → T (goes (end_by_value e b (rollout b n z from)).fate) → Flown (end_by_value e b (rollout b n z from))
-      go Going p t = ended_run_ok (rollout b n z from) (kept (rw p tt))
-      go (Refused i j) p t = absurd t
+      ok : NodeOk wheels node
+      ok = record { q = K.state.q; w = K.state.w; w_fits = K.state.w_fits; tau = fifteen.tau; tau_fits = fifteen.tau_fits; hw = K.state.hw; spare = K.state.spare }
