@@ -15,17 +15,9 @@ use Rattle.drive_numbers.specs.declared.Unit.{Unit}
 use Rattle.drive_numbers.specs.declared.Whole.{Whole}
 use Rattle.drive_numbers.specs.declared.Whole.TheVariants as Whole
 use Rattle.drive_numbers.specs.Numbers.{weight, rounded, in_range, whole_in_range, part, read_back_value}
+use Rattle.drive_numbers.specs.Rounding.{apart, Nearest, Numbered}
 use Rattle.drive_numbers.specs.NearestLaws.{Near, closest_near, near_one}
 use Rattle.drive_numbers.specs.BackLaws.{read_back}
-
--- twice the distance of n units from z
-abbrev pub apart : ℕ → ℤ → ℤ → ℕ
-apart u n z = 2 * nat_abs (n *ℤ pos u -ℤ z)
-
--- n units are within half a unit of z, and where they are just half a unit off, n is even
-pub record Nearest (u : ℕ) (n z : ℤ) : Type 0 where
-  pub within : apart u n z ≤ u
-  pub tie : apart u n z ≡ u → nat_abs n % 2 ≡ 0
 
 -- ---- distances
 gap : (p q : ℕ) → nat_abs (pos p -ℤ pos q) ≡ (p - q) + (q - p)
@@ -104,12 +96,6 @@ module _ (u : ℕ) (U : 0 < u) where
       none e k = omega arith
 
 -- ---- parts
--- the rounding rule: n is the number exactly where x is finite, 32 bits hold n, and n units are within half a unit of x, just half a unit off only for an even n
-pub record Numbered (x : Float) (u : Unit) (n : ℤ) : Type 0 where
-  pub fine : T (finite x)
-  pub in_range_law : T (in_range n)
-  pub nearest : Nearest (2 ^ weight u) n (exact x)
-
 whole_in_range_is : (b : Bool) (m n : ℤ) → cond b (Whole.Is m) Whole.Outside ≡ Whole.Is n → T b × (m ≡ n)
 whole_in_range_is true m n h = (tt, cc)
 whole_in_range_is false m n h = absurd (none h)

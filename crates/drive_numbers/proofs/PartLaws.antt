@@ -20,6 +20,7 @@ use Rattle.drive_numbers.specs.declared.Unit.TheVariants as Unit
 use Rattle.drive_numbers.specs.declared.Whole.{Whole}
 use Rattle.drive_numbers.specs.declared.Whole.TheVariants as Whole
 use Rattle.drive_numbers.specs.Numbers.{weight, rounded, whole_in_range, placed, part}
+use Rattle.drive_numbers.specs.Rounding.{Counted}
 use Rattle.drive_numbers.specs.Inner.{size}
 use Rattle.drive_numbers.specs.NearestLaws.{closest_ge, closest_whole}
 use Rattle.drive_numbers.specs.SumLaws.{count_le, sum_bits, sum_no_nan}
@@ -103,13 +104,6 @@ outside_minus (suc n) h = rw (is_false (leb n (2 ^ 31 - 1)) (lt→nleb n (2 ^ 31
 outside : (s : Bool) (n : ℕ) → 2 ^ 32 ≤ n → Whole.Outside ≡ whole_in_range (signed s n)
 outside false n h = outside_plus n (omega arith)
 outside true n h = outside_minus n (omega arith)
-
--- what code has of a part: a sum's pattern p, the pattern o of the power of two, and the number
-pub record Counted (x z : Float) (o : ℕ) (u : Unit) : Type 0 where
-  pub number : T (not (is_nan z))
-  pub from : o ≤ to_bits binary64 z
-  pub small : to_bits binary64 z - o ≤ 2 ^ 32
-  pub is : placed (lt x (of_bits binary64 0)) (to_bits binary64 z - o) ≡ part x u
 
 module _ (u : Unit) (b c : ℕ) (B : b + 1074 ≡ 32 + weight u) (C : c + 1074 ≡ 52 + weight u) (K : weight u ≤ 2000) where
   powers : 2 ^ b * 2 ^ 1074 ≡ 2 ^ 32 * 2 ^ weight u

@@ -25,7 +25,8 @@ use Rattle.drive_numbers.specs.declared.Whole.TheVariants as Whole
 use Rattle.drive_numbers.specs.declared.Driven.{Driven}
 use Rattle.drive_numbers.specs.Numbers.{part}
 use Rattle.drive_numbers.specs.Drive.{inside, number, all, numbers, wholes, parts, refused, given, numbered, driven_by, drive, drive_sample}
-use Rattle.drive_numbers.proofs.Laws.{Numbered, number_says, says_number}
+use Rattle.drive_numbers.specs.Rounding.{Numbered}
+use Rattle.drive_numbers.proofs.Laws.{number_says, says_number}
 
 -- each part has its number
 pub data Each : List (Float × Unit) → List ℤ → Type 0 where

@@ -1,6 +1,7 @@
 -- Dense samples as whole numbers for the drive board.
 -- ---- meaning
 pub mod Numbers  -- a float as a whole number of units, and the way back
+pub mod Rounding  -- the rounding rule of a part's number
 pub mod Drive  -- a sample's 13 numbers, or a refusal
 pub mod Lists  -- a path's whole list, up to the first sample that is refused
 -- ---- laws

@@ -12,7 +12,8 @@ use Rattle.run_laws.specs.Checked.{FitsP}
 use Rattle.search_laws.specs.Fits.{Fit}
 use Rattle.planner.specs.Plans as Plans
 use Rattle.planner.specs.Promises.{Promised, Answers, own_seed}
-use Rattle.planner.proofs.RefusalLaws.{Blank, plan_blank, plan_from_blank}
+use Rattle.planner.specs.Blanks.{Blank}
+use Rattle.planner.proofs.RefusalLaws.{plan_blank, plan_from_blank}
 use Rattle.planner.specs.declared.Path.{Path}
 use Rattle.planner.specs.declared.Planned.{Planned}
 use Rattle.planner.specs.PromisesKept.{plan_from_promised, plan_promised}

@@ -16,6 +16,7 @@ use Rattle.scvx.specs.Search.{search, room}
 use Rattle.scvx.specs.declared.Found.{Found}
 use Rattle.end_checks.specs.Ends.{end_fate}
 use Rattle.planner.specs.Plans as Plans
+use Rattle.planner.specs.Blanks.{Blank}
 use Rattle.planner.specs.declared.Path.{Path}
 use Rattle.planner.specs.declared.Planned.{Planned}
 
@@ -72,10 +73,7 @@ module _ (Q : Planned → Type 0) (no : (number place runs : ℕ) → Q (Plans.r
       go Going = profiled (Plans.profiled (check p).problem).fate (check p).problem (Plans.profiled (check p).problem).profile size
       go (Refused n k) = no n k 0
 
--- ---- NO PATH beside a refusal: the answer is its number, place and runs, and the blank path
-abbrev pub Blank : Planned → Type 0
-Blank r = (number place runs : ℕ) → Plans.answer r ≡ Answers.Refused number place runs → r ≡ Plans.refused number place runs
-
+-- ---- NO PATH beside a refusal
 refused_blank : (number place runs : ℕ) → Blank (Plans.refused number place runs)
 refused_blank number place runs n k j e =
     let a : number ≡ n = cc in

@@ -1,6 +1,7 @@
 -- The planner's two entries.
 -- ---- meaning
 pub mod Plans  -- the entries: checks, seed, search, end checks, the path
+pub mod Blanks  -- no path beside a refusal
 pub mod Promises  -- demand 3, whole, and what an entry's answer says
 -- ---- laws
 pub mod PromisesKept  -- both entries keep demand 3

@@ -24,7 +24,8 @@ use Rattle.planner.specs.declared.Planned.{Planned}
 use Rattle.samples.specs.declared.PathSample.{PathSample}
 use Rattle.sample_laws.specs.Between.{WithinNodes, BetweenNodes}
 use Rattle.sample_laws.specs.Courses.{RunNode, reconstruct_nodes}
-use Rattle.sample_laws.proofs.Rates.{RunNodes, sampled_within}
+use Rattle.sample_laws.specs.Nodes.{RunNodes}
+use Rattle.sample_laws.proofs.Rates.{sampled_within}
 
 -- ---- a path of which demand 3 holds
 module _ {p : Problem} {seed : List Float} {path : Path} {runs : ℕ} (P : Promised p seed path runs) where

@@ -37,6 +37,7 @@ use Rattle.samples.specs.declared.PathSample.{PathSample}
 use Rattle.samples.specs.declared.Sampled.{Sampled}
 use Rattle.sample_laws.specs.Between.{SameRate, Amid, at_first, at_last, amid, WithinNodes}
 use Rattle.sample_laws.specs.Courses.{RunNode}
+use Rattle.sample_laws.specs.Nodes.{RunNodes}
 use Rattle.sample_laws.specs.Instants.{first_time, times_plus, sample_number}
 use Rattle.sample_laws.specs.Rows.{time_is, rate_is}
 use Rattle.sample_laws.specs.Walks.{walked}
@@ -82,13 +83,6 @@ given_is x s h = go x.fate refl
     go : (e : Fate) → x.fate ≡ e → (x.fate ≡ Going) × (s ≡ x.sample)
     go Going e = let g : Given x.sample ≡ Given s = rw e at h in (e, cc)
     go (Refused n k) e = let g : Answer.Refused n k 0 ≡ Given s = rw e at h in let z : ◌≡◌ {A = ℕ} 0 1 = cc in absurd (omega arith)
-
--- what is asked of the nodes: those of a run of steps of the time dt, finite
-pub record RunNodes (nodes : List Node) (dt : Float) : Type 0 where
-  pub step : Plain dt
-  pub made : (k : ℕ) → k < 17 → RunNode dt k (node_at nodes k)
-  pub time : (k : ℕ) → k < 17 → T (finite (node_at nodes k).t)
-  pub rate : (k : ℕ) → k < 17 → Fine3 (node_at nodes k).w
 
 module _ (nodes : List Node) (dt duration : Float) (F : RunNodes nodes dt) (D : T (finite duration)) where
   abbrev R : List (List Float)

@@ -1,6 +1,7 @@
 -- Between the nodes: the rates of an answered path's dense samples.
 -- ---- meaning
 pub mod Between  -- what is promised
+pub mod Nodes  -- what is asked of a run's nodes
 -- ---- laws
 pub mod Courses  -- the nodes of a run: times and rates
 pub mod Instants  -- the times of nodes and samples

@@ -4,7 +4,8 @@ use borrow.Author.Rules.{rules}
 use lib.Dec.{T}
 use lib.Ieee.{binary64, add, fits, of_bits}
 use Rattle.drive_numbers.specs.Numbers.{part}
-use Rattle.drive_numbers.proofs.PartLaws.{Counted, is_counted, is_outside}
+use Rattle.drive_numbers.specs.Rounding.{Counted}
+use Rattle.drive_numbers.proofs.PartLaws.{is_counted, is_outside}
 use Rattle.drive_numbers.specs.declared.Unit.TheVariants as Unit
 use Rattle.drive_numbers.proofs.part.Statement.{statement}
 use Rattle.drive_numbers.proofs.part.Tie as tie
