@@ -1,10 +1,9 @@
 -- What a sized map's counts are bounded by. Assumes nothing.
-use Rattle.std.specs.Prelude.{ℕ, ◌≤◌, ◌≡◌, refl, Bool, true, false, ◌&&◌}
+use Rattle.std.specs.Prelude.{◌≤◌, ◌≡◌, refl, Bool, true, false, ◌&&◌, Option, Some, None}
 use Rattle.std.proofs.Common.{arith, leb-true}
-use Rattle.actuators.specs.declared.Cmgs.{Cmgs}
-use Rattle.actuators.specs.declared.Cmgs.TheVariants.{Without, With}
 use Rattle.actuators.specs.declared.ActuatorMap.{ActuatorMap}
 use Rattle.actuators.specs.Maps.{is_sized, gimbals}
+use Rattle.actuators.specs.declared.CmgPyramid.{CmgPyramid}
 
 both : (a b : Bool) → a && b ≡ true → (a ≡ true) × (b ≡ true)
 both true true e = (refl, refl)
@@ -17,6 +16,6 @@ unfolding is_sized
 sized_counts m e = let p = both _ _ e in (leb-true _ _ p.0, leb-true _ _ p.1)
 
 -- a row has at most four gimbal rates
-pub gimbals_most : (c : Cmgs) → gimbals c ≤ 4
-gimbals_most Without = omega arith
-gimbals_most (With p) = omega arith
+pub gimbals_most : (c : Option CmgPyramid) → gimbals c ≤ 4
+gimbals_most None = omega arith
+gimbals_most (Some p) = omega arith

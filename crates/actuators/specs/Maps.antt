@@ -1,24 +1,19 @@
 -- Actuator maps: blank values, what stands in the tables, the width of a control row. Definitions only.
-use Rattle.std.specs.Prelude.{ℕ, ◌+◌, ◌*◌, Bool, true, false, cond, ◌&&◌, List, [], ◌∷◌, eqb, leb, Float, get_or, replicate}
+use Rattle.std.specs.Prelude.{ℕ, ◌+◌, ◌*◌, Bool, true, false, cond, ◌&&◌, List, [], ◌∷◌, eqb, leb, Float, get_or, replicate, Option, Some, None}
 use Rattle.std.specs.Float.{nan}
 use Rattle.common.specs.Floats.{plus_zero}
 use Rattle.common.specs.Lists.{at}
-use Rattle.common.specs.declared.Limit.{Limit}
-use Rattle.common.specs.declared.Limit.TheVariants.{Nothing, At}
 use Rattle.actuators.specs.declared.Wheel.{Wheel}
 use Rattle.actuators.specs.declared.Thruster.{Thruster}
 use Rattle.actuators.specs.declared.CmgPyramid.{CmgPyramid}
-use Rattle.actuators.specs.declared.Cmgs.{Cmgs}
-use Rattle.actuators.specs.declared.Cmgs.TheVariants.{Without, With}
 use Rattle.actuators.specs.declared.Actuators.{Actuators}
-use Rattle.actuators.specs.declared.Power.{Power}
 use Rattle.actuators.specs.declared.ActuatorMap.{ActuatorMap}
 
 -- ---- blank values
 
 -- a wheel past the count
 abbrev pub blank_wheel : Wheel
-blank_wheel = record { axis = replicate 3 plus_zero; max_torque_nm = plus_zero; max_momentum_nms = plus_zero; max_power_w = Nothing }
+blank_wheel = record { axis = replicate 3 plus_zero; max_torque_nm = plus_zero; max_momentum_nms = plus_zero; max_power_w = None }
 
 -- a thruster past the count
 abbrev pub blank_thruster : Thruster
@@ -26,7 +21,7 @@ blank_thruster = record { torque_axis = replicate 3 plus_zero; max_torque_nm = p
 
 -- wheel k of a list; what stands past its end, no answer depends on
 abbrev pub wheel_at : List Wheel → ℕ → Wheel
-wheel_at ws k = get_or ws k (record { axis = []; max_torque_nm = nan; max_momentum_nms = nan; max_power_w = Nothing })
+wheel_at ws k = get_or ws k (record { axis = []; max_torque_nm = nan; max_momentum_nms = nan; max_power_w = None })
 
 -- thruster k of a list; what stands past its end, no answer depends on
 abbrev pub thruster_at : List Thruster → ℕ → Thruster
@@ -39,15 +34,15 @@ no_actuators = record {
   wheel_count = 0;
   thrusters = replicate 12 blank_thruster;
   thruster_count = 0;
-  cmgs = Without;
+  cmgs = None;
 }
 
 -- a power limit that is not declared
-abbrev pub no_power_value : Power
-no_power_value = record { limit = Nothing }
+abbrev pub no_power_value : Option Float
+no_power_value = None
 
 -- a map of nw wheels, nt thrusters and these gyros whose tables hold +0 and Nothing alone
-unfoldable pub unfilled : ℕ → ℕ → Cmgs → ActuatorMap
+unfoldable pub unfilled : ℕ → ℕ → Option CmgPyramid → ActuatorMap
 unfilled nw nt c = record {
   wheel_count = nw;
   thruster_count = nt;
@@ -62,7 +57,7 @@ unfilled nw nt c = record {
 
 -- the map of no actuators, which stands beside every refusal too
 abbrev pub blank_map : ActuatorMap
-blank_map = unfilled 0 0 Without
+blank_map = unfilled 0 0 None
 
 -- ---- what stands in the tables
 
@@ -73,14 +68,14 @@ axis_at t k = at t (3 * k) ∷ at t (3 * k + 1) ∷ at t (3 * k + 2) ∷ []
 -- ---- the width of a control row
 
 -- gimbal rates in a row
-abbrev pub gimbals : Cmgs → ℕ
-gimbals Without = 0
-gimbals (With p) = 4
+abbrev pub gimbals : Option CmgPyramid → ℕ
+gimbals None = 0
+gimbals (Some p) = 4
 
 -- there is no pyramid
-abbrev pub no_cmgs : Cmgs → Bool
-no_cmgs Without = true
-no_cmgs (With p) = false
+abbrev pub no_cmgs : Option CmgPyramid → Bool
+no_cmgs None = true
+no_cmgs (Some p) = false
 
 -- there are no actuators at all
 unfoldable pub is_empty : ActuatorMap → Bool

@@ -1,25 +1,19 @@
 -- Preparing actuators: the counts, then each actuator's numbers and its axis, in the order of actuators.rs. Definitions only.
-use Rattle.std.specs.Prelude.{ℕ, ◌+◌, ◌*◌, Bool, true, false, cond, not, ◌||◌, List, ltb, Float, set}
+use Rattle.std.specs.Prelude.{ℕ, ◌+◌, ◌*◌, Bool, false, cond, not, ◌||◌, List, ltb, Float, set, Option, Some, None, Result, Ok, Err}
 use Rattle.std.specs.Float.{binary64}
 use Rattle.std.specs.Float.Ieee.{le, of_bits}
 use Rattle.common.specs.Iter.{iter}
-use Rattle.common.specs.declared.Limit.{Limit}
-use Rattle.common.specs.declared.Limit.TheVariants.{Nothing, At}
-use Rattle.common.specs.declared.Fate.{Fate}
-use Rattle.common.specs.declared.Fate.TheVariants.{Going, Refused}
-use Rattle.geom.specs.declared.Axis.{Axis}
-use Rattle.geom.specs.declared.Axis.TheVariants.{Is, Not}
 use Rattle.geom.specs.Vec.{is_positive_value}
 use Rattle.geom.specs.Quats.{unit3}
 use Rattle.actuators.specs.declared.Wheel.{Wheel}
 use Rattle.actuators.specs.declared.Thruster.{Thruster}
 use Rattle.actuators.specs.declared.CmgPyramid.{CmgPyramid}
-use Rattle.actuators.specs.declared.Cmgs.{Cmgs}
-use Rattle.actuators.specs.declared.Cmgs.TheVariants.{Without, With}
 use Rattle.actuators.specs.declared.Actuators.{Actuators}
 use Rattle.actuators.specs.declared.ActuatorMap.{ActuatorMap}
-use Rattle.actuators.specs.declared.Prepared.{Prepared}
 use Rattle.actuators.specs.Maps.{wheel_at, thruster_at, blank_map, unfilled}
+use Rattle.common.specs.declared.Refusal.{Refusal}
+use Rattle.common.specs.Refusals.{Fate, refusal, going}
+use Rattle.std.specs.Result.{result_unwrap_or}
 
 -- ---- numbers outside their range
 
@@ -28,9 +22,9 @@ unfoldable pub outside : Float → Bool
 outside x = not (is_positive_value x)
 
 -- a declared power that is
-abbrev pub power_outside : Limit → Bool
-power_outside Nothing = false
-power_outside (At p) = outside p
+abbrev pub power_outside : Option Float → Bool
+power_outside None = false
+power_outside (Some p) = outside p
 
 -- one of a wheel's numbers is outside its range
 unfoldable pub wheel_outside : Wheel → Bool
@@ -51,27 +45,35 @@ pyramid_outside p =
 
 -- ---- answers
 
--- a refusal: its number and place, beside the blank map
+-- a map, or a refusal
+abbrev pub Prepared : Type 0
+Prepared = Result ActuatorMap Refusal
+
+-- a refusal: its number and place
 abbrev pub refused : ℕ → ℕ → Prepared
-refused n place = record { fate = Refused n place; map = blank_map }
+refused n place = Err (refusal n place)
 
 -- the map so far
 abbrev pub so_far : ActuatorMap → Prepared
-so_far m = record { fate = Going; map = m }
+so_far m = Ok m
+
+-- the map, blank where it is refused
+abbrev pub map_or_blank : Prepared → ActuatorMap
+map_or_blank p = result_unwrap_or p blank_map
 
 -- what `unit3` says of an actuator's axis decides: 3 where it refuses, else the map that f makes with the unit axis
-abbrev pub placed : ℕ → Axis → (Float → Float → Float → ActuatorMap) → Prepared
-placed place Not f = refused 3 place
-placed place (Is x y z) f = so_far (f x y z)
+abbrev pub placed : ℕ → Option (Float × Float × Float) → (Float → Float → Float → ActuatorMap) → Prepared
+placed place None f = refused 3 place
+placed place (Some (x, y, z)) f = so_far (f x y z)
 
 -- one actuator's check: its numbers (2) before its axis (3)
-abbrev pub checked : Bool → ℕ → Axis → (Float → Float → Float → ActuatorMap) → Prepared
+abbrev pub checked : Bool → ℕ → Option (Float × Float × Float) → (Float → Float → Float → ActuatorMap) → Prepared
 checked out place u f = cond out (refused 2 place) (placed place u f)
 
 -- the next actuator's answer after p: a refused answer stays put
-abbrev pub onward : Fate → Prepared → Prepared → Prepared
-onward Going p next = next
-onward (Refused n place) p next = p
+abbrev pub onward : Prepared → (ActuatorMap → Prepared) → Prepared
+onward (Ok m) next = next m
+onward (Err why) next = Err why
 
 -- a flat table with axis k set to x, y, z
 abbrev pub axis_set : List Float → ℕ → Float → Float → Float → List Float
@@ -88,7 +90,7 @@ with_wheel m k w x y z = record {
   wheel_axes = axis_set m.wheel_axes k x y z;
   wheel_torques = set m.wheel_torques k w.max_torque_nm;
   wheel_momenta = set m.wheel_momenta k w.max_momentum_nms;
-  wheel_powers = set m.wheel_powers k (record { limit = w.max_power_w });
+  wheel_powers = set m.wheel_powers k w.max_power_w;
   thruster_axes = m.thruster_axes;
   thruster_torques = m.thruster_torques;
 }
@@ -99,7 +101,7 @@ wheel_checked m k w = checked (wheel_outside w) k (unit3 w.axis) (with_wheel m k
 
 -- wheel k after the actuators before it
 unfoldable pub wheel_next : ℕ → Wheel → Prepared → Prepared
-wheel_next k w p = onward p.fate p (wheel_checked p.map k w)
+wheel_next k w p = onward p (λ m. wheel_checked m k w)
 
 abbrev pub wheel_turn : List Wheel → ℕ → Prepared → Prepared
 wheel_turn ws k p = wheel_next k (wheel_at ws k) p
@@ -130,7 +132,7 @@ thruster_checked m k t = checked (outside t.max_torque_nm) (8 + k) (unit3 t.torq
 
 -- thruster k after the actuators before it
 unfoldable pub thruster_next : ℕ → Thruster → Prepared → Prepared
-thruster_next k t p = onward p.fate p (thruster_checked p.map k t)
+thruster_next k t p = onward p (λ m. thruster_checked m k t)
 
 abbrev pub thruster_turn : List Thruster → ℕ → Prepared → Prepared
 thruster_turn ts k p = thruster_next k (thruster_at ts k) p
@@ -142,13 +144,20 @@ thrusters_checked ts p n = iter (thruster_turn ts) p n
 -- ---- the pyramid, at place 20
 
 -- the pyramid's check: its numbers alone
-abbrev pub cmgs_checked : Cmgs → ActuatorMap → Prepared
-cmgs_checked Without m = so_far m
-cmgs_checked (With p) m = cond (pyramid_outside p) (refused 2 20) (so_far m)
+abbrev pub check_cmgs : Option CmgPyramid → Fate
+check_cmgs None = going
+check_cmgs (Some p) = cond (pyramid_outside p) (Err (refusal 2 20)) going
+
+abbrev pub under_cmgs : Fate → ActuatorMap → Prepared
+under_cmgs (Ok _) m = so_far m
+under_cmgs (Err why) m = Err why
+
+abbrev pub cmgs_checked : Option CmgPyramid → ActuatorMap → Prepared
+cmgs_checked c m = under_cmgs (check_cmgs c) m
 
 -- the pyramid after the actuators before it
-unfoldable pub cmgs_next : Cmgs → Prepared → Prepared
-cmgs_next c p = onward p.fate p (cmgs_checked c p.map)
+unfoldable pub cmgs_next : Option CmgPyramid → Prepared → Prepared
+cmgs_next c p = onward p (cmgs_checked c)
 
 -- ---- the whole
 

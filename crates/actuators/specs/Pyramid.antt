@@ -1,27 +1,26 @@
 -- The Jacobian of a four-CMG pyramid and its measure of singularity, in the order of operations of actuators.rs. Definitions only.
-use Rattle.std.specs.Prelude.{ℕ, false, List, [], ◌∷◌, Float, replicate}
+use Rattle.std.specs.Prelude.{ℕ, false, List, [], ◌∷◌, Float, replicate, Option, Some, None, Result, Ok, Err}
 use Rattle.std.specs.Float.{binary64, inf}
 use Rattle.std.specs.Float.Ieee.{add, mul, neg}
-use Rattle.common.specs.Floats.{plus_zero}
 use Rattle.common.specs.Lists.{at}
-use Rattle.common.specs.declared.Fate.{Fate}
-use Rattle.common.specs.declared.Fate.TheVariants.{Going, Refused}
-use Rattle.angles.specs.declared.Both.{Both}
-use Rattle.angles.specs.declared.Both.TheVariants as Both
 use Rattle.angles.specs.Both.{both_of}
 use Rattle.geom.specs.Vec.{row, det3}
-use Rattle.actuators.specs.declared.Cmgs.{Cmgs}
-use Rattle.actuators.specs.declared.Cmgs.TheVariants.{Without, With}
 use Rattle.actuators.specs.declared.ActuatorMap.{ActuatorMap}
-use Rattle.actuators.specs.declared.Jacobian.{Jacobian}
-use Rattle.actuators.specs.declared.Measure.{Measure}
-use Rattle.actuators.specs.declared.Measure.TheVariants as Measure
+use Rattle.actuators.specs.declared.CmgPyramid.{CmgPyramid}
+use Rattle.common.specs.declared.Refusal.{Refusal}
+use Rattle.common.specs.Refusals.{refusal}
+use Rattle.std.specs.Result.{result_unwrap_or}
+use Rattle.common.specs.Floats.{plus_zero}
 
 -- ---- the Jacobian
 
--- an angle is outside the range of sine and cosine: 11, with twelve +0
+-- a Jacobian as twelve numbers, by rows, or its refusal
+abbrev pub Jacobian : Type 0
+Jacobian = Result (List Float) Refusal
+
+-- an angle is outside the range of sine and cosine: 11
 abbrev pub beyond : Jacobian
-beyond = record { fate = Refused 11 0; a = replicate 12 plus_zero }
+beyond = Err (refusal 11 0)
 
 -- the twelve numbers, by rows, from the skew's sine and cosine and those of the gimbal angles
 abbrev pub entries : Float → Float → Float → Float → Float → Float → Float → Float → Float → Float → List Float
@@ -41,25 +40,29 @@ entries sg cg s0 c0 s1 c1 s2 c2 s3 c3 =
     ∷ []
 
 -- the Jacobian by what sine and cosine say of the four gimbal angles
-abbrev pub pyramid_by : Float → Float → Both → Both → Both → Both → Jacobian
-pyramid_by sg cg Both.Outside b1 b2 b3 = beyond
-pyramid_by sg cg (Both.Are s0 c0) Both.Outside b2 b3 = beyond
-pyramid_by sg cg (Both.Are s0 c0) (Both.Are s1 c1) Both.Outside b3 = beyond
-pyramid_by sg cg (Both.Are s0 c0) (Both.Are s1 c1) (Both.Are s2 c2) Both.Outside = beyond
-pyramid_by sg cg (Both.Are s0 c0) (Both.Are s1 c1) (Both.Are s2 c2) (Both.Are s3 c3) =
-    record { fate = Going; a = entries sg cg s0 c0 s1 c1 s2 c2 s3 c3 }
+abbrev pub pyramid_by : Float → Float → Option (Float × Float) → Option (Float × Float) → Option (Float × Float) → Option (Float × Float) → Jacobian
+pyramid_by sg cg None b1 b2 b3 = beyond
+pyramid_by sg cg (Some (s0, c0)) None b2 b3 = beyond
+pyramid_by sg cg (Some (s0, c0)) (Some (s1, c1)) None b3 = beyond
+pyramid_by sg cg (Some (s0, c0)) (Some (s1, c1)) (Some (s2, c2)) None = beyond
+pyramid_by sg cg (Some (s0, c0)) (Some (s1, c1)) (Some (s2, c2)) (Some (s3, c3)) =
+    Ok (entries sg cg s0 c0 s1 c1 s2 c2 s3 c3)
 
 -- the Jacobian from the skew's sine and cosine and the gimbal angles d
 unfoldable pub pyramid_from : Float → Float → List Float → Jacobian
 pyramid_from sg cg d = pyramid_by sg cg (both_of (at d 0)) (both_of (at d 1)) (both_of (at d 2)) (both_of (at d 3))
 
-abbrev pub skewed : Both → List Float → Jacobian
-skewed Both.Outside d = beyond
-skewed (Both.Are sg cg) d = pyramid_from sg cg d
+abbrev pub skewed : Option (Float × Float) → List Float → Jacobian
+skewed None d = beyond
+skewed (Some (sg, cg)) d = pyramid_from sg cg d
 
 -- the Jacobian A(δ) of a pyramid with this skew, such that the torque is -h A(δ) δ̇; or 11
 unfoldable pub pyramid_a : Float → List Float → Jacobian
 pyramid_a skew d = skewed (both_of skew) d
+
+-- a Jacobian, +0 where it is refused
+abbrev pub matrix_or_zeros : Jacobian → List Float
+matrix_or_zeros j = result_unwrap_or j (replicate 12 plus_zero)
 
 -- ---- its measure
 
@@ -90,18 +93,18 @@ gram a = gram_row a 0 ∷ gram_row a 1 ∷ gram_row a 2 ∷ []
 unfoldable pub singularity_of : List Float → Float
 singularity_of a = det3 (gram (rows a))
 
-abbrev pub measure_by : Fate → List Float → Measure
-measure_by (Refused n place) a = Measure.Outside
-measure_by Going a = Measure.Is (singularity_of a)
+abbrev pub measure_by : Jacobian → Option Float
+measure_by (Err why) = None
+measure_by (Ok a) = Some (singularity_of a)
 
 -- a pyramid's measure at the gimbal angles d
-unfoldable pub pyramid_measure : Float → List Float → Measure
-pyramid_measure skew d = measure_by (pyramid_a skew d).fate (pyramid_a skew d).a
+unfoldable pub pyramid_measure : Float → List Float → Option Float
+pyramid_measure skew d = measure_by (pyramid_a skew d)
 
-abbrev pub singularity_by : Cmgs → List Float → Measure
-singularity_by Without d = Measure.Is (inf false)
-singularity_by (With p) d = pyramid_measure p.skew_rad d
+abbrev pub singularity_by : Option CmgPyramid → List Float → Option Float
+singularity_by None d = Some (inf false)
+singularity_by (Some p) d = pyramid_measure p.skew_rad d
 
 -- +infinity without a pyramid, else the determinant of A Aᵀ at the gimbal angles d, or 11
-unfoldable pub singularity : ActuatorMap → List Float → Measure
+unfoldable pub singularity : ActuatorMap → List Float → Option Float
 singularity m d = singularity_by m.cmgs d

@@ -1,49 +1,46 @@
 -- What holds of a prepared map: its counts and gyros are the declared ones and within the tables, and its limits are finite and above 0. Assumes nothing.
 use Prim.Native.Nat.{ℕ, zero, suc, ◌+◌, ◌≤◌, ◌<◌}
-use Rattle.std.specs.Prelude.{◌≡◌, Bool, true, false, cond, ◌||◌, List, ◌≢◌, ltb, Float, length, set}
+use Rattle.std.specs.Prelude.{◌≡◌, Bool, true, false, cond, ◌||◌, List, ltb, Float, length, set, Option, Some, None, Ok, Err}
 use Rattle.std.proofs.Math.Path.{refl}
-use Rattle.std.proofs.Common.{sym, ◌∙◌, add-one, arith, below_more, ltb-false, le-leb, get_or-set_same, get_or-set_other}
+use Rattle.std.proofs.Common.{add-one, arith, below_more, ltb-false, le-leb, get_or-set_same, get_or-set_other}
 use Rattle.std.specs.Float.{nan}
 use Rattle.std.proofs.Math.ListN.{length-set}
 use Rattle.common.specs.Iter.{iter}
 use Rattle.common.specs.Lists.{at}
-use Rattle.common.specs.declared.Fate.{Fate}
-use Rattle.common.specs.declared.Fate.TheVariants.{Going, Refused}
-use Rattle.geom.specs.declared.Axis.{Axis}
-use Rattle.geom.specs.declared.Axis.TheVariants.{Is, Not}
 use Rattle.geom.specs.Quats.{unit3}
 use Rattle.actuators.specs.declared.Wheel.{Wheel}
 use Rattle.actuators.specs.declared.Thruster.{Thruster}
 use Rattle.actuators.specs.declared.CmgPyramid.{CmgPyramid}
-use Rattle.actuators.specs.declared.Cmgs.{Cmgs}
-use Rattle.actuators.specs.declared.Cmgs.TheVariants.{Without, With}
 use Rattle.actuators.specs.declared.Actuators.{Actuators}
 use Rattle.actuators.specs.declared.ActuatorMap.{ActuatorMap}
-use Rattle.actuators.specs.declared.Prepared.{Prepared}
+use Rattle.actuators.specs.Prepare.{Prepared}
 use Rattle.actuators.specs.Maps as Maps
 use Rattle.actuators.specs.Prepare as Prepare
+use Rattle.common.specs.Refusals.{refusal, going}
 
 -- ---- past a refusal
 
--- a property of the map, where the answer goes on
+-- a property of the map, where there is one
 abbrev pub Holds : (ActuatorMap → Type 0) → Prepared → Type 0
-Holds P p = p.fate ≡ Going → P p.map
+Holds P (Ok m) = P m
+Holds P (Err why) = Unit {0}
 
-never : {n place : ℕ} {A : Type 0} → Refused n place ≡ Going → A
-never e = let z : ◌≡◌ {A = ℕ} 0 1 = cc in absurd (omega arith)
+-- so it is a property of the map that an answer is
+pub of_map : (P : ActuatorMap → Type 0) {p : Prepared} {m : ActuatorMap} → Holds P p → p ≡ Ok m → P m
+of_map P h e = rw e at h
 
 module _ (Q : ActuatorMap → Type 0) where
-  past_axis : (place : ℕ) (u : Axis) (f : Float → Float → Float → ActuatorMap) → ((x y z : Float) → Q (f x y z)) → Holds Q (Prepare.placed place u f)
-  past_axis place Not f h g = never g
-  past_axis place (Is x y z) f h g = h x y z
+  past_axis : (place : ℕ) (u : Option (Float × Float × Float)) (f : Float → Float → Float → ActuatorMap) → ((x y z : Float) → Q (f x y z)) → Holds Q (Prepare.placed place u f)
+  past_axis place None f h = tt
+  past_axis place (Some (x, y, z)) f h = h x y z
 
-  past_check : (out : Bool) (place : ℕ) (u : Axis) (f : Float → Float → Float → ActuatorMap) → (out ≡ false → (x y z : Float) → Q (f x y z)) → Holds Q (Prepare.checked out place u f)
-  past_check true place u f h g = never g
-  past_check false place u f h g = past_axis place u f (h refl) g
+  past_check : (out : Bool) (place : ℕ) (u : Option (Float × Float × Float)) (f : Float → Float → Float → ActuatorMap) → (out ≡ false → (x y z : Float) → Q (f x y z)) → Holds Q (Prepare.checked out place u f)
+  past_check true place u f h = tt
+  past_check false place u f h = past_axis place u f (h refl)
 
-  past_turn : (f : Fate) (p next : Prepared) → p.fate ≡ f → (f ≡ Going → Holds Q next) → Holds Q (Prepare.onward f p next)
-  past_turn Going p next e h g = h refl g
-  past_turn (Refused n place) p next e h g = never (sym e ∙ g)
+  past_turn : (P : ActuatorMap → Type 0) (p : Prepared) (next : ActuatorMap → Prepared) → Holds P p → ((m : ActuatorMap) → P m → Holds Q (next m)) → Holds Q (Prepare.onward p next)
+  past_turn P (Ok m) next w h = h m w
+  past_turn P (Err why) next w h = tt
 
 -- ---- a table's numbers
 
@@ -125,19 +122,17 @@ module _ (a : Actuators) where
   unfolding iter Prepare.wheel_next Prepare.wheel_checked
   ready_wheels ws zero p h start = start
   ready_wheels ws (suc k) p h start =
-      let before = iter (Prepare.wheel_turn ws) p k in
-      past_turn (Ready a (suc k) 0) before.fate before (Prepare.wheel_checked before.map k (Maps.wheel_at ws k)) refl
-      (λ e. past_check (Ready a (suc k) 0) (Prepare.wheel_outside (Maps.wheel_at ws k)) k (unit3 (Maps.wheel_at ws k).axis) (Prepare.with_wheel before.map k (Maps.wheel_at ws k))
-      (λ o x y z. rw (add-one k) at (ready_wheel k 0 (Maps.wheel_at ws k) before.map x y z (omega arith) (ready_wheels ws k p (omega arith) start e) o)))
+      past_turn (Ready a (suc k) 0) (Ready a k 0) (iter (Prepare.wheel_turn ws) p k) (λ m. Prepare.wheel_checked m k (Maps.wheel_at ws k)) (ready_wheels ws k p (omega arith) start)
+      (λ m r. past_check (Ready a (suc k) 0) (Prepare.wheel_outside (Maps.wheel_at ws k)) k (unit3 (Maps.wheel_at ws k).axis) (Prepare.with_wheel m k (Maps.wheel_at ws k))
+      (λ o x y z. rw (add-one k) at (ready_wheel k 0 (Maps.wheel_at ws k) m x y z (omega arith) r o)))
 
   ready_thrusters : (j : ℕ) (ts : List Thruster) (n : ℕ) (p : Prepared) → n ≤ 12 → Holds (Ready a j 0) p → Holds (Ready a j n) (iter (Prepare.thruster_turn ts) p n)
   unfolding iter Prepare.thruster_next Prepare.thruster_checked
   ready_thrusters j ts zero p h start = start
   ready_thrusters j ts (suc k) p h start =
-      let before = iter (Prepare.thruster_turn ts) p k in
-      past_turn (Ready a j (suc k)) before.fate before (Prepare.thruster_checked before.map k (Maps.thruster_at ts k)) refl
-      (λ e. past_check (Ready a j (suc k)) (Prepare.outside (Maps.thruster_at ts k).max_torque_nm) (8 + k) (unit3 (Maps.thruster_at ts k).torque_axis) (Prepare.with_thruster before.map k (Maps.thruster_at ts k))
-      (λ o x y z. rw (add-one k) at (ready_thruster j k (Maps.thruster_at ts k) before.map x y z (omega arith) (ready_thrusters j ts k p (omega arith) start e) o)))
+      past_turn (Ready a j (suc k)) (Ready a j k) (iter (Prepare.thruster_turn ts) p k) (λ m. Prepare.thruster_checked m k (Maps.thruster_at ts k)) (ready_thrusters j ts k p (omega arith) start)
+      (λ m r. past_check (Ready a j (suc k)) (Prepare.outside (Maps.thruster_at ts k).max_torque_nm) (8 + k) (unit3 (Maps.thruster_at ts k).torque_axis) (Prepare.with_thruster m k (Maps.thruster_at ts k))
+      (λ o x y z. rw (add-one k) at (ready_thruster j k (Maps.thruster_at ts k) m x y z (omega arith) r o)))
 
 -- ---- the whole
 
@@ -146,16 +141,16 @@ pub record Sound (a : Actuators) (m : ActuatorMap) : Type 0 where
   pub wheels_fit : a.wheel_count ≤ 8
   pub thrusters_fit : a.thruster_count ≤ 12
   pub ready : Ready a a.wheel_count a.thruster_count m
-  pub pyramid : (p : CmgPyramid) → a.cmgs ≡ With p → Prepare.pyramid_outside p ≡ false
+  pub pyramid : (p : CmgPyramid) → a.cmgs ≡ Some p → Prepare.pyramid_outside p ≡ false
 
 module _ (a : Actuators) (h : a.wheel_count ≤ 8) (i : a.thruster_count ≤ 12) (m : ActuatorMap) (r : Ready a a.wheel_count a.thruster_count m) where
-  sound_with : (out : Bool) (p : CmgPyramid) → a.cmgs ≡ With p → Prepare.pyramid_outside p ≡ out → Holds (Sound a) (cond out (Prepare.refused 2 20) (Prepare.so_far m))
-  sound_with true p e o g = never g
-  sound_with false p e o g = record { wheels_fit = h; thrusters_fit = i; ready = r; pyramid = λ q f. let same : p ≡ q = cc in rw (← same) o }
+  sound_with : (out : Bool) (p : CmgPyramid) → a.cmgs ≡ Some p → Prepare.pyramid_outside p ≡ out → Holds (Sound a) (Prepare.under_cmgs (cond out (Err (refusal 2 20)) going) m)
+  sound_with true p e o = tt
+  sound_with false p e o = record { wheels_fit = h; thrusters_fit = i; ready = r; pyramid = λ q f. let same : p ≡ q = cc in rw (← same) o }
 
-  sound_cmgs : (c : Cmgs) → a.cmgs ≡ c → Holds (Sound a) (Prepare.cmgs_checked c m)
-  sound_cmgs Without e g = record { wheels_fit = h; thrusters_fit = i; ready = r; pyramid = λ q f. let z : ◌≡◌ {A = ℕ} 0 1 = cc in absurd (omega arith) }
-  sound_cmgs (With p) e g = sound_with (Prepare.pyramid_outside p) p e refl g
+  sound_cmgs : (c : Option CmgPyramid) → a.cmgs ≡ c → Holds (Sound a) (Prepare.cmgs_checked c m)
+  sound_cmgs None e = record { wheels_fit = h; thrusters_fit = i; ready = r; pyramid = λ q f. let z : ◌≡◌ {A = ℕ} 0 1 = cc in absurd (omega arith) }
+  sound_cmgs (Some p) e = sound_with (Prepare.pyramid_outside p) p e refl
 
 filled_sound : (a : Actuators) → a.wheel_count ≤ 8 → a.thruster_count ≤ 12 → Holds (Sound a) (Prepare.filled a)
 unfolding Prepare.filled Prepare.cmgs_next Prepare.wheels_checked Prepare.thrusters_checked
@@ -163,25 +158,25 @@ filled_sound a h i =
     let start = Prepare.so_far (Maps.unfilled a.wheel_count a.thruster_count a.cmgs) in
     let wheeled = Prepare.wheels_checked a.wheels start a.wheel_count in
     let thrusting = Prepare.thrusters_checked a.thrusters wheeled a.thruster_count in
-    past_turn (Sound a) thrusting.fate thrusting (Prepare.cmgs_checked a.cmgs thrusting.map) refl
-    (λ e. sound_cmgs a h i thrusting.map
-    (ready_thrusters a a.wheel_count a.thrusters a.thruster_count wheeled i
-    (ready_wheels a a.wheels a.wheel_count start h (λ _. ready_start a)) e)
-    a.cmgs refl)
+    past_turn (Sound a) (Ready a a.wheel_count a.thruster_count) thrusting (Prepare.cmgs_checked a.cmgs)
+    (ready_thrusters a a.wheel_count a.thrusters a.thruster_count wheeled i (ready_wheels a a.wheels a.wheel_count start h (ready_start a)))
+    (λ m r. sound_cmgs a h i m r a.cmgs refl)
 
--- where `prepare` goes on, its map is sound
+-- where `prepare` gives a map, it is sound
 pub prepared : (a : Actuators) → Holds (Sound a) (Prepare.prepare a)
 unfolding Prepare.prepare
 prepared a = by (ltb 8 a.wheel_count) (ltb 12 a.thruster_count) refl refl
   where
     by : (b c : Bool) → ltb 8 a.wheel_count ≡ b → ltb 12 a.thruster_count ≡ c → Holds (Sound a) (cond b (Prepare.refused 1 0) (cond c (Prepare.refused 1 1) (Prepare.filled a)))
-    by true c eb ec g = never g
-    by false true eb ec g = never g
-    by false false eb ec g = filled_sound a (ltb-false _ _ eb) (ltb-false _ _ ec) g
+    by true c eb ec = tt
+    by false true eb ec = tt
+    by false false eb ec = filled_sound a (ltb-false _ _ eb) (ltb-false _ _ ec)
 
--- where `prepare` goes on, its map is sized
+-- where `prepare` gives a map, it is sized
 pub prepared_sized : (a : Actuators) → Holds (λ (m : ActuatorMap). Maps.is_sized m ≡ true) (Prepare.prepare a)
 unfolding Maps.is_sized
-prepared_sized a g =
-    let s = prepared a g in
-    rw (s.ready.wheels, s.ready.thrusters, le-leb _ _ s.wheels_fit, le-leb _ _ s.thrusters_fit)
+prepared_sized a = by (Prepare.prepare a) (prepared a)
+  where
+    by : (p : Prepared) → Holds (Sound a) p → Holds (λ (m : ActuatorMap). Maps.is_sized m ≡ true) p
+    by (Ok m) s = rw (s.ready.wheels, s.ready.thrusters, le-leb _ _ s.wheels_fit, le-leb _ _ s.thrusters_fit)
+    by (Err why) s = tt

@@ -4,33 +4,31 @@ ghost use Rattle.std.specs.Prelude.{◌≡◌, ◌≤◌, ◌<◌, length};
 ghost use Rattle.actuators.specs.Allocate as Allocate;
 
 use crate::pyramid::{gram, pyramid_a, rows};
-use crate::{ActuatorMap, Allocated, CmgPyramid, Cmgs, is_empty};
-use common::Fate;
+use crate::{ActuatorMap, CmgPyramid, is_empty};
+use common::Refusal;
 use geom::{apply_tensor, invert3, scale3, tensor};
 
-// A refusal, with a row of zeros.
-fn unserved(number: usize, place: usize) -> Allocated
-    ensures { result ≡ Allocate.unserved number place }
-{
-    let u = [0.0; 20];
-    Allocated {
-        fate: Fate::Refused(number, place),
-        u: u,
-    }
-}
+// These actuators together are not served.
+const UNSERVED: Refusal = Refusal {
+    number: 8,
+    place: 0,
+};
+
+// Their matrix has no inverse.
+const SINGULAR: Refusal = Refusal {
+    number: 6,
+    place: 1,
+};
 
 // A row of three controls.
-fn three(v: [f64; 3]) -> Allocated
+fn three(v: [f64; 3]) -> [f64; 20]
     ensures { result ≡ Allocate.three v }
 {
     let mut u = [0.0; 20];
     u[0] = v[0];
     u[1] = v[1];
     u[2] = v[2];
-    Allocated {
-        fate: Fate::Going,
-        u: u,
-    }
+    u
 }
 
 // A column of a 3 by 4 matrix times a vector.
@@ -42,7 +40,7 @@ fn column(a: [[f64; 4]; 3], k: usize, y: [f64; 3]) -> f64
 }
 
 // A row of four gimbal rates: the transposed matrix times a vector.
-fn four(a: [[f64; 4]; 3], y: [f64; 3]) -> Allocated
+fn four(a: [[f64; 4]; 3], y: [f64; 3]) -> [f64; 20]
     ensures { result ≡ Allocate.four a y }
 {
     let mut u = [0.0; 20];
@@ -50,10 +48,7 @@ fn four(a: [[f64; 4]; 3], y: [f64; 3]) -> Allocated
     u[1] = column(a, 1, y);
     u[2] = column(a, 2, y);
     u[3] = column(a, 3, y);
-    Allocated {
-        fate: Fate::Going,
-        u: u,
-    }
+    u
 }
 
 // The first three axes of a table as the columns of a matrix.
@@ -65,46 +60,31 @@ fn columns(t: &[f64]) -> [[f64; 3]; 3]
 }
 
 // The three controls that the matrix takes to v.
-fn along_axes(a: [[f64; 3]; 3], v: [f64; 3]) -> Allocated
+fn along_axes(a: [[f64; 3]; 3], v: [f64; 3]) -> Result<[f64; 20], Refusal>
     ensures { result ≡ Allocate.along_axes a v }
 {
-    let inverse = invert3(a);
-    let fate = inverse.fate;
-    let m = inverse.m;
-    match fate {
-        Fate::Refused(_, _) => unserved(6, 1),
-        Fate::Going => three(apply_tensor(tensor(m), v)),
+    match invert3(a) {
+        Err(_) => Err(SINGULAR),
+        Ok(m) => Ok(three(apply_tensor(tensor(m), v))),
     }
 }
 
 // The shortest gimbal rates that the matrix takes to v.
-fn least_rates(a: [[f64; 4]; 3], v: [f64; 3]) -> Allocated
+fn least_rates(a: [[f64; 4]; 3], v: [f64; 3]) -> Result<[f64; 20], Refusal>
     ensures { result ≡ Allocate.least_rates a v }
 {
-    let inverse = invert3(gram(a));
-    let fate = inverse.fate;
-    let m = inverse.m;
-    match fate {
-        Fate::Refused(_, _) => unserved(6, 1),
-        Fate::Going => four(a, apply_tensor(tensor(m), v)),
+    match invert3(gram(a)) {
+        Err(_) => Err(SINGULAR),
+        Ok(m) => Ok(four(a, apply_tensor(tensor(m), v))),
     }
 }
 
 // A pyramid alone, its gimbals at rest.
-fn pyramid_alone(pyramid: CmgPyramid, tau: [f64; 3]) -> Allocated
+fn pyramid_alone(pyramid: CmgPyramid, tau: [f64; 3]) -> Result<[f64; 20], Refusal>
     ensures { result ≡ Allocate.pyramid_alone pyramid tau }
 {
-    let delta = [0.0; 4];
-    let jacobian = pyramid_a(pyramid.skew_rad, delta);
-    let fate = jacobian.fate;
-    let a = jacobian.a;
-    match fate {
-        Fate::Refused(_, _) => unserved(11, 0),
-        Fate::Going => {
-            let v = scale3(tau, -1.0 / pyramid.wheel_momentum_nms);
-            least_rates(rows(a), v)
-        }
-    }
+    let a = pyramid_a(pyramid.skew_rad, [0.0; 4])?;
+    least_rates(rows(a), scale3(tau, -1.0 / pyramid.wheel_momentum_nms))
 }
 
 // Three or more of a kind, and none of the other.
@@ -115,38 +95,31 @@ fn alone(count: usize, others: usize) -> bool
 }
 
 // Wheels or thrusters, with no pyramid.
-fn axes_alone(map: ActuatorMap, tau: [f64; 3]) -> Allocated
+fn axes_alone(map: ActuatorMap, tau: [f64; 3]) -> Result<[f64; 20], Refusal>
     ensures { result ≡ Allocate.axes_alone map tau }
 {
-    let wheel_count = map.wheel_count;
-    let thruster_count = map.thruster_count;
-    if alone(wheel_count, thruster_count) {
-        let wheel_axes = map.wheel_axes;
-        return along_axes(columns(&wheel_axes), scale3(tau, -1.0));
+    if alone(map.wheel_count, map.thruster_count) {
+        return along_axes(columns(&map.wheel_axes), scale3(tau, -1.0));
     }
-    if alone(thruster_count, wheel_count) {
-        let thruster_axes = map.thruster_axes;
-        return along_axes(columns(&thruster_axes), tau);
+    if alone(map.thruster_count, map.wheel_count) {
+        return along_axes(columns(&map.thruster_axes), tau);
     }
-    unserved(8, 0)
+    Err(UNSERVED)
 }
 
-// The row of controls that gives the body torque tau.
-pub fn allocate_body_torque(map: ActuatorMap, tau: [f64; 3]) -> Allocated
+// The row of controls that gives the body torque tau; the first `control_dim` of its numbers count.
+pub fn allocate_body_torque(map: ActuatorMap, tau: [f64; 3]) -> Result<[f64; 20], Refusal>
     ensures { result ≡ Allocate.allocate map tau }
 {
     if is_empty(map) {
-        return three(tau);
+        return Ok(three(tau));
     }
-    let cmgs = map.cmgs;
-    match cmgs {
-        Cmgs::Without => axes_alone(map, tau),
-        Cmgs::With(pyramid) => {
-            if (map.wheel_count == 0) & (map.thruster_count == 0) {
-                pyramid_alone(pyramid, tau)
-            } else {
-                unserved(8, 0)
-            }
-        }
+    let Some(pyramid) = map.cmgs else {
+        return axes_alone(map, tau);
+    };
+    if (map.wheel_count == 0) & (map.thruster_count == 0) {
+        pyramid_alone(pyramid, tau)
+    } else {
+        Err(UNSERVED)
     }
 }

@@ -3,11 +3,9 @@
 ghost use Rattle.std.specs.Prelude.{◌≡◌, ◌+◌, ◌*◌, ◌≤◌, ◌<◌, length};
 ghost use Rattle.actuators.specs.Prepare as Prepare;
 
-use crate::{
-    ActuatorMap, Actuators, CmgPyramid, Cmgs, Power, Prepared, Thruster, Wheel, blank_map, unfilled,
-};
-use common::{Fate, Limit, MAX_THRUSTERS, MAX_WHEELS};
-use geom::{Axis, is_positive, unit3};
+use crate::{ActuatorMap, Actuators, CmgPyramid, Thruster, Wheel, unfilled};
+use common::{MAX_THRUSTERS, MAX_WHEELS, Refusal};
+use geom::{is_positive, unit3};
 
 // Not finite, or not above 0.
 fn outside(x: f64) -> bool
@@ -17,12 +15,12 @@ fn outside(x: f64) -> bool
 }
 
 // A declared power that is not finite and above 0.
-fn power_outside(power: Limit) -> bool
+fn power_outside(power: Option<f64>) -> bool
     ensures { result ≡ Prepare.power_outside power }
 {
     match power {
-        Limit::Nothing => false,
-        Limit::At(limit) => outside(limit),
+        None => false,
+        Some(limit) => outside(limit),
     }
 }
 
@@ -30,8 +28,9 @@ fn power_outside(power: Limit) -> bool
 fn wheel_outside(wheel: Wheel) -> bool
     ensures { result ≡ Prepare.wheel_outside wheel }
 {
-    let power = wheel.max_power_w;
-    outside(wheel.max_torque_nm) | outside(wheel.max_momentum_nms) | power_outside(power)
+    outside(wheel.max_torque_nm)
+        | outside(wheel.max_momentum_nms)
+        | power_outside(wheel.max_power_w)
 }
 
 // One of a pyramid's numbers is outside its range.
@@ -45,27 +44,6 @@ fn pyramid_outside(pyramid: CmgPyramid) -> bool
         | outside(pyramid.singularity_eps)
 }
 
-// A refusal, with the blank map.
-fn refused(number: usize, place: usize) -> Prepared
-    ensures { result ≡ Prepare.refused number place }
-{
-    let map = blank_map();
-    Prepared {
-        fate: Fate::Refused(number, place),
-        map: map,
-    }
-}
-
-// The map so far.
-fn so_far(map: ActuatorMap) -> Prepared
-    ensures { result ≡ Prepare.so_far map }
-{
-    Prepared {
-        fate: Fate::Going,
-        map: map,
-    }
-}
-
 // Axis k of a flat table becomes x, y, z.
 fn put_axis(axes: &mut [f64], k: usize, x: f64, y: f64, z: f64)
     requires { 3 * k + 3 ≤ length axes.old }
@@ -76,73 +54,54 @@ fn put_axis(axes: &mut [f64], k: usize, x: f64, y: f64, z: f64)
     axes[3 * k + 2] = z;
 }
 
-// Wheel k goes into the tables, with its unit axis.
+// The map with wheel k in its tables, its unit axis x, y, z.
 fn with_wheel(map: ActuatorMap, k: usize, wheel: Wheel, x: f64, y: f64, z: f64) -> ActuatorMap
     requires { k < 8 }
     ensures { result ≡ Prepare.with_wheel map k wheel x y z }
 {
-    let cmgs = map.cmgs;
-    let mut wheel_axes = map.wheel_axes;
-    put_axis(&mut wheel_axes, k, x, y, z);
-    let mut wheel_torques = map.wheel_torques;
-    wheel_torques[k] = wheel.max_torque_nm;
-    let mut wheel_momenta = map.wheel_momenta;
-    wheel_momenta[k] = wheel.max_momentum_nms;
-    let limit = wheel.max_power_w;
-    let mut wheel_powers = map.wheel_powers;
-    wheel_powers[k] = Power { limit: limit };
-    let thruster_axes = map.thruster_axes;
-    let thruster_torques = map.thruster_torques;
-    ActuatorMap {
-        wheel_count: map.wheel_count,
-        thruster_count: map.thruster_count,
-        cmgs: cmgs,
-        wheel_axes: wheel_axes,
-        wheel_torques: wheel_torques,
-        wheel_momenta: wheel_momenta,
-        wheel_powers: wheel_powers,
-        thruster_axes: thruster_axes,
-        thruster_torques: thruster_torques,
-    }
+    let mut out = map;
+    put_axis(&mut out.wheel_axes, k, x, y, z);
+    out.wheel_torques[k] = wheel.max_torque_nm;
+    out.wheel_momenta[k] = wheel.max_momentum_nms;
+    out.wheel_powers[k] = wheel.max_power_w;
+    out
 }
 
-// Wheel k, unless an actuator before it was refused: its numbers are checked before its axis, then it goes into the tables.
-fn wheel_turn(prepared: Prepared, k: usize, wheel: Wheel) -> Prepared
+// The map with wheel k, whose numbers are checked before its axis.
+fn wheel_turn(map: ActuatorMap, k: usize, wheel: Wheel) -> Result<ActuatorMap, Refusal>
     requires { k < 8 }
-    ensures { result ≡ Prepare.wheel_next k wheel prepared }
+    ensures { result ≡ Prepare.wheel_checked map k wheel }
 {
-    let fate = prepared.fate;
-    let Fate::Going = fate else {
-        return prepared;
-    };
     if wheel_outside(wheel) {
-        return refused(2, k);
+        return Err(Refusal {
+            number: 2,
+            place: k,
+        });
     }
-    let axis = wheel.axis;
-    let map = prepared.map;
-    let unit = unit3(axis);
-    match unit {
-        Axis::Not => refused(3, k),
-        Axis::Is(x, y, z) => so_far(with_wheel(map, k, wheel, x, y, z)),
-    }
+    let (x, y, z) = unit3(wheel.axis).ok_or(Refusal {
+        number: 3,
+        place: k,
+    })?;
+    Ok(with_wheel(map, k, wheel, x, y, z))
 }
 
-// The first `count` wheels.
-fn wheels_checked(wheels: [Wheel; MAX_WHEELS], count: usize, start: Prepared) -> Prepared
+// The map with the first `count` wheels.
+fn wheels_checked(
+    wheels: [Wheel; MAX_WHEELS],
+    count: usize,
+    start: ActuatorMap,
+) -> Result<ActuatorMap, Refusal>
     requires { count ≤ 8 }
-    ensures { result ≡ Prepare.wheels_checked wheels start count }
+    ensures { result ≡ Prepare.wheels_checked wheels (Prepare.so_far start) count }
 {
-    let mut prepared = start;
-    let mut k: usize = 0;
-    while k < count {
-        let wheel = wheels[k];
-        prepared = wheel_turn(prepared, k, wheel);
-        k += 1;
+    let mut map = start;
+    for k in 0..count {
+        map = wheel_turn(map, k, wheels[k])?;
     }
-    prepared
+    Ok(map)
 }
 
-// Thruster k goes into the tables, with its unit axis.
+// The map with thruster k in its tables, its unit axis x, y, z.
 fn with_thruster(
     map: ActuatorMap,
     k: usize,
@@ -154,106 +113,77 @@ fn with_thruster(
     requires { k < 12 }
     ensures { result ≡ Prepare.with_thruster map k thruster x y z }
 {
-    let cmgs = map.cmgs;
-    let wheel_axes = map.wheel_axes;
-    let wheel_torques = map.wheel_torques;
-    let wheel_momenta = map.wheel_momenta;
-    let wheel_powers = map.wheel_powers;
-    let mut thruster_axes = map.thruster_axes;
-    put_axis(&mut thruster_axes, k, x, y, z);
-    let mut thruster_torques = map.thruster_torques;
-    thruster_torques[k] = thruster.max_torque_nm;
-    ActuatorMap {
-        wheel_count: map.wheel_count,
-        thruster_count: map.thruster_count,
-        cmgs: cmgs,
-        wheel_axes: wheel_axes,
-        wheel_torques: wheel_torques,
-        wheel_momenta: wheel_momenta,
-        wheel_powers: wheel_powers,
-        thruster_axes: thruster_axes,
-        thruster_torques: thruster_torques,
-    }
+    let mut out = map;
+    put_axis(&mut out.thruster_axes, k, x, y, z);
+    out.thruster_torques[k] = thruster.max_torque_nm;
+    out
 }
 
-// Thruster k, likewise: its torque, then its axis. Its place is 8 + k.
-fn thruster_turn(prepared: Prepared, k: usize, thruster: Thruster) -> Prepared
+// The map with thruster k, whose torque is checked before its axis. Its place is 8 + k.
+// Apart from `wheel_turn`: a trait with laws for the two types, sizes and places is longer than the lines that the two share.
+fn thruster_turn(map: ActuatorMap, k: usize, thruster: Thruster) -> Result<ActuatorMap, Refusal>
     requires { k < 12 }
-    ensures { result ≡ Prepare.thruster_next k thruster prepared }
+    ensures { result ≡ Prepare.thruster_checked map k thruster }
 {
-    let fate = prepared.fate;
-    let Fate::Going = fate else {
-        return prepared;
-    };
+    let place = 8 + k;
     if outside(thruster.max_torque_nm) {
-        return refused(2, 8 + k);
+        return Err(Refusal { number: 2, place });
     }
-    let axis = thruster.torque_axis;
-    let map = prepared.map;
-    let unit = unit3(axis);
-    match unit {
-        Axis::Not => refused(3, 8 + k),
-        Axis::Is(x, y, z) => so_far(with_thruster(map, k, thruster, x, y, z)),
-    }
+    let (x, y, z) = unit3(thruster.torque_axis).ok_or(Refusal { number: 3, place })?;
+    Ok(with_thruster(map, k, thruster, x, y, z))
 }
 
-// The first `count` thrusters.
+// The map with the first `count` thrusters.
 fn thrusters_checked(
     thrusters: [Thruster; MAX_THRUSTERS],
     count: usize,
-    start: Prepared,
-) -> Prepared
+    start: ActuatorMap,
+) -> Result<ActuatorMap, Refusal>
     requires { count ≤ 12 }
-    ensures { result ≡ Prepare.thrusters_checked thrusters start count }
+    ensures { result ≡ Prepare.thrusters_checked thrusters (Prepare.so_far start) count }
 {
-    let mut prepared = start;
-    let mut k: usize = 0;
-    while k < count {
-        let thruster = thrusters[k];
-        prepared = thruster_turn(prepared, k, thruster);
-        k += 1;
+    let mut map = start;
+    for k in 0..count {
+        map = thruster_turn(map, k, thrusters[k])?;
     }
-    prepared
+    Ok(map)
 }
 
-// The pyramid's numbers, at place 20, unless an actuator before it was refused.
-fn cmgs_turn(prepared: Prepared, cmgs: Cmgs) -> Prepared
-    ensures { result ≡ Prepare.cmgs_next cmgs prepared }
+// The pyramid's numbers, at place 20.
+fn check_cmgs(cmgs: Option<CmgPyramid>) -> Result<(), Refusal>
+    ensures { result ≡ Prepare.check_cmgs cmgs }
 {
-    let fate = prepared.fate;
-    let Fate::Going = fate else {
-        return prepared;
+    let Some(pyramid) = cmgs else {
+        return Ok(());
     };
-    let map = prepared.map;
-    match cmgs {
-        Cmgs::Without => so_far(map),
-        Cmgs::With(pyramid) => {
-            if pyramid_outside(pyramid) {
-                refused(2, 20)
-            } else {
-                so_far(map)
-            }
-        }
+    if pyramid_outside(pyramid) {
+        return Err(Refusal {
+            number: 2,
+            place: 20,
+        });
     }
+    Ok(())
 }
 
 // The map of what a user declares: the counts (1), then wheel by wheel, thruster by thruster and the pyramid its numbers (2) and its axis (3).
-pub fn prepare(a: Actuators) -> Prepared
+pub fn prepare(a: Actuators) -> Result<ActuatorMap, Refusal>
     ensures { result ≡ Prepare.prepare a }
 {
-    let wheel_count = a.wheel_count;
-    let thruster_count = a.thruster_count;
-    if wheel_count > MAX_WHEELS {
-        return refused(1, 0);
+    if a.wheel_count > MAX_WHEELS {
+        return Err(Refusal {
+            number: 1,
+            place: 0,
+        });
     }
-    if thruster_count > MAX_THRUSTERS {
-        return refused(1, 1);
+    if a.thruster_count > MAX_THRUSTERS {
+        return Err(Refusal {
+            number: 1,
+            place: 1,
+        });
     }
-    let wheels = a.wheels;
-    let thrusters = a.thrusters;
-    let cmgs = a.cmgs;
-    let start = so_far(unfilled(wheel_count, thruster_count, cmgs));
-    let wheeled = wheels_checked(wheels, wheel_count, start);
-    let thrusting = thrusters_checked(thrusters, thruster_count, wheeled);
-    cmgs_turn(thrusting, cmgs)
+    let start = unfilled(a.wheel_count, a.thruster_count, a.cmgs);
+    let wheeled = wheels_checked(a.wheels, a.wheel_count, start)?;
+    let map = thrusters_checked(a.thrusters, a.thruster_count, wheeled)?;
+    check_cmgs(a.cmgs)?;
+    Ok(map)
 }

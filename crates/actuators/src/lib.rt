@@ -6,7 +6,7 @@
 ghost use Rattle.std.specs.Prelude.{◌≡◌};
 ghost use Rattle.actuators.specs.Maps as Maps;
 
-use common::{Fate, Limit, MAX_THRUSTERS, MAX_WHEELS};
+use common::{MAX_THRUSTERS, MAX_WHEELS};
 
 mod allocation;
 mod checks;
@@ -22,7 +22,7 @@ pub struct Wheel {
     pub axis: [f64; 3],
     pub max_torque_nm: f64,
     pub max_momentum_nms: f64,
-    pub max_power_w: Limit,
+    pub max_power_w: Option<f64>,
 }
 
 // A torque thruster as a user declares it.
@@ -41,13 +41,6 @@ pub struct CmgPyramid {
     pub singularity_eps: f64,
 }
 
-// A pyramid, or none.
-#[derive(Clone, Copy)]
-pub enum Cmgs {
-    Without,
-    With(CmgPyramid),
-}
-
 // What a user fills: the first `wheel_count` wheels and the first `thruster_count` thrusters count.
 #[derive(Clone, Copy)]
 pub struct Actuators {
@@ -55,13 +48,7 @@ pub struct Actuators {
     pub wheel_count: usize,
     pub thrusters: [Thruster; MAX_THRUSTERS],
     pub thruster_count: usize,
-    pub cmgs: Cmgs,
-}
-
-// A wheel's power limit, held in a struct so that an array of them can be.
-#[derive(Clone, Copy)]
-pub struct Power {
-    pub limit: Limit,
+    pub cmgs: Option<CmgPyramid>,
 }
 
 // Prepared actuators: unit axes and limits in flat tables, three numbers an axis.
@@ -69,53 +56,24 @@ pub struct Power {
 pub struct ActuatorMap {
     pub wheel_count: usize,
     pub thruster_count: usize,
-    pub cmgs: Cmgs,
+    pub cmgs: Option<CmgPyramid>,
     pub wheel_axes: [f64; 24],
     pub wheel_torques: [f64; 8],
     pub wheel_momenta: [f64; 8],
-    pub wheel_powers: [Power; MAX_WHEELS],
+    pub wheel_powers: [Option<f64>; MAX_WHEELS],
     pub thruster_axes: [f64; 36],
     pub thruster_torques: [f64; 12],
-}
-
-// What `prepare` answers: how it ended, and the map (blank where it refused).
-#[derive(Clone, Copy)]
-pub struct Prepared {
-    pub fate: Fate,
-    pub map: ActuatorMap,
-}
-
-// A pyramid's 3 by 4 matrix by rows, or 11 and zeros.
-#[derive(Clone, Copy)]
-pub struct Jacobian {
-    pub fate: Fate,
-    pub a: [f64; 12],
-}
-
-// The measure of singularity, or 11.
-#[derive(Clone, Copy)]
-pub enum Measure {
-    Is(f64),
-    Outside,
-}
-
-// A row of controls, of which the first `control_dim` count, or a refusal and zeros.
-#[derive(Clone, Copy)]
-pub struct Allocated {
-    pub fate: Fate,
-    pub u: [f64; 20],
 }
 
 // A wheel with no numbers in it: what stands past the count.
 pub fn blank_wheel() -> Wheel
     ensures { result ≡ Maps.blank_wheel }
 {
-    let axis = [0.0; 3];
     Wheel {
-        axis: axis,
+        axis: [0.0; 3],
         max_torque_nm: 0.0,
         max_momentum_nms: 0.0,
-        max_power_w: Limit::Nothing,
+        max_power_w: None,
     }
 }
 
@@ -123,9 +81,8 @@ pub fn blank_wheel() -> Wheel
 pub fn blank_thruster() -> Thruster
     ensures { result ≡ Maps.blank_thruster }
 {
-    let axis = [0.0; 3];
     Thruster {
-        torque_axis: axis,
+        torque_axis: [0.0; 3],
         max_torque_nm: 0.0,
     }
 }
@@ -134,42 +91,29 @@ pub fn blank_thruster() -> Thruster
 pub fn no_actuators() -> Actuators
     ensures { result ≡ Maps.no_actuators }
 {
-    let wheel = blank_wheel();
-    let wheels = [wheel; MAX_WHEELS];
-    let thruster = blank_thruster();
-    let thrusters = [thruster; MAX_THRUSTERS];
     Actuators {
-        wheels: wheels,
+        wheels: [blank_wheel(); MAX_WHEELS],
         wheel_count: 0,
-        thrusters: thrusters,
+        thrusters: [blank_thruster(); MAX_THRUSTERS],
         thruster_count: 0,
-        cmgs: Cmgs::Without,
+        cmgs: None,
     }
 }
 
 // A map of these counts and this pyramid with nothing in its tables.
-pub fn unfilled(wheel_count: usize, thruster_count: usize, cmgs: Cmgs) -> ActuatorMap
+pub fn unfilled(wheel_count: usize, thruster_count: usize, cmgs: Option<CmgPyramid>) -> ActuatorMap
     ensures { result ≡ Maps.unfilled wheel_count thruster_count cmgs }
 {
-    let wheel_axes = [0.0; 24];
-    let wheel_torques = [0.0; 8];
-    let wheel_momenta = [0.0; 8];
-    let power = Power {
-        limit: Limit::Nothing,
-    };
-    let wheel_powers = [power; MAX_WHEELS];
-    let thruster_axes = [0.0; 36];
-    let thruster_torques = [0.0; 12];
     ActuatorMap {
-        wheel_count: wheel_count,
-        thruster_count: thruster_count,
-        cmgs: cmgs,
-        wheel_axes: wheel_axes,
-        wheel_torques: wheel_torques,
-        wheel_momenta: wheel_momenta,
-        wheel_powers: wheel_powers,
-        thruster_axes: thruster_axes,
-        thruster_torques: thruster_torques,
+        wheel_count,
+        thruster_count,
+        cmgs,
+        wheel_axes: [0.0; 24],
+        wheel_torques: [0.0; 8],
+        wheel_momenta: [0.0; 8],
+        wheel_powers: [None; MAX_WHEELS],
+        thruster_axes: [0.0; 36],
+        thruster_torques: [0.0; 12],
     }
 }
 
@@ -177,26 +121,26 @@ pub fn unfilled(wheel_count: usize, thruster_count: usize, cmgs: Cmgs) -> Actuat
 pub fn blank_map() -> ActuatorMap
     ensures { result ≡ Maps.blank_map }
 {
-    unfilled(0, 0, Cmgs::Without)
+    unfilled(0, 0, None)
 }
 
 // How many gimbal rates a row has.
-pub fn gimbals(cmgs: Cmgs) -> usize
+pub fn gimbals(cmgs: Option<CmgPyramid>) -> usize
     ensures { result ≡ Maps.gimbals cmgs }
 {
     match cmgs {
-        Cmgs::Without => 0,
-        Cmgs::With(_) => 4,
+        None => 0,
+        Some(_) => 4,
     }
 }
 
 // There is no pyramid.
-pub fn no_cmgs(cmgs: Cmgs) -> bool
+pub fn no_cmgs(cmgs: Option<CmgPyramid>) -> bool
     ensures { result ≡ Maps.no_cmgs cmgs }
 {
     match cmgs {
-        Cmgs::Without => true,
-        Cmgs::With(_) => false,
+        None => true,
+        Some(_) => false,
     }
 }
 
@@ -204,8 +148,7 @@ pub fn no_cmgs(cmgs: Cmgs) -> bool
 pub fn is_empty(map: ActuatorMap) -> bool
     ensures { result ≡ Maps.is_empty map }
 {
-    let cmgs = map.cmgs;
-    (map.wheel_count == 0) & (map.thruster_count == 0) & no_cmgs(cmgs)
+    (map.wheel_count == 0) & (map.thruster_count == 0) & no_cmgs(map.cmgs)
 }
 
 // Both counts are within the tables.
@@ -225,6 +168,5 @@ pub fn control_dim(map: ActuatorMap) -> usize
     if is_empty(map) {
         return 3;
     }
-    let cmgs = map.cmgs;
-    map.wheel_count + map.thruster_count + gimbals(cmgs)
+    map.wheel_count + map.thruster_count + gimbals(map.cmgs)
 }

@@ -3,39 +3,33 @@
 ghost use Rattle.std.specs.Prelude.{◌≡◌};
 ghost use Rattle.actuators.specs.Pyramid as Pyramid;
 
-use crate::{ActuatorMap, Cmgs, Jacobian, Measure};
-use angles::{Both, sin_cos};
-use common::Fate;
+use crate::{ActuatorMap, CmgPyramid};
+use angles::sin_cos;
+use common::Refusal;
 use geom::det3;
 
-// No matrix: an angle is outside the range of sine and cosine.
-fn beyond() -> Jacobian
-    ensures { result ≡ Pyramid.beyond }
-{
-    let a = [0.0; 12];
-    Jacobian {
-        fate: Fate::Refused(11, 0),
-        a: a,
-    }
-}
+// An angle is outside the range of sine and cosine.
+const BEYOND: Refusal = Refusal {
+    number: 11,
+    place: 0,
+};
 
-// The Jacobian from the skew's sine and cosine, already made, and what sine and cosine say of the four gimbal angles.
-pub fn pyramid_by(sin_skew: f64, cos_skew: f64, b0: Both, b1: Both, b2: Both, b3: Both) -> Jacobian
+// The Jacobian, a 3 by 4 matrix by rows, from the skew's sine and cosine, already made, and what sine and cosine say of the four gimbal angles.
+pub fn pyramid_by(
+    sin_skew: f64,
+    cos_skew: f64,
+    b0: Option<(f64, f64)>,
+    b1: Option<(f64, f64)>,
+    b2: Option<(f64, f64)>,
+    b3: Option<(f64, f64)>,
+) -> Result<[f64; 12], Refusal>
     ensures { result ≡ Pyramid.pyramid_by sin_skew cos_skew b0 b1 b2 b3 }
 {
-    let Both::Are(s0, c0) = b0 else {
-        return beyond();
-    };
-    let Both::Are(s1, c1) = b1 else {
-        return beyond();
-    };
-    let Both::Are(s2, c2) = b2 else {
-        return beyond();
-    };
-    let Both::Are(s3, c3) = b3 else {
-        return beyond();
-    };
-    let a = [
+    let (s0, c0) = b0.ok_or(BEYOND)?;
+    let (s1, c1) = b1.ok_or(BEYOND)?;
+    let (s2, c2) = b2.ok_or(BEYOND)?;
+    let (s3, c3) = b3.ok_or(BEYOND)?;
+    Ok([
         -cos_skew * s0,
         -c1,
         cos_skew * s2,
@@ -48,15 +42,11 @@ pub fn pyramid_by(sin_skew: f64, cos_skew: f64, b0: Both, b1: Both, b2: Both, b3
         sin_skew * c1,
         sin_skew * c2,
         sin_skew * c3,
-    ];
-    Jacobian {
-        fate: Fate::Going,
-        a: a,
-    }
+    ])
 }
 
 // The Jacobian from the skew's sine and cosine, already made, and the four gimbal angles.
-pub fn pyramid_from(sin_skew: f64, cos_skew: f64, delta: [f64; 4]) -> Jacobian
+pub fn pyramid_from(sin_skew: f64, cos_skew: f64, delta: [f64; 4]) -> Result<[f64; 12], Refusal>
     ensures { result ≡ Pyramid.pyramid_from sin_skew cos_skew delta }
 {
     let b0 = sin_cos(delta[0]);
@@ -66,15 +56,12 @@ pub fn pyramid_from(sin_skew: f64, cos_skew: f64, delta: [f64; 4]) -> Jacobian
     pyramid_by(sin_skew, cos_skew, b0, b1, b2, b3)
 }
 
-// The Jacobian `A(δ)` of a pyramid such that the torque is `-h A(δ) δ̇`.
-pub fn pyramid_a(skew: f64, delta: [f64; 4]) -> Jacobian
+// The Jacobian `A(δ)` of a pyramid such that the torque is `-h A(δ) δ̇`, by rows; refusal 11 where an angle is outside the range of sine and cosine.
+pub fn pyramid_a(skew: f64, delta: [f64; 4]) -> Result<[f64; 12], Refusal>
     ensures { result ≡ Pyramid.pyramid_a skew delta }
 {
-    let pair = sin_cos(skew);
-    match pair {
-        Both::Outside => beyond(),
-        Both::Are(s, c) => pyramid_from(s, c, delta),
-    }
+    let (s, c) = sin_cos(skew).ok_or(BEYOND)?;
+    pyramid_from(s, c, delta)
 }
 
 // The 3 by 4 matrix of twelve numbers, by rows.
@@ -113,31 +100,25 @@ pub fn gram(a: [[f64; 4]; 3]) -> [[f64; 3]; 3]
 pub fn singularity_of(a: [f64; 12]) -> f64
     ensures { result ≡ Pyramid.singularity_of a }
 {
-    let matrix = rows(a);
-    let square = gram(matrix);
-    det3(square)
+    det3(gram(rows(a)))
 }
 
 // A pyramid's measure at the gimbal angles.
-fn pyramid_measure(skew: f64, delta: [f64; 4]) -> Measure
+fn pyramid_measure(skew: f64, delta: [f64; 4]) -> Option<f64>
     ensures { result ≡ Pyramid.pyramid_measure skew delta }
 {
-    let jacobian = pyramid_a(skew, delta);
-    let fate = jacobian.fate;
-    let a = jacobian.a;
-    match fate {
-        Fate::Refused(_, _) => Measure::Outside,
-        Fate::Going => Measure::Is(singularity_of(a)),
+    match pyramid_a(skew, delta) {
+        Err(_) => None,
+        Ok(a) => Some(singularity_of(a)),
     }
 }
 
 // How far the actuators are from singular: infinity without a pyramid, else the determinant of `A Aᵀ`.
-pub fn singularity(map: ActuatorMap, delta: [f64; 4]) -> Measure
+pub fn singularity(map: ActuatorMap, delta: [f64; 4]) -> Option<f64>
     ensures { result ≡ Pyramid.singularity map delta }
 {
-    let cmgs = map.cmgs;
-    match cmgs {
-        Cmgs::Without => Measure::Is(f64::from_bits(0x7ff0_0000_0000_0000)),
-        Cmgs::With(pyramid) => pyramid_measure(pyramid.skew_rad, delta),
+    match map.cmgs {
+        None => Some(f64::from_bits(0x7ff0_0000_0000_0000)),
+        Some(pyramid) => pyramid_measure(pyramid.skew_rad, delta),
     }
 }

@@ -1,5 +1,5 @@
 -- sin's and cos's answer lies within 2 ^ -50 of the exact partial sum at r, for every argument that is in range and not tiny. Assumes nothing.
-use Rattle.std.specs.Prelude.{◌≡◌, ℕ, zero, suc, ◌+◌, ◌-◌, ◌*◌, ◌^◌, ◌<◌, ◌≤◌, Bool, true, false, cond, not, T, ℤ, pos, negsuc, ◌+ℤ◌, ◌-ℤ◌, ◌*ℤ◌, neg_ℤ, unsigned_abs, refl, Float}
+use Rattle.std.specs.Prelude.{◌≡◌, ℕ, zero, suc, ◌+◌, ◌-◌, ◌*◌, ◌^◌, ◌<◌, ◌≤◌, Bool, true, false, cond, not, T, ℤ, pos, negsuc, ◌+ℤ◌, ◌-ℤ◌, ◌*ℤ◌, neg_ℤ, unsigned_abs, refl, Float, Some}
 use Rattle.std.proofs.Common.{sym, ap₂, ◌∙◌, subst, zero-mul, mul_assoc, mul_comm, mul_right_comm, add-mul, le_of_eq, le_of_lt, mul-le-mul_right, le_of_mul-le-mul_right, pow_pos}
 use Rattle.std.proofs.Math.Path.{ap}
 use Rattle.std.proofs.Math.Nat.{le_trans}
@@ -11,8 +11,6 @@ use Rattle.std.specs.Float.Ieee.{up, round, neg, unlike}
 use Rattle.std.specs.Float.Ieee.Exact.{HasValue}
 use Rattle.std.specs.Float.Ieee.Positive.{num, den}
 use Rattle.std.specs.Float.Ieee.Scale.{finite}
-use Rattle.angles.specs.declared.Angle.{Angle}
-use Rattle.angles.specs.declared.Angle.TheVariants as Angle
 use Rattle.angles.specs.declared.Zone.{Zone}
 use Rattle.angles.specs.declared.Zone.TheVariants as Zone
 use Rattle.angles.specs.Angles.{signed, divisor, alternate, ring, to_float, scaled, quarters, rest, mod4, in_range, tiny, region_of, sin_by, cos_by, sin_of, cos_of}
@@ -239,7 +237,7 @@ carried x t f g p p' a b c y =
     (subst (λ (z : ℤ). unsigned_abs (t *ℤ pos p -ℤ z *ℤ pos (den x)) * 2 ^ 50 ≤ den x * p) (sym b)
     (subst (λ (z : ℕ). unsigned_abs (t *ℤ pos z -ℤ g *ℤ pos (den x)) * 2 ^ 50 ≤ den x * z) (sym c) y))
 
-near_at : (q : ℕ) (b : Bool) (u : ℕ) → q < 4 → u < 2 ^ 60 → Near (Angle.Is (to_float (ring q (signed b u)))) (exact_ring q (signed b u))
+near_at : (q : ℕ) (b : Bool) (u : ℕ) → q < 4 → u < 2 ^ 60 → Near (Some (to_float (ring q (signed b u)))) (exact_ring q (signed b u))
 near_at q b u l h =
     let k : Ring q b u = ringed b u h q l in
     let f = parts_at q u in
@@ -250,15 +248,15 @@ near_at q b u l h =
     let w : Valued n r.top x = valued n v r.top r.value in
     record {
       value = x;
-      is = ap (λ (z : ℤ). Angle.Is (to_float z)) (ring_is q b u l h);
+      is = ap (λ (z : ℤ). Some (to_float z)) (ring_is q b u l h);
       number = w.number;
       within =
           carried x (signed n (num x)) (exact_ring q (signed b u)).top (diff n f.like f.other) (exact_ring q (signed b u)).bottom (2 ^ 60 * f.bottom) w.signs k.tops k.bottoms
           (bound n (num x) (den x) r.top f.like f.other f.bottom w.sizes r.over r.under);
     }
 
-near_ring : (q : ℕ) (z : ℤ) → q < 4 → Near (Angle.Is (to_float (ring q (rest z)))) (exact_ring q (rest z))
-near_ring q z l = let r : Small (rest z) = rest_small z in subst (λ (y : ℤ). Near (Angle.Is (to_float (ring q y))) (exact_ring q y)) (sym r.is) (near_at q r.negative r.size l r.small)
+near_ring : (q : ℕ) (z : ℤ) → q < 4 → Near (Some (to_float (ring q (rest z)))) (exact_ring q (rest z))
+near_ring q z l = let r : Small (rest z) = rest_small z in subst (λ (y : ℤ). Near (Some (to_float (ring q y))) (exact_ring q y)) (sym r.is) (near_at q r.negative r.size l r.small)
 
 inside : (x : Float) → T (in_range x) → T (not (tiny x)) → region_of x ≡ Zone.Inside
 unfolding region_of

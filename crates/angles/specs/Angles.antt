@@ -1,13 +1,11 @@
 -- sin and cos: the argument, its reduction, the two series, the ring of four, one rounding. Whole numbers are ℤ, scaled by 2 ^ 60, and division (`quot_z`)
 -- truncates toward zero. Definitions only.
-use Rattle.std.specs.Prelude.{ℕ, zero, suc, ◌+◌, ◌-◌, ◌*◌, ◌/◌, ◌%◌, ◌^◌, Bool, true, false, cond, ◌&&◌, ℤ, pos, negsuc, ◌+ℤ◌, ◌-ℤ◌, ◌*ℤ◌, neg_ℤ, from_bits, int_div, Float}
+use Rattle.std.specs.Prelude.{ℕ, zero, suc, ◌+◌, ◌-◌, ◌*◌, ◌/◌, ◌%◌, ◌^◌, Bool, true, false, cond, ◌&&◌, ℤ, pos, negsuc, ◌+ℤ◌, ◌-ℤ◌, ◌*ℤ◌, neg_ℤ, from_bits, int_div, Float, Option, Some, None}
 use Rattle.std.specs.Int.Signed.{shr_z}
 use Rattle.std.specs.Float.{nan, inf, fin, binary64}
 use Rattle.std.specs.Float.Ieee.{round, lt, le, neg}
 use Rattle.std.specs.Float.Ieee.Positive.{num, den}
 use Rattle.common.specs.Floats.{one}
-use Rattle.angles.specs.declared.Angle.{Angle}
-use Rattle.angles.specs.declared.Angle.TheVariants as Angle
 use Rattle.angles.specs.declared.Zone.{Zone}
 use Rattle.angles.specs.declared.Zone.TheVariants as Zone
 
@@ -122,21 +120,21 @@ abbrev pub cosine_at : ℤ → ℤ
 cosine_at x = ring (mod4 (quarters x +ℤ pos 1)) (rest x)
 
 -- sin by region: below 2 ^ -26 the argument itself
-abbrev pub sin_by : Zone → Float → Angle
-sin_by Zone.Outside x = Angle.Outside
-sin_by Zone.Tiny x = Angle.Is x
-sin_by Zone.Inside x = Angle.Is (to_float (sine_at (scaled x)))
+abbrev pub sin_by : Zone → Float → Option Float
+sin_by Zone.Outside x = None
+sin_by Zone.Tiny x = Some x
+sin_by Zone.Inside x = Some (to_float (sine_at (scaled x)))
 
 -- cos by region: below 2 ^ -26 it is 1
-abbrev pub cos_by : Zone → Float → Angle
-cos_by Zone.Outside x = Angle.Outside
-cos_by Zone.Tiny x = Angle.Is one
-cos_by Zone.Inside x = Angle.Is (to_float (cosine_at (scaled x)))
+abbrev pub cos_by : Zone → Float → Option Float
+cos_by Zone.Outside x = None
+cos_by Zone.Tiny x = Some one
+cos_by Zone.Inside x = Some (to_float (cosine_at (scaled x)))
 
 -- sin, for every float
-unfoldable pub sin_of : Float → Angle
+unfoldable pub sin_of : Float → Option Float
 sin_of x = sin_by (region_of x) x
 
 -- cos, for every float
-unfoldable pub cos_of : Float → Angle
+unfoldable pub cos_of : Float → Option Float
 cos_of x = cos_by (region_of x) x

@@ -1,11 +1,9 @@
 -- acos: D, its whole square root, sixty terms, one rounding. Whole numbers are ℕ, scaled by 2 ^ 60: none is negative, and division truncates. Definitions only.
-use Rattle.std.specs.Prelude.{ℕ, zero, suc, ◌+◌, ◌-◌, ◌*◌, ◌/◌, ◌^◌, Bool, false, cond, ◌&&◌, from_bits, Float}
+use Rattle.std.specs.Prelude.{ℕ, zero, suc, ◌+◌, ◌-◌, ◌*◌, ◌/◌, ◌^◌, Bool, false, cond, ◌&&◌, from_bits, Float, Option, Some, None}
 use Rattle.std.specs.Float.{binary64}
 use Rattle.std.specs.Float.Ieee.{round, le}
 use Rattle.common.specs.Floats.{one}
 use Rattle.wide.specs.Isqrt.{isqrt}
-use Rattle.angles.specs.declared.Angle.{Angle}
-use Rattle.angles.specs.declared.Angle.TheVariants as Angle
 use Rattle.angles.specs.Angles.{size_of}
 
 -- +0
@@ -43,5 +41,5 @@ unfoldable pub arc_of : Float → Float
 arc_of w = let d = short_of w in round binary64 false (2 * arc_sum (d / 2) (root_of d) 60) (2 ^ 60)
 
 -- acos, for every float
-unfoldable pub acos_of : Float → Angle
-acos_of w = cond (in_unit w) (Angle.Is (arc_of w)) Angle.Outside
+unfoldable pub acos_of : Float → Option Float
+acos_of w = cond (in_unit w) (Some (arc_of w)) None

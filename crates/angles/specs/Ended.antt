@@ -1,12 +1,8 @@
 -- The series that end: each at the first zero term that it forms. A series answers its sum and how many terms it formed, that one counted. Definitions only.
-use Rattle.std.specs.Prelude.{◌≡◌, ℕ, zero, suc, ◌+◌, ◌-◌, ◌*◌, ◌/◌, ◌^◌, ◌<◌, ◌≤◌, Bool, true, false, cond, ℤ, pos, negsuc, ◌+ℤ◌, ◌≢◌, unsigned_abs, Float}
+use Rattle.std.specs.Prelude.{◌≡◌, ℕ, zero, suc, ◌+◌, ◌-◌, ◌*◌, ◌/◌, ◌^◌, ◌<◌, ◌≤◌, Bool, true, false, cond, ℤ, pos, negsuc, ◌+ℤ◌, ◌≢◌, unsigned_abs, Float, Option, Some, None}
 use Rattle.angles.specs.declared.Zone.{Zone}
 use Rattle.angles.specs.declared.Zone.TheVariants as Zone
 use Rattle.angles.specs.declared.series.Ended.{Ended}
-use Rattle.angles.specs.declared.counted.Series.{Series}
-use Rattle.angles.specs.declared.counted.Series.TheVariants as Series
-use Rattle.angles.specs.declared.counted.Pair.{Pair}
-use Rattle.angles.specs.declared.counted.Pair.TheVariants as Pair
 use Rattle.angles.specs.Angles.{region_of, scaled, rest, term, alternate}
 use Rattle.angles.specs.Arcs.{in_unit, short_of, root_of, arc_term}
 
@@ -61,29 +57,29 @@ abbrev pub end_of : Counted → Ended
 end_of c = record { sum = unsigned_abs c.sum; terms = c.terms }
 
 -- the sine's and the cosine's series at the argument's rest. There is none outside the range, nor below 2 ^ -26, where the sine is the argument and the cosine 1
-abbrev pub series_by : Zone → Ended → Series
-series_by Zone.Outside e = Series.None
-series_by Zone.Tiny e = Series.None
-series_by Zone.Inside e = Series.Ends e.sum e.terms
+abbrev pub series_by : Zone → Ended → Option (ℕ × ℕ)
+series_by Zone.Outside e = None
+series_by Zone.Tiny e = None
+series_by Zone.Inside e = Some (e.sum, e.terms)
 
-unfoldable pub sine_series : Float → Series
+unfoldable pub sine_series : Float → Option (ℕ × ℕ)
 sine_series x = series_by (region_of x) (end_of (sine_ended (rest (scaled x))))
 
-unfoldable pub cosine_series : Float → Series
+unfoldable pub cosine_series : Float → Option (ℕ × ℕ)
 cosine_series x = series_by (region_of x) (end_of (cosine_ended (rest (scaled x))))
 
 -- both, where there are any
-abbrev pub pair : Series → Series → Pair
-pair (Series.Ends s j) (Series.Ends c k) = Pair.End s j c k
-pair (Series.Ends s j) Series.None = Pair.None
-pair Series.None b = Pair.None
+abbrev pub pair : Option (ℕ × ℕ) → Option (ℕ × ℕ) → Option (ℕ × ℕ × ℕ × ℕ)
+pair (Some (s, j)) (Some (c, k)) = Some (s, j, c, k)
+pair (Some (s, j)) None = None
+pair None b = None
 
-unfoldable pub both_series : Float → Pair
+unfoldable pub both_series : Float → Option (ℕ × ℕ × ℕ × ℕ)
 both_series x = pair (sine_series x) (cosine_series x)
 
 -- the arc cosine's series at w, where w is from 0 to 1
 abbrev pub arc_at : Float → Counted
 arc_at w = let d = short_of w in arc_ended (d / 2) (root_of d)
 
-unfoldable pub arc_series : Float → Series
-arc_series w = cond (in_unit w) (Series.Ends (end_of (arc_at w)).sum (end_of (arc_at w)).terms) Series.None
+unfoldable pub arc_series : Float → Option (ℕ × ℕ)
+arc_series w = cond (in_unit w) (Some ((end_of (arc_at w)).sum, (end_of (arc_at w)).terms)) None

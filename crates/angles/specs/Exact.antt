@@ -1,10 +1,8 @@
 -- The exact partial sums at r, as fractions of whole numbers, and what it means that an answer lies within 2 ^ -50 of one. Definitions only.
-use Rattle.std.specs.Prelude.{◌≡◌, ℕ, zero, suc, ◌*◌, ◌^◌, ◌≤◌, Bool, false, T, ℤ, pos, ◌+ℤ◌, ◌-ℤ◌, ◌*ℤ◌, neg_ℤ, unsigned_abs, Float}
+use Rattle.std.specs.Prelude.{◌≡◌, ℕ, zero, suc, ◌*◌, ◌^◌, ◌≤◌, Bool, false, T, ℤ, pos, ◌+ℤ◌, ◌-ℤ◌, ◌*ℤ◌, neg_ℤ, unsigned_abs, Float, Option, Some}
 use Rattle.std.specs.Float.{nan, inf, fin}
 use Rattle.std.specs.Float.Ieee.Positive.{num, den}
 use Rattle.std.specs.Float.Ieee.Scale.{finite}
-use Rattle.angles.specs.declared.Angle.{Angle}
-use Rattle.angles.specs.declared.Angle.TheVariants as Angle
 use Rattle.angles.specs.Angles.{signed, divisor, alternate, quarters, rest, mod4}
 
 -- top / bottom
@@ -67,8 +65,8 @@ abbrev pub Within50 : Fraction → Fraction → Type 0
 Within50 f g = unsigned_abs (f.top *ℤ pos g.bottom -ℤ g.top *ℤ pos f.bottom) * 2 ^ 50 ≤ f.bottom * g.bottom
 
 -- the answer is a finite float within 2 ^ -50 of f
-pub record Near (a : Angle) (f : Fraction) : Type 0 where
+pub record Near (a : Option Float) (f : Fraction) : Type 0 where
   pub value : Float
-  pub is : a ≡ Angle.Is value
+  pub is : a ≡ Some value
   pub number : T (finite value)
   pub within : Within50 (value_of value) f

@@ -8,77 +8,63 @@ use super::series::{both_sizes, cosine_size, sine_size};
 use super::turn::reduced;
 use super::{Zone, region};
 
-// How one series ended: its sum's size, its count. There is none where the argument is outside the range or tiny.
-#[derive(Clone, Copy)]
-pub enum Series {
-    Ends(u64, u64),
-    None,
-}
-
-// How both ended, the sine's first.
-#[derive(Clone, Copy)]
-pub enum Pair {
-    End(u64, u64, u64, u64),
-    None,
-}
-
 // The sine's series at the rest of x.
-pub fn sine_series(x: f64) -> Series
+pub fn sine_series(x: f64) -> Option<(u64, u64)>
     ensures { result ≡ sine_series x }
 {
     let zone = region(x);
     match zone {
-        Zone::Outside => Series::None,
-        Zone::Tiny => Series::None,
+        Zone::Outside => None,
+        Zone::Tiny => None,
         Zone::Inside => {
             let t = reduced(x);
             let e = sine_size(t.size);
-            Series::Ends(e.sum, e.terms)
+            Some((e.sum, e.terms))
         }
     }
 }
 
 // The cosine's.
-pub fn cosine_series(x: f64) -> Series
+pub fn cosine_series(x: f64) -> Option<(u64, u64)>
     ensures { result ≡ cosine_series x }
 {
     let zone = region(x);
     match zone {
-        Zone::Outside => Series::None,
-        Zone::Tiny => Series::None,
+        Zone::Outside => None,
+        Zone::Tiny => None,
         Zone::Inside => {
             let t = reduced(x);
             let e = cosine_size(t.size);
-            Series::Ends(e.sum, e.terms)
+            Some((e.sum, e.terms))
         }
     }
 }
 
 // Both, as sin_cos works them out.
-pub fn both_series(x: f64) -> Pair
+pub fn both_series(x: f64) -> Option<(u64, u64, u64, u64)>
     ensures { result ≡ both_series x }
 {
     let zone = region(x);
     match zone {
-        Zone::Outside => Pair::None,
-        Zone::Tiny => Pair::None,
+        Zone::Outside => None,
+        Zone::Tiny => None,
         Zone::Inside => {
             let t = reduced(x);
             let e = both_sizes(t.size);
-            Pair::End(e.sine.sum, e.sine.terms, e.cosine.sum, e.cosine.terms)
+            Some((e.sine.sum, e.sine.terms, e.cosine.sum, e.cosine.terms))
         }
     }
 }
 
 // The arc cosine's series at w.
-pub fn arc_series(w: f64) -> Series
+pub fn arc_series(w: f64) -> Option<(u64, u64)>
     ensures { result ≡ arc_series w }
 {
     if 0.0 <= w {
         if w <= 1.0 {
             let e = arc_ended(w);
-            return Series::Ends(e.sum, e.terms);
+            return Some((e.sum, e.terms));
         }
     }
-    Series::None
+    None
 }

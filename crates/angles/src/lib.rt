@@ -18,20 +18,6 @@ pub mod ring;
 pub mod series;
 pub mod turn;
 
-// What sin, cos and acos answer.
-#[derive(Clone, Copy)]
-pub enum Angle {
-    Is(f64),
-    Outside,
-}
-
-// What sin_cos answers: the sine, then the cosine.
-#[derive(Clone, Copy)]
-pub enum Both {
-    Are(f64, f64),
-    Outside,
-}
-
 // Where an argument of sin or cos lies: over 1,024 in size or a NaN, below 2^-26 in size, or between.
 #[derive(Clone, Copy)]
 pub enum Zone {
@@ -70,59 +56,59 @@ pub fn region(x: f64) -> Zone
 }
 
 // The sine; the ring's place at the argument's quarters.
-pub fn sin(x: f64) -> Angle
+pub fn sin(x: f64) -> Option<f64>
     ensures { result ≡ sin_of x }
 {
     if in_range(x) {
         if is_tiny(x) {
-            return Angle::Is(x);
+            return Some(x);
         }
         let t = reduced(x);
-        Angle::Is(ring_at(t.quarter, t.below, t.size))
+        Some(ring_at(t.quarter, t.below, t.size))
     } else {
-        Angle::Outside
+        None
     }
 }
 
 // The cosine: the next place of the ring.
-pub fn cos(x: f64) -> Angle
+pub fn cos(x: f64) -> Option<f64>
     ensures { result ≡ cos_of x }
 {
     if in_range(x) {
         if is_tiny(x) {
-            return Angle::Is(1.0);
+            return Some(1.0);
         }
         let t = reduced(x);
-        Angle::Is(ring_at((t.quarter + 1) % 4, t.below, t.size))
+        Some(ring_at((t.quarter + 1) % 4, t.below, t.size))
     } else {
-        Angle::Outside
+        None
     }
 }
 
 // The sine and the cosine of one angle: one reduction, each series once.
-pub fn sin_cos(x: f64) -> Both
+pub fn sin_cos(x: f64) -> Option<(f64, f64)>
     ensures { result ≡ both_of x }
 {
     if in_range(x) {
         if is_tiny(x) {
-            return Both::Are(x, 1.0);
+            return Some((x, 1.0));
         }
         let t = reduced(x);
         let b = both_at(t.quarter, t.below, t.size);
-        Both::Are(b.sine, b.cosine)
+        Some((b.sine, b.cosine))
     } else {
-        Both::Outside
+        None
     }
 }
 
 // The arc cosine, for an argument from 0 to 1.
-pub fn acos(w: f64) -> Angle
+pub fn acos(w: f64) -> Option<f64>
     ensures { result ≡ acos_of w }
 {
     if 0.0 <= w {
         if w <= 1.0 {
-            return Angle::Is(arc_cosine(w));
+            return Some(arc_cosine(w));
         }
     }
-    Angle::Outside
+    None
 }

@@ -4,51 +4,31 @@
 ghost use Rattle.std.specs.Prelude.{◌≡◌};
 ghost use Rattle.arguments.specs.Requests as Requests;
 
-// What a word asks for: a number, or it is none.
-#[derive(Clone, Copy)]
-pub enum Requested {
-    Of(usize),
-    Not,
-}
-
-// One more digit.
-fn next(r: Requested, b: u8) -> Requested
-    ensures { result ≡ Requests.next r b }
-{
-    match r {
-        Requested::Not => Requested::Not,
-        Requested::Of(n) => with_digit(n, b),
-    }
-}
-
-// n with one more digit: above 100,000 it is 100,001, which is refused all the same.
-fn with_digit(n: usize, b: u8) -> Requested
+// n with one more digit: above 100,000 it is 100,001, which is refused all the same; none where the byte is no digit.
+#[tactic(auto, unfolding(crate::specs::Requests::with_digit))]
+fn with_digit(n: usize, b: u8) -> Option<usize>
     ensures { result ≡ Requests.with_digit n b }
 {
-    if b < 48 {
-        return Requested::Not;
-    }
-    if b > 57 {
-        return Requested::Not;
+    if !b.is_ascii_digit() {
+        return None;
     }
     if n > 10_000 {
-        return Requested::Of(100_001);
+        return Some(100_001);
     }
-    Requested::Of(10 * n + (b - 48) as usize)
+    Some(10 * n + (b - b'0') as usize)
 }
 
-// The number of a word.
-pub fn read_requested(word: &[u8]) -> Requested
+// The number of a word; none of an empty one, and of one with a byte that is no digit.
+#[tactic(auto, unfolding(crate::specs::Requests::requested))]
+pub fn read_requested(word: &[u8]) -> Option<usize>
     ensures { result ≡ Requests.requested word.now }
 {
-    if word.len() == 0 {
-        return Requested::Not;
+    if word.is_empty() {
+        return None;
     }
-    let mut r = Requested::Of(0);
-    let mut k: usize = 0;
-    while k < word.len() {
-        r = next(r, word[k]);
-        k += 1;
+    let mut n = 0;
+    for b in word {
+        n = with_digit(n, *b)?;
     }
-    r
+    Some(n)
 }

@@ -1,10 +1,9 @@
 -- What is printed of a sample for the drive board, in the code's steps. Assumes nothing.
-use Rattle.std.specs.Prelude.{ℕ, suc, ◌+◌, ◌-◌, ◌≤◌, ◌<◌, ◌^◌, ◌≡◌, refl, Bool, true, false, not, cond, List, T, ltb, ℤ, pos, negsuc, nat_abs, ◌+ℤ◌, Float}
+use Rattle.std.specs.Prelude.{ℕ, suc, ◌+◌, ◌-◌, ◌≤◌, ◌<◌, ◌^◌, ◌≡◌, refl, Bool, true, false, not, cond, List, T, ltb, ℤ, pos, negsuc, nat_abs, ◌+ℤ◌, Float, Ok, Err}
 use Rattle.std.proofs.Common.{arith, sym, ap, ltb-true, ltb-false, SFits}
 use Rattle.std.proofs.Math.IntN.{sub_ℕ}
 use Rattle.std.specs.Int.Signed.{non_neg}
 use Rattle.std.specs.Int.{w32, w64}
-use Rattle.common.specs.declared.Fate.TheVariants.{Going, Refused}
 use Rattle.geom.specs.Vec.{tensor}
 use Rattle.samples.specs.Rows.{rows}
 use Rattle.drive_numbers.specs.Drive.{drive_sample}
@@ -16,9 +15,11 @@ use Rattle.sample_text.specs.declared.Course.{Course}
 use Rattle.sample_text.specs.declared.lines.Line.{Line}
 use Rattle.board_text.specs.BoardLines.{board_course, answer, board_line, StepsAt}
 use Rattle.board_text.specs.declared.Board.{Board}
+use Rattle.common.specs.Refusals.{going}
+use Rattle.common.specs.declared.Refusal.{Refusal}
 
 -- ---- a path's sample is `drive_sample`'s, with 0 runs
-pub path_sample : (c : Course) (requested : ℕ) (alpha : Float) (index : ℕ) → c.fate ≡ Going → board_course c requested alpha index ≡ record { runs = 0; driven = drive_sample (tensor c.inertia) c.tolerance c.duration (rows c.nodes) requested alpha index }
+pub path_sample : (c : Course) (requested : ℕ) (alpha : Float) (index : ℕ) → c.fate ≡ going → board_course c requested alpha index ≡ record { runs = 0; driven = drive_sample (tensor c.inertia) c.tolerance c.duration (rows c.nodes) requested alpha index }
 unfolding board_course sample_course sample_of drive_sample
 path_sample c requested alpha index h = rw h
 
@@ -63,10 +64,10 @@ sum_back z h = let c = counted z h in rw c.sum c.back
 
 -- ---- what is printed
 module _ (c : Course) (requested : ℕ) (alpha : Float) (index : ℕ) {b : Board} {out said out' : List ℕ} (e : b ≡ board_course c requested alpha index) where
-  pub steps_refused : {n k : ℕ} {sampled : Bool} {said' : List ℕ} {r : Line} → sampled ≡ is_planned c.fate → b.driven.fate ≡ Refused n k → Refuses sampled n k b.runs out said r out' said' → StepsAt c requested alpha index out said r out' said'
+  pub steps_refused : {why : Refusal} {sampled : Bool} {said' : List ℕ} {r : Line} → sampled ≡ is_planned c.fate → b.driven ≡ Err why → Refuses sampled why.number why.place b.runs out said r out' said' → StepsAt c requested alpha index out said r out' said'
   unfolding answer
-  steps_refused {sampled = sampled} g f s = rw (← e, ← g) (step_refused (board_line index (is_last c.duration requested alpha index)) sampled _ b.driven.numbers b.runs (omega arith) f s)
+  steps_refused {sampled = sampled} g f s = rw (← e, ← g) (step_refused (board_line index (is_last c.duration requested alpha index)) sampled _ b.runs (omega arith) f s)
 
-  pub steps_given : {last : Bool} {i : ℕ} → b.driven.fate ≡ Going → last ≡ is_last c.duration requested alpha index → Puts out 0 (board_line index last b.driven.numbers) 320 out' i → StepsAt c requested alpha index out said (record { bytes = i; said = 0; more = not last }) out' said
+  pub steps_given : {v : List ℤ} {last : Bool} {i : ℕ} → b.driven ≡ Ok v → last ≡ is_last c.duration requested alpha index → Puts out 0 (board_line index last v) 320 out' i → StepsAt c requested alpha index out said (record { bytes = i; said = 0; more = not last }) out' said
   unfolding answer
-  steps_given {last} f l p = rw (← e, ← l) (step_given (board_line index last) (is_planned c.fate) last b.driven.numbers b.runs f p)
+  steps_given {last = last} f l p = rw (← e, ← l) (step_given (board_line index last) (is_planned c.fate) last b.runs f p)

@@ -20,7 +20,7 @@ board_course c requested alpha index =
 
 -- the answer of a sample: its numbers, or a refusal
 unfoldable pub answer : Board → Answer (List ℤ)
-answer b = answer_by b.driven.fate b.runs b.driven.numbers
+answer b = answer_by b.runs b.driven
 
 -- ---- a sample's line
 

@@ -6,8 +6,8 @@ ghost use Rattle.text_writer.specs.Puts.{Puts};
 ghost use Rattle.board_text.specs.BoardLines as BoardLines;
 ghost use Rattle.board_text.specs.BoardLines.{StepsAt};
 
-use common::Fate;
-use drive_numbers::{Driven, drive};
+use common::Refusal;
+use drive_numbers::drive;
 use sample_text::lines::{Line, is_last, is_planned, put_either, tell_refused};
 use sample_text::{Course, sample_course};
 use text_writer::put::{put_byte, put_less};
@@ -16,7 +16,7 @@ use text_writer::put::{put_byte, put_less};
 #[derive(Clone, Copy)]
 pub struct Board {
     pub runs: usize,
-    pub driven: Driven,
+    pub driven: Result<[i32; 13], Refusal>,
 }
 
 // Sample number index of a text's plan.
@@ -24,11 +24,9 @@ pub fn board_course(c: Course, requested: usize, alpha: f64, index: usize) -> Bo
     ensures { result ≡ BoardLines.board_course c requested alpha index }
 {
     let d = sample_course(c, requested, alpha, index);
-    let made = d.sampled;
-    let driven = drive(made, index);
     Board {
         runs: d.runs,
-        driven: driven,
+        driven: drive(d.sampled, index),
     }
 }
 
@@ -47,10 +45,8 @@ fn put_row(b: &mut [u8], at: usize, v: &[i32; 13]) -> usize
     ensures { Puts b.old at (BoardLines.row v.now) 286 b.new result }
 {
     let mut i = at;
-    let mut k: usize = 0;
-    while k < 13 {
-        i = put_number(b, i, v[k]);
-        k += 1;
+    for n in v {
+        i = put_number(b, i, *n);
     }
     i
 }
@@ -77,16 +73,13 @@ pub fn write_numbers(
 {
     let sampled = is_planned(c);
     let b = board_course(c, requested, alpha, index);
-    let driven = b.driven;
-    let fate = driven.fate;
-    match fate {
-        Fate::Refused(number, place) => tell_refused(sampled, number, place, b.runs, out, said),
-        Fate::Going => {
-            let v = driven.numbers;
+    match b.driven {
+        Err(why) => tell_refused(sampled, why.number, why.place, b.runs, out, said),
+        Ok(v) => {
             let last = is_last(c.duration, requested, alpha, index);
             let bytes = put_line(out, index, last, v);
             Line {
-                bytes: bytes,
+                bytes,
                 said: 0,
                 more: !last,
             }

@@ -8,7 +8,7 @@ use native.Mathlib.Omega.{arith}
 use lib.Bits.{bit_xor}
 use lib.Pow.{pow_mono}
 use lib.ListN.{length, get_or, set, take, drop, length-map}
-use lib.Seq.{paste, paste-suc, take_at, drop-append-add, drop-drop, take_all, length-paste}
+use lib.Seq.{paste, paste-suc, take_at, drop-append-add, drop-drop, take_all}
 use Rattle.byte_planes.specs.Planes.{deltas, byte_of, plane, first_planes, word_at, words_from, restored_from, restored}
 use Rattle.byte_planes.specs.DeltaLaws.{length_deltas, deltas_at, restored_at}
 use Rattle.byte_planes.specs.ByteLaws as Bytes
@@ -47,11 +47,6 @@ plane_next c o out made j e f =
     ∙ ap (λ x. s ++ x ++ drop (j * n + n) (s ++ drop (j * n) o)) (take_all n p (omega (arith, length_plane j c)))
     ∙ ap (λ x. s ++ p ++ drop (x + n) (s ++ drop (j * n) o)) (sym k)
     ∙ ap (λ x. s ++ p ++ x) (drop-append-add s (drop (j * n) o) n ∙ drop-drop n (j * n) o))
-
-pub plane_length : (c out : List ℕ) {made : List ℕ} (j : ℕ) → j * length c + length c ≤ length out
-    → made ≡ paste out (j * length c) (plane j (deltas c)) (length c) → length made ≡ length out
-plane_length c out j h e =
-    ap length e ∙ length-paste out (j * length c) (plane j (deltas c)) (length c) h (omega (arith, length_plane j c))
 
 -- ---- the column
 -- word i is combined word i with the word before it

@@ -1,11 +1,10 @@
 -- What the calls do: refused exactly where the request says, with the output untouched; else what one wrote the other gives back. Assumes nothing.
-use Rattle.std.specs.Prelude.{◌≡◌, true, false, List, ◌++◌, ◌⊎◌, ℕ, ◌*◌, ◌/◌, ◌^◌, ◌<◌, ◌≤◌, leb, eqb, take, drop}
+use Rattle.std.specs.Prelude.{◌≡◌, true, false, List, ◌++◌, None, Some, ◌⊎◌, ℕ, ◌*◌, ◌/◌, ◌^◌, ◌<◌, ◌≤◌, leb, eqb, take, drop}
 use Rattle.std.proofs.Common.{ap, ◌∙◌, ⊎_elim, arith, take_at}
 use Rattle.std.proofs.Math.Bool.{and-false}
 use borrow.Author.Tests.{le-leb, lt-leb, eq-eqb, ne_eqb}
 use Rattle.std.proofs.Math.ListN.{length}
 use Rattle.common.specs.Answer.{Given, Refused}
-use Rattle.byte_planes.specs.declared.Stored.TheVariants as Stored
 use Rattle.byte_planes.specs.Planes.{Below, planes, column}
 use Rattle.byte_planes.specs.Calls.{fits_column, encoded, encoded_out, fits_planes, decoded, decoded_out}
 use Rattle.byte_planes.specs.Answers.{of_stored}
@@ -26,11 +25,11 @@ module _ (c o : List ℕ) where
   unfolding fits_column
   fits h k = rw (le-leb (length c) 4096 h, le-leb (8 * length c) (length o) k)
 
-  pub encode_none : fits_column c o ≡ false → (encoded c o ≡ Stored.Refused) × (encoded_out c o ≡ o)
+  pub encode_none : fits_column c o ≡ false → (encoded c o ≡ None) × (encoded_out c o ≡ o)
   unfolding encoded encoded_out
   encode_none e = (rw e, rw e)
 
-  pub encode_all : fits_column c o ≡ true → (encoded c o ≡ Stored.Written (8 * length c)) × (encoded_out c o ≡ planes c ++ drop (8 * length c) o)
+  pub encode_all : fits_column c o ≡ true → (encoded c o ≡ Some (8 * length c)) × (encoded_out c o ≡ planes c ++ drop (8 * length c) o)
   unfolding encoded encoded_out
   encode_all e = (rw e, rw e)
 
@@ -62,11 +61,11 @@ module _ (bs o : List ℕ) where
   unfolding fits_planes
   whole w h k = rw (eq-eqb (length bs) (8 * (length bs / 8)) w, le-leb (length bs / 8) 4096 h, le-leb (length bs / 8) (length o) k)
 
-  pub decode_none : fits_planes bs o ≡ false → (decoded bs o ≡ Stored.Refused) × (decoded_out bs o ≡ o)
+  pub decode_none : fits_planes bs o ≡ false → (decoded bs o ≡ None) × (decoded_out bs o ≡ o)
   unfolding decoded decoded_out
   decode_none e = (rw e, rw e)
 
-  pub decode_all : fits_planes bs o ≡ true → (decoded bs o ≡ Stored.Written (length bs / 8)) × (decoded_out bs o ≡ column bs ++ drop (length bs / 8) o)
+  pub decode_all : fits_planes bs o ≡ true → (decoded bs o ≡ Some (length bs / 8)) × (decoded_out bs o ≡ column bs ++ drop (length bs / 8) o)
   unfolding decoded decoded_out
   decode_all e = (rw e, rw e)
 

@@ -1,13 +1,11 @@
 -- A text is told to go on exactly where it is accepted, and what is written is then its canonical text; and the steps by which the code tells it. Assumes nothing.
-use Rattle.std.specs.Prelude.{ℕ, ◌+◌, ◌≤◌, ◌<◌, ◌≡◌, refl, ◌↔◌, Bool, true, false, List, ◌++◌, ltb}
+use Rattle.std.specs.Prelude.{ℕ, ◌+◌, ◌≤◌, ◌<◌, ◌≡◌, refl, ◌↔◌, Bool, true, false, List, ◌++◌, ltb, Ok, Err}
 use native.Mathlib.Omega.{arith}
 use Rattle.std.proofs.Math.Nat.{zero-add}
 use Rattle.std.proofs.Common.{◌∙◌, ap}
 use Rattle.std.proofs.Math.ListN.{length, drop}
 use Rattle.std.proofs.Math.Seq.{length-sets}
 use borrow.Author.Tests.{lt-ltb, le-ltb, ltb-false}
-use Rattle.common.specs.declared.Fate.{Fate}
-use Rattle.common.specs.declared.Fate.TheVariants.{Going, Refused}
 use Rattle.problem.specs.declared.Problem.{Problem}
 use Rattle.text_writer.specs.PutLaws.{puts_none, puts_whole}
 use Rattle.text_writer.specs.Puts.{Puts}
@@ -20,17 +18,18 @@ use Rattle.canonical.specs.declared.Told.{Told}
 use Rattle.canonical.specs.Writing.{written}
 use Rattle.canonical.specs.WritingLaws.{written_is}
 use Rattle.canonical.specs.CanonicalTexts.{counts_fate, fate_by, text_by, fate_of, text_of, told, left, Rewrites, Tells}
+use Rattle.common.specs.Refusals.{Fate, refusal, going}
 
 -- ---- accepted texts
 
-never : {n place : ℕ} {A : Type 0} → Refused n place ≡ Going → A
+never : {n place : ℕ} {A : Type 0} → Err (refusal n place) ≡ going → A
 never e = let z : ◌≡◌ {A = ℕ} 0 1 = cc in absurd (omega arith)
 
-few_going : (p : Problem) → Few p → counts_fate p.actuators ≡ Going
+few_going : (p : Problem) → Few p → counts_fate p.actuators ≡ going
 unfolding counts_fate
 few_going p n = rw (le-ltb _ _ n.0, le-ltb _ _ n.1)
 
-going_few : (p : Problem) → counts_fate p.actuators ≡ Going → Few p
+going_few : (p : Problem) → counts_fate p.actuators ≡ going → Few p
 unfolding counts_fate
 going_few p h = go (ltb 8 p.actuators.wheel_count) (ltb 12 p.actuators.thruster_count) refl refl
   where
@@ -39,15 +38,15 @@ going_few p h = go (ltb 8 p.actuators.wheel_count) (ltb 12 p.actuators.thruster_
     go false true e k = never (rw (e, k) at h)
     go false false e k = (ltb-false _ _ e, ltb-false _ _ k)
 
-accepted_by : (f : Fate) (p : Problem) → fate_by f p ≡ Going → (f ≡ Going) × Few p
-accepted_by (Refused n line) p h = never h
-accepted_by Going p h = (refl, going_few p h)
+accepted_by : (f : Fate) (p : Problem) → fate_by f p ≡ going → (f ≡ going) × Few p
+accepted_by (Err why) p h = never h
+accepted_by (Ok _) p h = (refl, going_few p h)
 
-going_by : (f : Fate) (p : Problem) → f ≡ Going → Few p → fate_by f p ≡ Going
+going_by : (f : Fate) (p : Problem) → f ≡ going → Few p → fate_by f p ≡ going
 going_by f p e n = ap (λ (x : Fate). fate_by x p) e ∙ few_going p n
 
 -- a text goes on exactly where it is accepted
-pub going_is : (t : List ℕ) → (fate_of t ≡ Going) ↔ Accepted loose t
+pub going_is : (t : List ℕ) → (fate_of t ≡ going) ↔ Accepted loose t
 unfolding fate_of
 going_is t = (accepted_by (read_problem t).fate (read_problem t).problem, λ h. going_by (read_problem t).fate (read_problem t).problem h.0 h.1)
 
@@ -59,17 +58,17 @@ canonical_is t h =
 
 -- ---- steps of the code
 
-pub refused_rewrites : (f : Fate) (p : Problem) (b : List ℕ) (n line : ℕ) → f ≡ Refused n line → Rewrites f p b (record { fate = Refused n line; bytes = 0 }) b
+pub refused_rewrites : (f : Fate) (p : Problem) (b : List ℕ) (n line : ℕ) → f ≡ Err (refusal n line) → Rewrites f p b (record { fate = Err (refusal n line); bytes = 0 }) b
 refused_rewrites f p b n line h = record { is = rw h; puts = rw h (puts_none b 0 4096) }
 
-pub going_rewrites : (f : Fate) (p : Problem) (b b' : List ℕ) (x : Fate) (k : ℕ) → f ≡ Going → x ≡ counts_fate p.actuators → Puts b 0 (written p) 4096 b' k → Rewrites f p b (record { fate = x; bytes = k }) b'
+pub going_rewrites : (f : Fate) (p : Problem) (b b' : List ℕ) (x : Fate) (k : ℕ) → f ≡ going → x ≡ counts_fate p.actuators → Puts b 0 (written p) 4096 b' k → Rewrites f p b (record { fate = x; bytes = k }) b'
 going_rewrites f p b b' x k h g w = record { is = rw h g; puts = rw h w }
 
 told_is : (r : Told) (x : Fate) (n : ℕ) → r.fate ≡ x → r.bytes ≡ n → r ≡ record { fate = x; bytes = n }
 told_is r x n p q = rw (← p, ← q)
 
 module _ (t : List ℕ) {out : List ℕ} where
-  pub tells_short : length out < 4096 → Tells t out (record { fate = Refused 99 0; bytes = 0 }) out
+  pub tells_short : length out < 4096 → Tells t out (record { fate = Err (refusal 99 0); bytes = 0 }) out
   unfolding told left
   tells_short h = record { is = rw (lt-ltb _ _ h); bytes = rw (lt-ltb _ _ h); within = omega arith }
 

@@ -1,26 +1,25 @@
 -- What is told of a text, and its canonical text in a lent buffer. Definitions only.
-use Rattle.std.specs.Prelude.{ℕ, ◌≤◌, ◌≡◌, cond, List, [], ◌++◌, ltb, length, drop}
-use Rattle.common.specs.declared.Fate.{Fate}
-use Rattle.common.specs.declared.Fate.TheVariants.{Going, Refused}
+use Rattle.std.specs.Prelude.{ℕ, ◌≤◌, ◌≡◌, cond, List, [], ◌++◌, ltb, length, drop, Ok, Err}
 use Rattle.actuators.specs.declared.Actuators.{Actuators}
 use Rattle.problem.specs.declared.Problem.{Problem}
 use Rattle.text_writer.specs.Puts.{Puts}
 use Rattle.problem_text.specs.Reader.{read_problem}
 use Rattle.canonical.specs.declared.Told.{Told}
 use Rattle.canonical.specs.Writing.{written}
+use Rattle.common.specs.Refusals.{Fate, refusal, going}
 
 -- 1 where there are too many wheels (place 0) or thrusters (place 1)
 unfoldable pub counts_fate : Actuators → Fate
-counts_fate a = cond (ltb 8 a.wheel_count) (Refused 1 0) (cond (ltb 12 a.thruster_count) (Refused 1 1) Going)
+counts_fate a = cond (ltb 8 a.wheel_count) (Err (refusal 1 0)) (cond (ltb 12 a.thruster_count) (Err (refusal 1 1)) going)
 
 -- how a text is taken that was read so
 abbrev pub fate_by : Fate → Problem → Fate
-fate_by (Refused n line) p = Refused n line
-fate_by Going p = counts_fate p.actuators
+fate_by (Err why) p = Err why
+fate_by (Ok _) p = counts_fate p.actuators
 
 abbrev pub text_by : Fate → Problem → List ℕ
-text_by (Refused n line) p = []
-text_by Going p = written p
+text_by (Err why) p = []
+text_by (Ok _) p = written p
 
 -- ---- of a text: 21 or 1, or its canonical text
 unfoldable pub fate_of : List ℕ → Fate
@@ -32,7 +31,7 @@ text_of t = text_by (read_problem t).fate (read_problem t).problem
 -- ---- what is told of it, and the lent buffer at exit. A buffer of less than 4,096 bytes gets nothing: 99, which is no refusal's number.
 
 unfoldable pub told : List ℕ → List ℕ → Told
-told t out = cond (ltb (length out) 4096) (record { fate = Refused 99 0; bytes = 0 }) (record { fate = fate_of t; bytes = length (text_of t) })
+told t out = cond (ltb (length out) 4096) (record { fate = Err (refusal 99 0); bytes = 0 }) (record { fate = fate_of t; bytes = length (text_of t) })
 
 -- the bytes, then what stood after them
 unfoldable pub left : List ℕ → List ℕ → List ℕ

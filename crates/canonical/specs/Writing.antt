@@ -1,17 +1,15 @@
 -- The canonical text as the writer puts it, part by part. Definitions only.
-use Rattle.std.specs.Prelude.{ℕ, ◌+◌, ◌*◌, cond, ◌&&◌, List, [], ◌∷◌, ◌++◌, leb, eqb, length, get_or, Float}
-use Rattle.common.specs.declared.Limit.{Limit}
+use Rattle.std.specs.Prelude.{ℕ, ◌+◌, ◌*◌, cond, ◌&&◌, List, [], ◌∷◌, ◌++◌, leb, eqb, length, get_or, Float, Option, Some, None}
 use Rattle.geom.specs.declared.Quat.{Quat}
 use Rattle.actuators.specs.declared.Wheel.{Wheel}
 use Rattle.actuators.specs.declared.Thruster.{Thruster}
-use Rattle.actuators.specs.declared.Cmgs.{Cmgs}
-use Rattle.actuators.specs.declared.Cmgs.TheVariants.{Without, With}
 use Rattle.problem.specs.declared.Weights.{Weights}
 use Rattle.problem.specs.declared.Problem.{Problem}
 use Rattle.text.specs.Bytes.{bytes}
 use Rattle.text_writer.specs.Puts.{Puts}
 use Rattle.text_writer.specs.Texts.{times}
 use Rattle.canonical_laws.specs.Pieces.{Piece, lit, Entry, wheel, thruster, pyramid, flat, floats, limit, line, quat, weights, entry, no_wheel, no_thruster, actuators, print}
+use Rattle.actuators.specs.declared.CmgPyramid.{CmgPyramid}
 
 -- the text of a problem; none of one with more than 8 wheels or 12 thrusters, or with another count of momenta than of wheels, which no accepted text gives
 unfoldable pub written : Problem → List ℕ
@@ -33,9 +31,9 @@ PutsLine before at head n v tail = Puts before at (flat (line head v tail)) (roo
 abbrev pub entry_text : Entry → List ℕ
 entry_text e = flat (lit (bytes "\n") ∷ entry e)
 
-abbrev pub gyros_text : Cmgs → List ℕ
-gyros_text Without = []
-gyros_text (With p) = entry_text (pyramid p)
+abbrev pub gyros_text : Option CmgPyramid → List ℕ
+gyros_text None = []
+gyros_text (Some p) = entry_text (pyramid p)
 
 unfoldable pub wheels_text : List Wheel → ℕ → List ℕ
 wheels_text ws n = times (λ k. entry_text (wheel (get_or ws k no_wheel))) n
@@ -46,7 +44,7 @@ thrusters_text ts n = times (λ k. entry_text (thruster (get_or ts k no_thruster
 abbrev pub weights_line : Weights → List Piece
 weights_line w = line (bytes " (weights") (weights w) close
 
-abbrev pub slew_line : Limit → List Piece
+abbrev pub slew_line : Option Float → List Piece
 slew_line l = lit (bytes " (slew") ∷ limit l ∷ lit close ∷ []
 
 abbrev pub inertia_line : List Float → List Piece
@@ -64,7 +62,7 @@ momenta_line v n = line (bytes " (momenta") (floats n v) close
 abbrev pub attitudes : Quat → Quat → List Piece
 attitudes q0 qf = line (bytes "(problem") [] (bytes "\n") ++ line (bytes " (q0") (quat q0) close ++ line (bytes " (qf") (quat qf) close
 
-abbrev pub body : List Float → List Float → Limit → List Piece
+abbrev pub body : List Float → List Float → Option Float → List Piece
 body j l slew = inertia_line j ++ torques_line l ++ slew_line slew
 
 -- the first eight lines

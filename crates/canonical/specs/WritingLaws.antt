@@ -1,13 +1,11 @@
 -- The parts that the writer puts make up the canonical text. Assumes nothing.
 use Prim.Native.Nat.{ℕ, zero, suc, ◌+◌, ◌≤◌, ◌<◌}
-use Rattle.std.proofs.Common.{arith, add-zero, zero-add, ◌∙◌, le-leb, eq-eqb, ne_eqb}
+use Rattle.std.proofs.Common.{arith, add-zero, zero-add, ◌∙◌, le-leb, eq-eqb, ne_eqb, Option, Some, None}
 use Rattle.std.specs.Prelude.{◌≡◌, get_or, Float}
 use Rattle.std.proofs.Math.Path.{refl, sym, ap}
 use mathlib.Core.List.{List, [], ◌∷◌, ◌++◌, map, append-nil, append_assoc}
 use Rattle.std.proofs.lemmas.Bool.{lt-leb}
 use Rattle.std.specs.Float.{nan}
-use Rattle.actuators.specs.declared.Cmgs.{Cmgs}
-use Rattle.actuators.specs.declared.Cmgs.TheVariants.{Without, With}
 use Rattle.actuators.specs.declared.Actuators.{Actuators}
 use Rattle.problem.specs.declared.Problem.{Problem}
 use Rattle.text.specs.Bytes.{bytes}
@@ -17,6 +15,7 @@ use Rattle.text_writer.specs.Texts.{times, word, words}
 use Rattle.canonical_laws.specs.Pieces.{Piece, lit, num, Entry, wheel, thruster, pyramid, text, flat, firsts, floats, nums, line, entry, entries, gyros, no_wheel, no_thruster, thrusters_of, momenta_of, actuators, pieces, print}
 use Rattle.canonical_laws.specs.Texts.{Writable}
 use Rattle.canonical.specs.Writing.{written, close, entry_text, gyros_text, wheels_text, thrusters_text, momenta_line, fields}
+use Rattle.actuators.specs.declared.CmgPyramid.{CmgPyramid}
 
 pub flat_join : (ps qs : List Piece) → flat (ps ++ qs) ≡ flat ps ++ flat qs
 flat_join [] qs = refl
@@ -68,9 +67,9 @@ module _ {A : Type 0} (d : A) (c : A → Entry) where
       ∙ sym (append_assoc (times (λ k. entry_text (c (get_or v k d))) n) (entry_text (c (get_or v (0 + n) d))) (flat (entries es rest)))
       ∙ ap (λ (k : ℕ). times (λ k. entry_text (c (get_or v k d))) n ++ entry_text (c (get_or v k d)) ++ flat (entries es rest)) (zero-add n)
 
-gyros_text_law : (c : Cmgs) (rest : List Piece) → flat (entries (gyros c) rest) ≡ gyros_text c ++ flat rest
-gyros_text_law Without rest = refl
-gyros_text_law (With p) rest = entry_text_law (pyramid p) [] rest
+gyros_text_law : (c : Option CmgPyramid) (rest : List Piece) → flat (entries (gyros c) rest) ≡ gyros_text c ++ flat rest
+gyros_text_law None rest = refl
+gyros_text_law (Some p) rest = entry_text_law (pyramid p) [] rest
 
 pub actuators_text : (a : Actuators) → flat (actuators a) ≡ bytes " (actuators" ++ wheels_text a.wheels a.wheel_count ++ thrusters_text a.thrusters a.thruster_count ++ gyros_text a.cmgs ++ bytes "))\n"
 unfolding actuators wheels_text thrusters_text

@@ -6,7 +6,7 @@ ghost use Rattle.canonical.specs.CanonicalTexts as CanonicalTexts;
 ghost use Rattle.canonical.specs.CanonicalTexts.{Rewrites, Tells};
 
 use actuators::Actuators;
-use common::Fate;
+use common::Refusal;
 use problem::Problem;
 
 pub mod writing;
@@ -16,33 +16,39 @@ use writing::write_problem;
 // How a text was taken, and how many bytes of its canonical text were written.
 #[derive(Clone, Copy)]
 pub struct Told {
-    pub fate: Fate,
+    pub fate: Result<(), Refusal>,
     pub bytes: usize,
 }
 
 // 1 where there are more than 8 wheels (place 0) or 12 thrusters (place 1).
-fn counts_fate(a: Actuators) -> Fate
+fn counts_fate(a: Actuators) -> Result<(), Refusal>
     ensures { result ≡ CanonicalTexts.counts_fate a }
 {
     if a.wheel_count > 8 {
-        return Fate::Refused(1, 0);
+        return Err(Refusal {
+            number: 1,
+            place: 0,
+        });
     }
     if a.thruster_count > 12 {
-        return Fate::Refused(1, 1);
+        return Err(Refusal {
+            number: 1,
+            place: 1,
+        });
     }
-    Fate::Going
+    Ok(())
 }
 
 // What was read, written anew; of a text that is refused with 21 nothing.
-fn rewrite(fate: Fate, p: Problem, out: &mut [u8]) -> Told
+fn rewrite(fate: Result<(), Refusal>, p: Problem, out: &mut [u8]) -> Told
     ensures { Rewrites fate p out.old result out.new }
 {
     match fate {
-        Fate::Refused(number, line) => Told {
-            fate: Fate::Refused(number, line),
+        Err(refusal) => Told {
+            fate: Err(refusal),
             bytes: 0,
         },
-        Fate::Going => {
+        Ok(()) => {
             let bytes = write_problem(out, p);
             let actuators = p.actuators;
             Told {
@@ -60,7 +66,10 @@ pub fn canonical_text(text: &[u8], out: &mut [u8]) -> Told
 {
     if out.len() < 4096 {
         return Told {
-            fate: Fate::Refused(99, 0),
+            fate: Err(Refusal {
+                number: 99,
+                place: 0,
+            }),
             bytes: 0,
         };
     }

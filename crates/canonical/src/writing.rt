@@ -5,8 +5,7 @@ ghost use Rattle.canonical_laws.specs.Pieces as Pieces;
 ghost use Rattle.canonical.specs.Writing as Writing;
 ghost use Rattle.canonical.specs.Writing.{PutsLine};
 
-use actuators::{Actuators, CmgPyramid, Cmgs, Thruster, Wheel};
-use common::Limit;
+use actuators::{Actuators, CmgPyramid, Thruster, Wheel};
 use geom::Quat;
 use problem::{Problem, Weights};
 use text_writer::put::{put_all, put_word, put_words};
@@ -22,13 +21,13 @@ fn put_line(b: &mut [u8], at: usize, head: &[u8], v: &[f64], n: usize, tail: &[u
 }
 
 // `none` or a limit, after a blank.
-fn put_limit(b: &mut [u8], at: usize, limit: Limit) -> usize
+fn put_limit(b: &mut [u8], at: usize, limit: Option<f64>) -> usize
     requires { at < 2 ^ 30 }
     ensures { Puts b.old at (Pieces.flat (Pieces.limit limit ∷ [])) 17 b.new result }
 {
     match limit {
-        Limit::Nothing => put_all(b, at, b" none"),
-        Limit::At(x) => put_word(b, at, x),
+        None => put_all(b, at, b" none"),
+        Some(x) => put_word(b, at, x),
     }
 }
 
@@ -76,13 +75,13 @@ fn put_pyramid(b: &mut [u8], at: usize, p: CmgPyramid) -> usize
 }
 
 // The pyramid, if there is one.
-fn put_gyros(b: &mut [u8], at: usize, cmgs: Cmgs) -> usize
+fn put_gyros(b: &mut [u8], at: usize, cmgs: Option<CmgPyramid>) -> usize
     requires { at < 2 ^ 28 }
     ensures { Puts b.old at (Writing.gyros_text cmgs) 112 b.new result }
 {
     match cmgs {
-        Cmgs::Without => at,
-        Cmgs::With(p) => put_pyramid(b, at, p),
+        None => at,
+        Some(p) => put_pyramid(b, at, p),
     }
 }
 
@@ -92,26 +91,20 @@ fn put_wheels(b: &mut [u8], at: usize, wheels: [Wheel; 8], n: usize) -> usize
     ensures { Puts b.old at (Writing.wheels_text wheels n) (112 * n) b.new result }
 {
     let mut i = at;
-    let mut k: usize = 0;
-    while k < n {
-        let w = wheels[k];
-        i = put_wheel(b, i, w);
-        k += 1;
+    for w in &wheels[..n] {
+        i = put_wheel(b, i, *w);
     }
     i
 }
 
-// The first n thrusters.
+// The first n thrusters. One function over both kinds would take what puts an item as a closure, whose contract is longer than this loop.
 fn put_thrusters(b: &mut [u8], at: usize, thrusters: [Thruster; 12], n: usize) -> usize
     requires { (at < 2 ^ 27) × (n ≤ 12) }
     ensures { Puts b.old at (Writing.thrusters_text thrusters n) (112 * n) b.new result }
 {
     let mut i = at;
-    let mut k: usize = 0;
-    while k < n {
-        let t = thrusters[k];
-        i = put_thruster(b, i, t);
-        k += 1;
+    for t in &thrusters[..n] {
+        i = put_thruster(b, i, *t);
     }
     i
 }
@@ -157,7 +150,7 @@ fn put_weights(b: &mut [u8], at: usize, w: Weights) -> usize
 }
 
 // The slew limit's line.
-fn put_slew(b: &mut [u8], at: usize, slew: Limit) -> usize
+fn put_slew(b: &mut [u8], at: usize, slew: Option<f64>) -> usize
     requires { at < 2 ^ 28 }
     ensures { Puts b.old at (Pieces.flat (Writing.slew_line slew)) 25 b.new result }
 {
@@ -201,7 +194,7 @@ fn put_attitudes(b: &mut [u8], q0: Quat, qf: Quat) -> usize
 }
 
 // The lines of the body and its limits.
-fn put_body(b: &mut [u8], at: usize, inertia: [f64; 9], limit: [f64; 3], slew: Limit) -> usize
+fn put_body(b: &mut [u8], at: usize, inertia: [f64; 9], limit: [f64; 3], slew: Option<f64>) -> usize
     requires { at < 2 ^ 27 }
     ensures { Puts b.old at (Pieces.flat (Writing.body inertia limit slew)) 249 b.new result }
 {

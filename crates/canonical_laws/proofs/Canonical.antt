@@ -3,8 +3,6 @@
 use Rattle.std.specs.Prelude.{ℕ, ◌≡◌, ◌↔◌, List, length}
 use Rattle.std.proofs.Common.{arith, zero-add, sym, ◌∙◌, ap}
 use Rattle.std.proofs.Math.Path.{subst}
-use Rattle.common.specs.declared.Fate.{Fate}
-use Rattle.common.specs.declared.Fate.TheVariants.{Going}
 use Rattle.problem.specs.declared.Problem.{Problem}
 use Rattle.problem_text.specs.declared.Read.{Read}
 use Rattle.text.specs.Forms.{Form, loose}
@@ -18,6 +16,7 @@ use Rattle.canonical_laws.specs.TextLaws.{reads, stands}
 use Rattle.canonical_laws.specs.PrintLaws.{print_apart}
 use Rattle.canonical_laws.proofs.PrintLaws.{print_short}
 use Rattle.canonical_laws.specs.Texts.{Writable, Accepted, problem, canonical, answer}
+use Rattle.common.specs.Refusals.{Fate, going}
 
 abbrev put : Fate → Problem → Read
 put x p = record { fate = x; problem = p }
@@ -28,11 +27,11 @@ module _ (f : Form) (L : Lawful f) where
   spanned p g = subst (λ (k : ℕ). Spans f (print p) 0 (pieces p) k) (zero-add (length (print p))) (spans_of f L (print p) (pieces p) 0 (print_apart p) g (here (print p)))
 
   -- what was written is read as the problem, with nothing past its counts
-  pub written : (p : Problem) → Writable p → Fit (pieces p) → read_in f (print p) ≡ record { fate = Going; problem = tidied p }
+  pub written : (p : Problem) → Writable p → Fit (pieces p) → read_in f (print p) ≡ record { fate = going; problem = tidied p }
   written p n g = reads f L (print p) p (print_short p n) (omega (arith, n.0.0, n.1)) n.1 (spanned p g)
 
   -- what an accepted text is read as is written and read again as itself
-  pub rewritten : (t : List ℕ) → Accepted f t → read_in f (print (problem f t)) ≡ record { fate = Going; problem = problem f t }
+  pub rewritten : (t : List ℕ) → Accepted f t → read_in f (print (problem f t)) ≡ record { fate = going; problem = problem f t }
   rewritten t h =
       let r = stands f t h.0 h.1.0 h.1.1 in
       written (problem f t) (h.1, r.3) (fit_of f L t (pieces (problem f t)) 0 (length t) r.1) ∙ ap (λ (p : Problem). answer p) r.2
@@ -74,10 +73,10 @@ strict_loose t h =
     let p = problem strict t in
     let e = written loose loose_lawful p (h.1, r.3) (fit_of strict strict_lawful t (pieces p) 0 (length t) r.1) ∙ ap (λ (p : Problem). answer p) r.2 in
     let i : read_in loose t ≡ answer p = subst (λ (w : List ℕ). read_in loose w ≡ answer p) (strict_is t h) e in
-    i ∙ sym (going t h.0)
+    i ∙ sym (read_going t h.0)
   where
-    going : (t : List ℕ) → (read_in strict t).fate ≡ Going → read_in strict t ≡ answer (problem strict t)
-    going t e = ap (λ (x : Fate). put x (problem strict t)) e
+    read_going : (t : List ℕ) → (read_in strict t).fate ≡ going → read_in strict t ≡ answer (problem strict t)
+    read_going t e = ap (λ (x : Fate). put x (problem strict t)) e
 
 -- so that reading it and writing what was read gives it back, byte for byte
 pub given_back : (t : List ℕ) → Accepted strict t → canonical t ≡ t

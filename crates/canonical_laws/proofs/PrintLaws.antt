@@ -1,13 +1,9 @@
 -- The canonical text is short. Assumes nothing.
-use Rattle.std.specs.Prelude.{ℕ, zero, suc, ◌+◌, ◌*◌, ◌/◌, ◌%◌, ◌^◌, ◌≤◌, ◌≡◌, refl, Bool, true, false, cond, List, [], ◌∷◌, ◌++◌, map, eqb, length, Float}
+use Rattle.std.specs.Prelude.{ℕ, zero, suc, ◌+◌, ◌*◌, ◌/◌, ◌%◌, ◌^◌, ◌≤◌, ◌≡◌, refl, Bool, true, false, cond, List, [], ◌∷◌, ◌++◌, map, eqb, length, Float, Option, Some, None}
 use Rattle.std.proofs.Common.{arith, length-append}
 use Rattle.std.proofs.lemmas.List.{length-map}
 use Rattle.std.specs.Float.{nan, binary64}
 use Rattle.std.specs.Float.Ieee.{to_bits}
-use Rattle.common.specs.declared.Limit.{Limit}
-use Rattle.common.specs.declared.Limit.TheVariants.{Nothing, At}
-use Rattle.actuators.specs.declared.Cmgs.{Cmgs}
-use Rattle.actuators.specs.declared.Cmgs.TheVariants.{Without, With}
 use Rattle.actuators.specs.declared.Actuators.{Actuators}
 use Rattle.problem.specs.declared.Problem.{Problem}
 use Rattle.text.specs.Bytes.{bytes}
@@ -15,6 +11,7 @@ use Rattle.text.specs.Hex.{digit_byte, hex_text}
 use Rattle.canonical_laws.specs.Pieces.{Piece, lit, num, non, Entry, wheel, thruster, pyramid, text, flat, nums, limit, entries, gyros, listed, no_wheel, no_thruster, wheels_of, thrusters_of, momenta_of, actuators, pieces, print}
 use Rattle.canonical_laws.specs.Texts.{Writable}
 use Rattle.canonical_laws.specs.LineLaws.{firsts_length}
+use Rattle.actuators.specs.declared.CmgPyramid.{CmgPyramid}
 
 -- ---- its length
 
@@ -37,9 +34,9 @@ abbrev most : List Piece → ℕ
 most [] = 0
 most (p ∷ ps) = size p + most ps
 
-size_limit : (l : Limit) → size (limit l) ≡ 17
-size_limit Nothing = refl
-size_limit (At x) = refl
+size_limit : (l : Option Float) → size (limit l) ≡ 17
+size_limit None = refl
+size_limit (Some x) = refl
 
 text_size : (p : Piece) → length (text p) ≤ size p
 text_size (lit w) = omega arith
@@ -56,9 +53,9 @@ most_entries (wheel w ∷ es) rest = omega (arith, size_limit w.max_power_w, mos
 most_entries (thruster t ∷ es) rest = omega (arith, most_entries es rest)
 most_entries (pyramid p ∷ es) rest = omega (arith, most_entries es rest)
 
-gyros_few : (c : Cmgs) → length (gyros c) ≤ 1
-gyros_few Without = omega arith
-gyros_few (With p) = omega arith
+gyros_few : (c : Option CmgPyramid) → length (gyros c) ≤ 1
+gyros_few None = omega arith
+gyros_few (Some p) = omega arith
 
 actuators_most : (a : Actuators) → a.wheel_count ≤ 8 → a.thruster_count ≤ 12 → most (actuators a) ≤ 2400
 unfolding actuators

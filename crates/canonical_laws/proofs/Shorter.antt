@@ -1,5 +1,5 @@
 -- Two floats are the same exactly when their canonical digits are, and a canonical text is never longer than a text of its problem. Assumes nothing.
-use Rattle.std.specs.Prelude.{ℕ, zero, suc, ◌+◌, ◌/◌, ◌%◌, ◌^◌, ◌≤◌, ◌<◌, ◌≡◌, refl, ◌↔◌, Bool, true, false, cond, ◌&&◌, List, [], ◌∷◌, ◌++◌, length, get_or}
+use Rattle.std.specs.Prelude.{ℕ, zero, suc, ◌+◌, ◌/◌, ◌%◌, ◌^◌, ◌≤◌, ◌<◌, ◌≡◌, refl, ◌↔◌, Bool, true, false, cond, ◌&&◌, List, [], ◌∷◌, ◌++◌, length, get_or, Option, Some}
 use Rattle.std.proofs.Common.{arith, sym, ◌∙◌, ap, length-append, eq-eqb, leb-true, leb-false}
 use Rattle.std.proofs.Math.Nat.{pow-succ'}
 use lib.Dec.{T, eqb}
@@ -10,7 +10,6 @@ use Rattle.std.specs.Float.Ieee as Ieee
 use Rattle.std.specs.Float.{binary64}
 use Rattle.std.specs.Float.Ieee.{fits, to_bits, nan_bits, is_nan}
 use Rattle.std.specs.Float.Ieee.Bits.{to_bits-of_bits, nan_bits_is}
-use Rattle.text.specs.declared.hex.Real.TheVariants.{Is}
 use Rattle.text.specs.Bytes.{bytes}
 use Rattle.text.specs.Hex.{hex_text, real_text, float}
 use Rattle.text.specs.Hex.{digit, real_at}
@@ -18,6 +17,7 @@ use Rattle.text.specs.Forms.{loose}
 use Rattle.canonical_laws.specs.Pieces.{Piece, lit, num, non, text, flat, pieces, print}
 use Rattle.canonical_laws.specs.Positions.{here}
 use Rattle.canonical_laws.specs.FormLaws.{loose_lawful}
+use Rattle.canonical_laws.specs.Positions.{some_pair}
 use Rattle.canonical_laws.specs.Texts.{Accepted, canonical, problem}
 use Rattle.canonical_laws.specs.TextLaws.{stands}
 use Rattle.canonical_laws.specs.Looks.{Digits, value, blanks, Look, Looks}
@@ -29,7 +29,7 @@ end_digit : digit 0 ≡ 16
 unfolding digit
 end_digit = refl
 
-reads_alone : (x : Ieee.Float) → T (fits binary64 x) → real_at (real_text x) 0 ≡ Is x (0 + length (real_text x))
+reads_alone : (x : Ieee.Float) → T (fits binary64 x) → real_at (real_text x) 0 ≡ Some (x, 0 + length (real_text x))
 reads_alone x f =
     let s = real_text x in
     let e : get_or s (0 + length s) 0 ≡ 0 = get_or-eq_default s 0 (omega arith) in
@@ -42,8 +42,8 @@ same_float x y f g = (
       let a = reads_alone x f in
       let b = reads_alone y g in
       let c : real_at (real_text x) 0 ≡ real_at (real_text y) 0 = ap (λ (s : List ℕ). real_at s 0) e in
-      let d : Is x (0 + length (real_text x)) ≡ Is y (0 + length (real_text y)) = sym a ∙ c ∙ b in
-      cc,
+      let d : ◌≡◌ {A = Option (Ieee.Float × ℕ)} (Some (x, 0 + length (real_text x))) (Some (y, 0 + length (real_text y))) = sym a ∙ c ∙ b in
+      (some_pair d).0,
 )
 
 -- ---- lengths

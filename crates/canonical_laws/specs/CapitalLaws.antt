@@ -1,10 +1,9 @@
 -- Laws of the digits of specs/Strict.antt, one step of the definition at a time. Assumes nothing.
 use Prim.Native.Nat.{ℕ, zero, suc, ◌+◌, ◌-◌, ◌*◌, ◌^◌, ◌≤◌, ◌<◌}
 use Rattle.std.proofs.Common.{arith, lt_of_not-le}
-use Rattle.std.specs.Prelude.{◌≡◌, refl, List, length, get_or}
+use Rattle.std.specs.Prelude.{◌≡◌, refl, List, length, get_or, None}
 use Rattle.std.proofs.Math.ListN.{get_or-eq_default}
 use borrow.Author.Tests.{lt-ltb, le-ltb, le-leb, lt-leb}
-use Rattle.text.specs.declared.hex.Hex.TheVariants.{Wrong}
 use Rattle.canonical_laws.specs.Strict.{capital, stop, strict_more, strict_hex_at}
 
 suc_sub_one : (k : ℕ) → suc k - 1 ≡ k
@@ -68,6 +67,6 @@ pub strict_step : (s : List ℕ) (at v : ℕ) → v ≡ capital (get_or s at 0) 
 unfolding strict_hex_at
 strict_step s at v e h = simp (← e, lt-ltb _ _ h)
 
-pub strict_none : (s : List ℕ) (at v : ℕ) → v ≡ capital (get_or s at 0) → 16 ≤ v → strict_hex_at s at ≡ Wrong
+pub strict_none : (s : List ℕ) (at v : ℕ) → v ≡ capital (get_or s at 0) → 16 ≤ v → strict_hex_at s at ≡ None
 unfolding strict_hex_at
 strict_none s at v e h = simp (← e, le-ltb _ _ h)

@@ -1,11 +1,9 @@
 -- The specification's example and texts near it: what becomes of them, and what the strict form refuses. Assumes nothing.
 use Prim.Native.String.{String, ◌++◌}
-use Rattle.std.specs.Prelude.{◌≡◌, refl}
+use Rattle.std.specs.Prelude.{◌≡◌, refl, Err}
 use Rattle.std.specs.Float.{nan, binary64}
 use Rattle.std.specs.Float.Ieee.{of_bits, of_fields, to_bits, nan_bits}
 use Rattle.common.specs.Iter.{iter}
-use Rattle.common.specs.declared.Fate.{Fate}
-use Rattle.common.specs.declared.Fate.TheVariants.{Going, Refused}
 use Rattle.actuators.specs.Maps.{no_actuators}
 use Rattle.text.specs.Bytes.{bytes}
 use Rattle.text.specs.Hex.{digit, more, hex_at, real_at, digit_byte, hex_text, real_text}
@@ -16,6 +14,7 @@ use Rattle.problem_text.specs.Reader.{with_row, next_line as lineNext, lines_fro
 use Rattle.canonical_laws.specs.Strict.{capital, strict_more, strict_hex_at, other_nan, strict_real_at, strict}
 use Rattle.canonical_laws.specs.Pieces.{actuators, pieces, print}
 use Rattle.canonical_laws.specs.Texts.{canonical}
+use Rattle.common.specs.Refusals.{Fate, refusal, going}
 
 -- the example, with what stands for qf, for the momenta and from line 10 on
 abbrev text : String → String → String → String
@@ -37,11 +36,11 @@ becomes = (refl, refl)
 
 -- the strict form takes none of what the reader takes besides, and no NaN but 7FF8
 strictly :
-    Strictly (text "3FF 8 7FF8 0" "" " (actuators))\n") Going
-    × Strictly (text "3FF  0 0 0" "" " (actuators))\n") (Refused 21 3)
-    × Strictly (text "3ff 0 0 0" "" " (actuators))\n") (Refused 21 3)
-    × Strictly (text "3FF0 0 0 0" "" " (actuators))\n") (Refused 21 3)
-    × Strictly (text "3FF 7FF1 0 0" "" " (actuators))\n") (Refused 21 3)
+    Strictly (text "3FF 8 7FF8 0" "" " (actuators))\n") going
+    × Strictly (text "3FF  0 0 0" "" " (actuators))\n") (Err (refusal 21 3))
+    × Strictly (text "3ff 0 0 0" "" " (actuators))\n") (Err (refusal 21 3))
+    × Strictly (text "3FF0 0 0 0" "" " (actuators))\n") (Err (refusal 21 3))
+    × Strictly (text "3FF 7FF1 0 0" "" " (actuators))\n") (Err (refusal 21 3))
 unfolding digit more hex_at real_at is_at past past_blanks word_at none_at row_from row_at floats without_limit limited words_at with_tail line_at item_at with_wheel with_thruster with_pyramid with_item end_at close_at next_line first_line list_at_value with_row lineNext lines_from head_at_value with_list next_list judge_count problem_of read_of read_in iter no_actuators capital strict_more strict_hex_at other_nan strict_real_at nan_bits
 strictly = (refl, refl, refl, refl, refl)
 

@@ -1,21 +1,16 @@
 -- What the loose and the strict form have in common: a float's canonical text is read as that float, and what is read fits. Assumes nothing.
-use Rattle.std.specs.Prelude.{ℕ, zero, suc, ◌+◌, ◌-◌, ◌*◌, ◌/◌, ◌^◌, ◌≤◌, ◌<◌, ◌≡◌, refl, Bool, true, false, cond, not, ◌&&◌, List, T, ltb, leb, eqb, length, get_or}
+use Rattle.std.specs.Prelude.{ℕ, zero, suc, ◌+◌, ◌-◌, ◌*◌, ◌/◌, ◌^◌, ◌≤◌, ◌<◌, ◌≡◌, refl, Bool, true, false, cond, not, ◌&&◌, List, T, ltb, leb, eqb, length, get_or, Option, Some, None}
 use Rattle.std.proofs.Common.{arith, sym, ◌∙◌, ap, eqb-true, ne_eqb, lt-ltb, le-ltb, ltb-true, ltb-false}
 use Rattle.std.specs.Float.Ieee as Ieee
 use Rattle.std.specs.Float.{binary64}
 use Rattle.std.specs.Float.Ieee.{fits, to_bits, of_bits, of_fields, nan_bits, is_nan}
 use Rattle.std.specs.Float.Ieee.Bits.{of_bits-to_bits, of_bits-fits, to_bits-lt, to_bits-of_bits, nan_bits_is}
 use borrow.Author.Tests as Tests
-use Rattle.text.specs.declared.hex.Hex.{Hex}
-use Rattle.text.specs.declared.hex.Hex.TheVariants.{Bits, Wrong}
-use Rattle.text.specs.declared.hex.Real.{Real}
-use Rattle.text.specs.declared.hex.Real.TheVariants as Real
-use Rattle.text.specs.declared.hex.Real.TheVariants.{Is}
 use Rattle.text.specs.Hex.{digit_byte, hex_text, real_text, real_by, float}
 use Rattle.canonical_laws.specs.Strict.{capital, strict_more, stop, strict_hex_at}
 use Rattle.text.specs.Lines.{is_at}
 use Rattle.canonical_laws.specs.CapitalLaws.{more_end, more_stop, more_step, strict_step, strict_none}
-use Rattle.canonical_laws.specs.Positions.{is_at_cons}
+use Rattle.canonical_laws.specs.Positions.{is_at_cons, none_some, some_pair}
 use Rattle.canonical_laws.specs.StrictLaws.{val_char, hex_back, hex_forth}
 use Rattle.text.specs.Hex.{digit, more, hex_at, real_at}
 use Rattle.text.specs.Forms.{Form, past, past_blanks, loose}
@@ -26,13 +21,13 @@ pub record Lawful (f : Form) : Type 0 where
   pub stays : (s : List ℕ) (at : ℕ) → (get_or s at 0 ≡ 32 → ⊥) → f.skip s at ≡ at
   -- no position is left behind
   pub skips : (s : List ℕ) (at : ℕ) → at ≤ f.skip s at
-  pub goes : (s : List ℕ) (at j : ℕ) (x : Ieee.Float) → f.real s at ≡ Is x j → at ≤ j
+  pub goes : (s : List ℕ) (at j : ℕ) (x : Ieee.Float) → f.real s at ≡ Some (x, j) → at ≤ j
   -- a float begins with a digit
-  pub begins : (s : List ℕ) (at j : ℕ) (x : Ieee.Float) → f.real s at ≡ Is x j → digit (get_or s at 0) < 16
+  pub begins : (s : List ℕ) (at j : ℕ) (x : Ieee.Float) → f.real s at ≡ Some (x, j) → digit (get_or s at 0) < 16
   -- what is read fits
-  pub fit : (s : List ℕ) (at j : ℕ) (x : Ieee.Float) → f.real s at ≡ Is x j → T (fits binary64 x)
+  pub fit : (s : List ℕ) (at j : ℕ) (x : Ieee.Float) → f.real s at ≡ Some (x, j) → T (fits binary64 x)
   -- a canonical text, followed by no digit, is read as its float
-  pub back : (s : List ℕ) (at : ℕ) (x : Ieee.Float) → T (fits binary64 x) → is_at s at (real_text x) ≡ true → 16 ≤ digit (get_or s (at + length (real_text x)) 0) → f.real s at ≡ Is x (at + length (real_text x))
+  pub back : (s : List ℕ) (at : ℕ) (x : Ieee.Float) → T (fits binary64 x) → is_at s at (real_text x) ≡ true → 16 ≤ digit (get_or s (at + length (real_text x)) 0) → f.real s at ≡ Some (x, at + length (real_text x))
 
 -- ---- digits
 
@@ -65,25 +60,25 @@ any_step : (s : List ℕ) (k at m : ℕ) → capital (get_or s at 0) < 16 → mo
 unfolding more
 any_step s k at m h = rw (any_is _ h, lt-ltb _ _ h)
 
-any_stop : (s : List ℕ) (k at m : ℕ) → 16 ≤ digit (get_or s at 0) → more s k at m ≡ Bits m at
+any_stop : (s : List ℕ) (k at m : ℕ) → 16 ≤ digit (get_or s at 0) → more s k at m ≡ Some (m, at)
 unfolding more
 any_stop s zero at m h = refl
 any_stop s (suc k) at m h = rw (le-ltb _ _ h)
 
-stop_is : (m last at y j : ℕ) → stop m last at ≡ Bits y j → (m ≡ y) × (at ≡ j)
+stop_is : (m last at y j : ℕ) → stop m last at ≡ Some (y, j) → (m ≡ y) × (at ≡ j)
 stop_is m last at y j e = go (eqb last 0) refl
   where
     go : (b : Bool) → eqb last 0 ≡ b → (m ≡ y) × (at ≡ j)
-    go true q = let w : Wrong ≡ Bits y j = rw q at e in let z : ◌≡◌ {A = ℕ} 0 1 = cc in absurd (omega arith)
-    go false q = let w : Bits m at ≡ Bits y j = rw q at e in (cc, cc)
+    go true q = none_some (rw q at e)
+    go false q = some_pair (rw q at e)
 
 -- what the capital digits give, digits in either case give, where none follows
-any_more : (s : List ℕ) (k at m last y j : ℕ) → strict_more s k at m last ≡ Bits y j → 16 ≤ digit (get_or s j 0) → more s k at m ≡ Bits y j
+any_more : (s : List ℕ) (k at m last y j : ℕ) → strict_more s k at m last ≡ Some (y, j) → 16 ≤ digit (get_or s j 0) → more s k at m ≡ Some (y, j)
 unfolding more
-any_more s zero at m last y j e h = let r = stop_is m last at y j (sym (more_end s at m last 0 refl) ∙ e) in cc
+any_more s zero at m last y j e h = let r = stop_is m last at y j (sym (more_end s at m last 0 refl) ∙ e) in (λ i. Some (r.0 i, r.1 i))
 any_more s (suc k) at m last y j e h = go (λ at m last e. any_more s k at m last y j e h) (ltb (capital (get_or s at 0)) 16) refl
   where
-    go : ((at m last : ℕ) → strict_more s k at m last ≡ Bits y j → more s k at m ≡ Bits y j) → (b : Bool) → ltb (capital (get_or s at 0)) 16 ≡ b → more s (suc k) at m ≡ Bits y j
+    go : ((at m last : ℕ) → strict_more s k at m last ≡ Some (y, j) → more s k at m ≡ Some (y, j)) → (b : Bool) → ltb (capital (get_or s at 0)) 16 ≡ b → more s (suc k) at m ≡ Some (y, j)
     go ih true q =
         let v = capital (get_or s at 0) in
         let l : v < 16 = ltb-true v 16 q in
@@ -94,16 +89,16 @@ any_more s (suc k) at m last y j e h = go (λ at m last e. any_more s k at m las
         let r = stop_is m last at y j (sym (more_stop s at m last _ refl (suc k) (omega arith) (ltb-false _ _ q)) ∙ e) in
         any_stop s (suc k) at m (rw (← r.1) at h) ∙ cc
 
-any_hex : (s : List ℕ) (at y j : ℕ) → strict_hex_at s at ≡ Bits y j → 16 ≤ digit (get_or s j 0) → hex_at s at ≡ Bits y j
+any_hex : (s : List ℕ) (at y j : ℕ) → strict_hex_at s at ≡ Some (y, j) → 16 ≤ digit (get_or s j 0) → hex_at s at ≡ Some (y, j)
 unfolding hex_at
 any_hex s at y j e h = go (ltb (capital (get_or s at 0)) 16) refl
   where
-    go : (b : Bool) → ltb (capital (get_or s at 0)) 16 ≡ b → hex_at s at ≡ Bits y j
+    go : (b : Bool) → ltb (capital (get_or s at 0)) 16 ≡ b → hex_at s at ≡ Some (y, j)
     go true q =
         let v = capital (get_or s at 0) in
         let l : v < 16 = ltb-true v 16 q in
         rw (any_is _ l, lt-ltb _ _ l) (any_more s 15 (at + 1) _ 1 y j (sym (strict_step s at v refl l) ∙ e) h)
-    go false q = let w : Wrong ≡ Bits y j = sym (strict_none s at _ refl (ltb-false _ _ q)) ∙ e in let z : ◌≡◌ {A = ℕ} 0 1 = cc in absurd (omega arith)
+    go false q = none_some (sym (strict_none s at _ refl (ltb-false _ _ q)) ∙ e)
 
 -- ---- the loose form
 
@@ -121,34 +116,34 @@ past_goes s (suc n) at = go (past_goes s n (at + 1)) (eqb (get_or s at 0) 32)
     go l true = omega arith
     go l false = omega arith
 
-more_goes : (s : List ℕ) (k at m y j : ℕ) → more s k at m ≡ Bits y j → at ≤ j
+more_goes : (s : List ℕ) (k at m y j : ℕ) → more s k at m ≡ Some (y, j) → at ≤ j
 unfolding more
-more_goes s zero at m y j e = let z : at ≡ j = cc in omega arith
+more_goes s zero at m y j e = let w = some_pair e in omega arith
 more_goes s (suc k) at m y j e = go (λ m e. more_goes s k (at + 1) m y j e) (ltb (digit (get_or s at 0)) 16) refl
   where
-    go : ((m : ℕ) → more s k (at + 1) m ≡ Bits y j → at + 1 ≤ j) → (b : Bool) → ltb (digit (get_or s at 0)) 16 ≡ b → at ≤ j
+    go : ((m : ℕ) → more s k (at + 1) m ≡ Some (y, j) → at + 1 ≤ j) → (b : Bool) → ltb (digit (get_or s at 0)) 16 ≡ b → at ≤ j
     go ih true q = let z = ih _ (rw q at e) in omega arith
-    go ih false q = let w : Bits m at ≡ Bits y j = rw q at e in let z : at ≡ j = cc in omega arith
+    go ih false q = let w = some_pair (rw q at e) in omega arith
 
-any_goes : (s : List ℕ) (at y j : ℕ) → hex_at s at ≡ Bits y j → at ≤ j
+any_goes : (s : List ℕ) (at y j : ℕ) → hex_at s at ≡ Some (y, j) → at ≤ j
 unfolding hex_at
 any_goes s at y j e = go (ltb (digit (get_or s at 0)) 16) refl
   where
     go : (b : Bool) → ltb (digit (get_or s at 0)) 16 ≡ b → at ≤ j
     go true q = let z = more_goes s 15 (at + 1) _ y j (rw q at e) in omega arith
-    go false q = let w : Wrong ≡ Bits y j = rw q at e in let z : ◌≡◌ {A = ℕ} 0 1 = cc in absurd (omega arith)
+    go false q = none_some (rw q at e)
 
-real_is : (h : Hex) (x : Ieee.Float) (j : ℕ) → real_by h ≡ Is x j → (y : ℕ) × (h ≡ Bits y j) × (x ≡ float y)
-real_is (Bits y i) x j e = (y, cc, cc)
-real_is Wrong x j e = let z : ◌≡◌ {A = ℕ} 0 1 = cc in absurd (omega arith)
+real_is : (h : Option (ℕ × ℕ)) (x : Ieee.Float) (j : ℕ) → real_by h ≡ Some (x, j) → (y : ℕ) × (h ≡ Some (y, j)) × (x ≡ float y)
+real_is (Some (y, i)) x j e = let w = some_pair e in (y, ap (λ (k : ℕ). Some (y, k)) w.1, sym w.0)
+real_is None x j e = none_some e
 
-any_begins : (s : List ℕ) (at y j : ℕ) → hex_at s at ≡ Bits y j → digit (get_or s at 0) < 16
+any_begins : (s : List ℕ) (at y j : ℕ) → hex_at s at ≡ Some (y, j) → digit (get_or s at 0) < 16
 unfolding hex_at
 any_begins s at y j e = go (ltb (digit (get_or s at 0)) 16) refl
   where
     go : (b : Bool) → ltb (digit (get_or s at 0)) 16 ≡ b → digit (get_or s at 0) < 16
     go true q = ltb-true _ _ q
-    go false q = let w : Wrong ≡ Bits y j = rw q at e in let z : ◌≡◌ {A = ℕ} 0 1 = cc in absurd (omega arith)
+    go false q = none_some (rw q at e)
 
 pub loose_lawful : Lawful loose
 unfolding real_at past_blanks
@@ -161,7 +156,7 @@ loose_lawful = record {
   back = λ s at x f i e. rw (any_hex s at _ _ (hex_back s (to_bits binary64 x) at (to_bits-lt binary64 x f) i (none_is _ e)) e) (back_is x _ f);
 }
   where
-    back_is : (x : Ieee.Float) (j : ℕ) → T (fits binary64 x) → Is (float (to_bits binary64 x)) j ≡ Is x j
+    back_is : (x : Ieee.Float) (j : ℕ) → T (fits binary64 x) → ◌≡◌ {A = Option (Ieee.Float × ℕ)} (Some (float (to_bits binary64 x), j)) (Some (x, j))
     back_is x j f = rw (of_bits-to_bits binary64 x f)
 
 -- ---- the strict form
@@ -179,16 +174,16 @@ kept y l h = go (nan_bits binary64 y) refl
     go true q = let e : not (eqb y 0x7ff8_0000_0000_0000) ≡ false = rw q at h in let i : y ≡ 0x7ff8_0000_0000_0000 = eqb-true _ _ (Tests.not-false _ e) in rw i one_nan
     go false q = to_bits-of_bits binary64 y l (rw (← nan_bits_is binary64 y, q) tt)
 
-strict_is : (h : Hex) (x : Ieee.Float) (j : ℕ) → strict_by h ≡ Is x j → (y : ℕ) × (h ≡ Bits y j) × (x ≡ float y) × (other_nan y ≡ false)
-strict_is (Bits y i) x j e = go (other_nan y) refl
+strict_is : (h : Option (ℕ × ℕ)) (x : Ieee.Float) (j : ℕ) → strict_by h ≡ Some (x, j) → (y : ℕ) × (h ≡ Some (y, j)) × (x ≡ float y) × (other_nan y ≡ false)
+strict_is (Some (y, i)) x j e = go (other_nan y) refl
   where
-    go : (b : Bool) → other_nan y ≡ b → (z : ℕ) × (Bits y i ≡ Bits z j) × (x ≡ float z) × (other_nan z ≡ false)
-    go true q = let w : Real.Wrong ≡ Is x j = rw q at e in let z : ◌≡◌ {A = ℕ} 0 1 = cc in absurd (omega arith)
-    go false q = let w : Is (float y) i ≡ Is x j = rw q at e in (y, cc, cc, q)
-strict_is Wrong x j e = let z : ◌≡◌ {A = ℕ} 0 1 = cc in absurd (omega arith)
+    go : (b : Bool) → other_nan y ≡ b → (z : ℕ) × (◌≡◌ {A = Option (ℕ × ℕ)} (Some (y, i)) (Some (z, j))) × (x ≡ float z) × (other_nan z ≡ false)
+    go true q = none_some (rw q at e)
+    go false q = let w = some_pair (rw q at e) in (y, ap (λ (k : ℕ). Some (y, k)) w.1, sym w.0, q)
+strict_is None x j e = none_some e
 
 -- what the strict form reads is the canonical text
-pub strict_forth : (s : List ℕ) (at j : ℕ) (x : Ieee.Float) → strict_real_at s at ≡ Is x j → (is_at s at (real_text x) ≡ true) × (j ≡ at + length (real_text x))
+pub strict_forth : (s : List ℕ) (at j : ℕ) (x : Ieee.Float) → strict_real_at s at ≡ Some (x, j) → (is_at s at (real_text x) ≡ true) × (j ≡ at + length (real_text x))
 unfolding strict_real_at
 strict_forth s at j x e =
     let r = strict_is (strict_hex_at s at) x j e in
@@ -223,5 +218,5 @@ strict_lawful = record {
   back = λ s at x f i e. rw (hex_back s (to_bits binary64 x) at (to_bits-lt binary64 x f) i (none_is _ e), no_other x f) (back_is x _ f);
 }
   where
-    back_is : (x : Ieee.Float) (j : ℕ) → T (fits binary64 x) → Is (float (to_bits binary64 x)) j ≡ Is x j
+    back_is : (x : Ieee.Float) (j : ℕ) → T (fits binary64 x) → ◌≡◌ {A = Option (Ieee.Float × ℕ)} (Some (float (to_bits binary64 x), j)) (Some (x, j))
     back_is x j f = rw (of_bits-to_bits binary64 x f)

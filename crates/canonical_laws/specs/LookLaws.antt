@@ -4,18 +4,14 @@ use native.Mathlib.Omega.{arith}
 use Rattle.std.proofs.Math.Nat.{add-zero, add_assoc}
 use Rattle.std.proofs.Common.{zero-add, ◌∙◌, subst}
 use Rattle.std.proofs.Math.Path.{◌≡◌, refl, sym, ap}
-use Rattle.std.specs.Prelude.{◌↔◌, Bool}
+use Rattle.std.specs.Prelude.{◌↔◌, Bool, Option, Some, None}
 use Rattle.std.proofs.Math.Bool.{true, false}
 use mathlib.Core.List.{List, [], ◌∷◌, ◌++◌}
 use Rattle.std.proofs.Math.Dec.{ltb, eqb}
 use Rattle.std.proofs.Math.ListN.{length, get_or, replicate, length-append, length-replicate}
 use Rattle.std.specs.Float.Ieee as Ieee
 use borrow.Author.Tests.{eqb-true, eq-eqb, ltb-true, lt-ltb, le-ltb, leb-true}
-use Rattle.common.specs.declared.Fate.TheVariants.{Going}
 use Rattle.problem.specs.declared.Problem.{Problem}
-use Rattle.text.specs.declared.hex.Hex.{Hex}
-use Rattle.text.specs.declared.hex.Hex.TheVariants.{Bits, Wrong}
-use Rattle.text.specs.declared.hex.Real.TheVariants.{Is}
 use Rattle.problem_text.specs.declared.Read.{Read}
 use Rattle.text.specs.Bytes.{bytes}
 use Rattle.text.specs.Hex.{float, real_by}
@@ -25,7 +21,7 @@ use Rattle.text.specs.Hex.{digit, more, hex_at, real_at}
 use Rattle.text.specs.Forms.{past, past_blanks, loose}
 use Rattle.text.specs.Lines.{word_at, none_at, none_end}
 use Rattle.canonical_laws.specs.Pieces.{Piece, lit, num, non, pieces, no_wheel, no_thruster, tidied}
-use Rattle.canonical_laws.specs.Positions.{is_at_cons, blank_within, within, start, nothing, split, join, both, whole, here}
+use Rattle.canonical_laws.specs.Positions.{is_at_cons, blank_within, within, start, nothing, split, join, both, whole, here, none_some, some_pair}
 use Rattle.canonical_laws.specs.FormLaws.{loose_lawful, past_none}
 use Rattle.canonical_laws.specs.Spans.{Spans, first, apart, word_forth, none_forth}
 use Rattle.canonical_laws.specs.LineLaws.{firsts_length}
@@ -33,6 +29,7 @@ use Rattle.canonical_laws.specs.TextLaws.{reads, stands}
 use Rattle.canonical_laws.specs.PrintLaws.{print_apart}
 use Rattle.canonical_laws.specs.Texts.{Few, Writable, Accepted, problem}
 use Rattle.canonical_laws.specs.Looks.{Digits, value, blanks, Look, Looks}
+use Rattle.common.specs.Refusals.{going}
 
 -- ---- what is read looks so
 
@@ -54,17 +51,17 @@ module _ (s : List ℕ) where
   abbrev More : ℕ → ℕ → ℕ → ℕ → ℕ → Type 0
   More k at m y j = (ds : List ℕ) × (length ds ≤ k) × (Digits ds) × (is_at s at ds ≡ true) × (j ≡ at + length ds) × (y ≡ m + value k ds)
 
-  none_more : (k at m y j : ℕ) → at ≤ length s → Bits m at ≡ Bits y j → More k at m y j
+  none_more : (k at m y j : ℕ) → at ≤ length s → ◌≡◌ {A = Option (ℕ × ℕ)} (Some (m, at)) (Some (y, j)) → More k at m y j
   unfolding value
-  none_more zero at m y j l e = let a : m ≡ y = cc in let b : at ≡ j = cc in ([], omega arith, tt, nothing s at l, omega arith, omega arith)
-  none_more (suc k) at m y j l e = let a : m ≡ y = cc in let b : at ≡ j = cc in ([], omega arith, tt, nothing s at l, omega arith, omega arith)
+  none_more zero at m y j l e = let w = some_pair e in ([], omega arith, tt, nothing s at l, omega arith, omega arith)
+  none_more (suc k) at m y j l e = let w = some_pair e in ([], omega arith, tt, nothing s at l, omega arith, omega arith)
 
-  more_forth : (k at m y j : ℕ) → at ≤ length s → more s k at m ≡ Bits y j → More k at m y j
+  more_forth : (k at m y j : ℕ) → at ≤ length s → more s k at m ≡ Some (y, j) → More k at m y j
   unfolding more value
   more_forth zero at m y j l e = none_more 0 at m y j l e
   more_forth (suc k) at m y j l e = go (λ at m l e. more_forth k at m y j l e) (ltb (digit (get_or s at 0)) 16) refl
     where
-      go : ((at m : ℕ) → at ≤ length s → more s k at m ≡ Bits y j → More k at m y j) → (b : Bool) → ltb (digit (get_or s at 0)) 16 ≡ b → More (suc k) at m y j
+      go : ((at m : ℕ) → at ≤ length s → more s k at m ≡ Some (y, j) → More k at m y j) → (b : Bool) → ltb (digit (get_or s at 0)) 16 ≡ b → More (suc k) at m y j
       go ih true q =
           let c = get_or s at 0 in
           let h : digit c < 16 = ltb-true _ _ q in
@@ -74,7 +71,7 @@ module _ (s : List ℕ) where
           (c ∷ r.0, omega (arith, r.1), (h, r.2), start s at c r.0 w refl r.3, omega (arith, r.4), r.5 ∙ z)
       go ih false q = none_more (suc k) at m y j l (rw q at e)
 
-  hex_forth : (at y j : ℕ) → hex_at s at ≡ Bits y j → (ds : List ℕ) × (Digits ds) × (0 < length ds) × (length ds ≤ 16) × (is_at s at ds ≡ true) × (j ≡ at + length ds) × (y ≡ value 16 ds)
+  hex_forth : (at y j : ℕ) → hex_at s at ≡ Some (y, j) → (ds : List ℕ) × (Digits ds) × (0 < length ds) × (length ds ≤ 16) × (is_at s at ds ≡ true) × (j ≡ at + length ds) × (y ≡ value 16 ds)
   unfolding hex_at value
   hex_forth at y j e = go (ltb (digit (get_or s at 0)) 16) refl
     where
@@ -85,11 +82,11 @@ module _ (s : List ℕ) where
           let w = digit_within s at h in
           let r = more_forth 15 (at + 1) (digit c * 16 ^ 15) y j (omega arith) (rw q at e) in
           (c ∷ r.0, (h, r.2), omega arith, omega (arith, r.1), start s at c r.0 w refl r.3, omega (arith, r.4), r.5)
-      go false q = let w : Wrong ≡ Bits y j = rw q at e in let z : ◌≡◌ {A = ℕ} 0 1 = cc in absurd (omega arith)
+      go false q = none_some (rw q at e)
 
-  real_is : (h : Hex) (x : Ieee.Float) (j : ℕ) → real_by h ≡ Is x j → (y : ℕ) × (h ≡ Bits y j) × (x ≡ float y)
-  real_is (Bits y i) x j e = (y, cc, cc)
-  real_is Wrong x j e = let z : ◌≡◌ {A = ℕ} 0 1 = cc in absurd (omega arith)
+  real_is : (h : Option (ℕ × ℕ)) (x : Ieee.Float) (j : ℕ) → real_by h ≡ Some (x, j) → (y : ℕ) × (h ≡ Some (y, j)) × (x ≡ float y)
+  real_is (Some (y, i)) x j e = let w = some_pair e in (y, ap (λ (k : ℕ). Some (y, k)) w.1, sym w.0)
+  real_is None x j e = none_some e
 
   -- after a blank, the others and a word
   gap : (at n i : ℕ) (w : List ℕ) → get_or s at 0 ≡ 32 → is_at s (at + 1) (replicate n 32) ≡ true → i ≡ at + 1 + n → is_at s i w ≡ true → is_at s at (blanks n ++ w) ≡ true
@@ -104,7 +101,7 @@ module _ (s : List ℕ) where
   abbrev Found : Piece → ℕ → ℕ → Type 0
   Found p at j = (u : List ℕ) × (Look p u) × (is_at s at u ≡ true) × (j ≡ at + length u)
 
-  num_forth : (at j : ℕ) (x : Ieee.Float) → word_at loose s at ≡ Is x j → Found (num x) at j
+  num_forth : (at j : ℕ) (x : Ieee.Float) → word_at loose s at ≡ Some (x, j) → Found (num x) at j
   unfolding real_at past_blanks
   num_forth at j x e =
       let w = word_forth loose s at j x e in
@@ -147,7 +144,7 @@ module _ (s : List ℕ) where
       let z : at + 1 + n ≡ at + suc n = omega arith in
       rw (eq-eqb _ _ c.0) (past_back n k (at + 1) c.1 (rw z b) (omega arith) ∙ z)
 
-  more_back : (ds : List ℕ) (k at m : ℕ) → Digits ds → length ds ≤ k → is_at s at ds ≡ true → 16 ≤ digit (get_or s (at + length ds) 0) → more s k at m ≡ Bits (m + value k ds) (at + length ds)
+  more_back : (ds : List ℕ) (k at m : ℕ) → Digits ds → length ds ≤ k → is_at s at ds ≡ true → 16 ≤ digit (get_or s (at + length ds) 0) → more s k at m ≡ Some (m + value k ds, at + length ds)
   unfolding more value
   more_back [] zero at m d l h e = rw (add-zero m, add-zero at)
   more_back [] (suc k) at m d l h e = let e' : 16 ≤ digit (get_or s at 0) = rw add-zero at e in rw (le-ltb _ _ e', add-zero m, add-zero at)
@@ -158,7 +155,7 @@ module _ (s : List ℕ) where
       let y : m + digit c * 16 ^ k + value k ds ≡ m + (digit c * 16 ^ k + value k ds) = add_assoc m (digit c * 16 ^ k) (value k ds) in
       rw (g.0, lt-ltb _ _ d.0) (more_back ds k (at + 1) (m + digit c * 16 ^ k) d.1 (omega arith) g.1 (rw z e) ∙ rw (z, y))
 
-  hex_back : (ds : List ℕ) (at : ℕ) → Digits ds → 0 < length ds → length ds ≤ 16 → is_at s at ds ≡ true → 16 ≤ digit (get_or s (at + length ds) 0) → hex_at s at ≡ Bits (value 16 ds) (at + length ds)
+  hex_back : (ds : List ℕ) (at : ℕ) → Digits ds → 0 < length ds → length ds ≤ 16 → is_at s at ds ≡ true → 16 ≤ digit (get_or s (at + length ds) 0) → hex_at s at ≡ Some (value 16 ds, at + length ds)
   unfolding hex_at value
   hex_back [] at d p l h e = absurd (omega arith)
   hex_back (c ∷ ds) at d p l h e =
@@ -191,7 +188,7 @@ module _ (s : List ℕ) where
   first_digit [] at d p h = absurd (omega arith)
   first_digit (c ∷ ds) at d p h = rw (is_at_cons s at c ds h).0 d.0
 
-  num_read : (at n : ℕ) (ds : List ℕ) → Digits ds → 0 < length ds → length ds ≤ 16 → is_at s at (blanks n ++ ds) ≡ true → 16 ≤ digit (get_or s (at + 1 + n + length ds) 0) → word_at loose s at ≡ Is (float (value 16 ds)) (at + 1 + n + length ds)
+  num_read : (at n : ℕ) (ds : List ℕ) → Digits ds → 0 < length ds → length ds ≤ 16 → is_at s at (blanks n ++ ds) ≡ true → 16 ≤ digit (get_or s (at + 1 + n + length ds) 0) → word_at loose s at ≡ Some (float (value 16 ds), at + 1 + n + length ds)
   unfolding word_at real_at
   num_read at n ds d p l h e =
       let i = word_at_law at n ds h in
@@ -240,7 +237,7 @@ module _ (s : List ℕ) where
       let k : is_at s j v ≡ true = rw y at h.1 in
       let c : get_or s j 0 ≡ first ps = after ps v j o l.4 k in
       let z : at + length w ≡ j + length v = omega (arith, ap length e, length-append u v) in
-      (j, num_read at n ds l.3.3 l.3.4 l.3.5 h.0 (rw c o) ∙ ap (λ (r : Ieee.Float). Is r j) (sym l.3.6), rw z (read ps v j b.1 l.4 k))
+      (j, num_read at n ds l.3.3 l.3.4 l.3.5 h.0 (rw c o) ∙ ap (λ (r : Ieee.Float). Some (r, j)) (sym l.3.6), rw z (read ps v j b.1 l.4 k))
   read (non ∷ ps) w at a l i =
       let v = l.1 in
       let n = l.3.0 in
@@ -276,4 +273,4 @@ accepted_exactly t = (to, from)
         let n = h.2 in
         let q = read t (pieces p) t 0 (print_apart p) h.3 (here t) in
         let e = reads loose loose_lawful t p h.0 (omega (arith, n.0.0, n.1)) n.1 (subst (λ (k : ℕ). Spans loose t 0 (pieces p) k) (zero-add (length t)) q) in
-        subst (λ (r : Read). (r.fate ≡ Going) × Few r.problem) (sym e) (refl, few_tidied p n)
+        subst (λ (r : Read). (r.fate ≡ going) × Few r.problem) (sym e) (refl, few_tidied p n)

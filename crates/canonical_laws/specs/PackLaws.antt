@@ -1,17 +1,16 @@
 -- A sorted list of actuators and the record that holds them: each is the other's. Assumes nothing.
-use Rattle.std.specs.Prelude.{ℕ, suc, ◌+◌, ◌≤◌, ◌≡◌, refl, List, [], ◌∷◌, ◌++◌, map, length, set, replicate}
+use Rattle.std.specs.Prelude.{ℕ, suc, ◌+◌, ◌≤◌, ◌≡◌, refl, List, [], ◌∷◌, ◌++◌, map, length, set, replicate, Option, Some, None}
 use Rattle.std.proofs.Common.{arith, add-one, add-zero, zero-add, ◌∙◌, ap}
 use Rattle.std.proofs.lemmas.List.{length-map}
 use Rattle.std.proofs.lemmas.List.Edits.{sets}
 use Rattle.actuators.specs.declared.Wheel.{Wheel}
 use Rattle.actuators.specs.declared.Thruster.{Thruster}
-use Rattle.actuators.specs.declared.Cmgs.{Cmgs}
-use Rattle.actuators.specs.declared.Cmgs.TheVariants.{Without, With}
 use Rattle.actuators.specs.declared.Actuators.{Actuators}
 use Rattle.actuators.specs.Maps.{no_actuators, blank_wheel, blank_thruster}
 use Rattle.canonical_laws.specs.Pieces.{Piece, Entry, wheel, thruster, pyramid, entry, entries, gyros, listed, no_wheel, no_thruster, wheels_of, thrusters_of, tidy_wheel, tidy_thruster, packed}
 use Rattle.canonical_laws.specs.LineLaws.{firsts_sets}
 use Rattle.canonical_laws.specs.ListLaws.{adds, Sorted}
+use Rattle.actuators.specs.declared.CmgPyramid.{CmgPyramid}
 
 -- ---- the record of a list
 
@@ -33,28 +32,28 @@ adds_thrusters (t ∷ ts) a v n es =
     adds_thrusters ts a (set v n (tidy_thruster t)) (n + 1) es
     ∙ let e : n + 1 + length ts ≡ n + suc (length ts) = omega arith in ap (λ (k : ℕ). adds (with_thrusters a (sets (set v n (tidy_thruster t)) k (map tidy_thruster ts)) (n + 1 + length ts)) es) (add-one n) ∙ ap (λ (k : ℕ). adds (with_thrusters a (sets v n (map tidy_thruster (t ∷ ts))) k) es) e
 
-adds_gyros : (ws : List Wheel) (ts : List Thruster) (c : Cmgs) → adds (packed ws ts Without) (gyros c) ≡ packed ws ts c
-adds_gyros ws ts Without = refl
-adds_gyros ws ts (With p) = refl
+adds_gyros : (ws : List Wheel) (ts : List Thruster) (c : Option CmgPyramid) → adds (packed ws ts None) (gyros c) ≡ packed ws ts c
+adds_gyros ws ts None = refl
+adds_gyros ws ts (Some p) = refl
 
-pub adds_listed : (ws : List Wheel) (ts : List Thruster) (c : Cmgs) → adds no_actuators (listed ws ts c) ≡ packed ws ts c
+pub adds_listed : (ws : List Wheel) (ts : List Thruster) (c : Option CmgPyramid) → adds no_actuators (listed ws ts c) ≡ packed ws ts c
 unfolding no_actuators
 adds_listed ws ts c =
     adds_wheels ws no_actuators (replicate 8 blank_wheel) 0 (map thruster ts ++ gyros c)
     ∙ rw (zero-add (length ws))
-    (adds_thrusters ts (packed ws [] Without) (replicate 12 blank_thruster) 0 (gyros c) ∙ rw (zero-add (length ts)) (adds_gyros ws ts c))
+    (adds_thrusters ts (packed ws [] None) (replicate 12 blank_thruster) 0 (gyros c) ∙ rw (zero-add (length ts)) (adds_gyros ws ts c))
 
 -- ---- sorted lists
 
-sorted_gyros : (c : Cmgs) (least : ℕ) → least ≤ 3 → Sorted least (gyros c)
-sorted_gyros Without least l = tt
-sorted_gyros (With p) least l = (l, tt)
+sorted_gyros : (c : Option CmgPyramid) (least : ℕ) → least ≤ 3 → Sorted least (gyros c)
+sorted_gyros None least l = tt
+sorted_gyros (Some p) least l = (l, tt)
 
-sorted_thrusters : (ts : List Thruster) (c : Cmgs) (least : ℕ) → least ≤ 2 → Sorted least (map thruster ts ++ gyros c)
+sorted_thrusters : (ts : List Thruster) (c : Option CmgPyramid) (least : ℕ) → least ≤ 2 → Sorted least (map thruster ts ++ gyros c)
 sorted_thrusters [] c least l = sorted_gyros c least (omega arith)
 sorted_thrusters (t ∷ ts) c least l = (l, sorted_thrusters ts c 2 (omega arith))
 
-pub sorted_listed : (ws : List Wheel) (ts : List Thruster) (c : Cmgs) → Sorted 1 (listed ws ts c)
+pub sorted_listed : (ws : List Wheel) (ts : List Thruster) (c : Option CmgPyramid) → Sorted 1 (listed ws ts c)
 sorted_listed [] ts c = sorted_thrusters ts c 1 (omega arith)
 sorted_listed (w ∷ ws) ts c = (omega arith, sorted_listed ws ts c)
 
@@ -64,23 +63,23 @@ after_pyramid (wheel w ∷ es) h = absurd (omega (arith, h.0))
 after_pyramid (thruster t ∷ es) h = absurd (omega (arith, h.0))
 after_pyramid (pyramid p ∷ es) h = absurd (omega (arith, h.0))
 
-after_thruster : (es : List Entry) (least : ℕ) → 2 ≤ least → Sorted least es → (ts : List Thruster) × (c : Cmgs) × (es ≡ map thruster ts ++ gyros c)
-after_thruster [] least l h = ([], Without, refl)
+after_thruster : (es : List Entry) (least : ℕ) → 2 ≤ least → Sorted least es → (ts : List Thruster) × (c : Option CmgPyramid) × (es ≡ map thruster ts ++ gyros c)
+after_thruster [] least l h = ([], None, refl)
 after_thruster (wheel w ∷ es) least l h = absurd (omega (arith, h.0))
 after_thruster (thruster t ∷ es) least l h =
     let r = after_thruster es 2 (omega arith) h.1 in
     (t ∷ r.0, r.1, ap (λ (x : List Entry). thruster t ∷ x) r.2)
-after_thruster (pyramid p ∷ es) least l h = ([], With p, ap (λ (x : List Entry). pyramid p ∷ x) (after_pyramid es h.1))
+after_thruster (pyramid p ∷ es) least l h = ([], Some p, ap (λ (x : List Entry). pyramid p ∷ x) (after_pyramid es h.1))
 
-pub unlisted : (es : List Entry) → Sorted 1 es → (ws : List Wheel) × (ts : List Thruster) × (c : Cmgs) × (es ≡ listed ws ts c)
-unlisted [] h = ([], [], Without, refl)
+pub unlisted : (es : List Entry) → Sorted 1 es → (ws : List Wheel) × (ts : List Thruster) × (c : Option CmgPyramid) × (es ≡ listed ws ts c)
+unlisted [] h = ([], [], None, refl)
 unlisted (wheel w ∷ es) h =
     let r = unlisted es h.1 in
     (w ∷ r.0, r.1, r.2, ap (λ (x : List Entry). wheel w ∷ x) r.3)
 unlisted (thruster t ∷ es) h =
     let r = after_thruster es 2 (omega arith) h.1 in
     ([], t ∷ r.0, r.1, ap (λ (x : List Entry). thruster t ∷ x) r.2)
-unlisted (pyramid p ∷ es) h = ([], [], With p, ap (λ (x : List Entry). pyramid p ∷ x) (after_pyramid es h.1))
+unlisted (pyramid p ∷ es) h = ([], [], Some p, ap (λ (x : List Entry). pyramid p ∷ x) (after_pyramid es h.1))
 
 -- ---- what counts of a packed record
 
@@ -88,7 +87,7 @@ map_twice : {A : Type 0} (g : A → A) → ((x : A) → g (g x) ≡ g x) → (xs
 map_twice g e [] = refl
 map_twice {A} g e (x ∷ xs) = rw (e x) (ap (λ (r : List A). g x ∷ r) (map_twice g e xs))
 
-module _ (ws : List Wheel) (ts : List Thruster) (c : Cmgs) (few : length ws ≤ 8) (less : length ts ≤ 12) where
+module _ (ws : List Wheel) (ts : List Thruster) (c : Option CmgPyramid) (few : length ws ≤ 8) (less : length ts ≤ 12) where
   wheels_are : wheels_of (packed ws ts c) ≡ map tidy_wheel ws
   wheels_are = firsts_sets no_wheel (map tidy_wheel ws) (replicate 8 blank_wheel) (length ws) (length-map ws tidy_wheel) few
 

@@ -1,16 +1,12 @@
 -- What a problem's text consists of, piece by piece, and the canonical text. Definitions only.
-use Rattle.std.specs.Prelude.{ℕ, zero, suc, ◌+◌, List, [], ◌∷◌, ◌++◌, map, length, get_or, replicate, Float}
+use Rattle.std.specs.Prelude.{ℕ, zero, suc, List, [], ◌∷◌, ◌++◌, map, length, get_or, replicate, Float, Option, Some, None}
 use Rattle.std.proofs.lemmas.List.Edits.{sets}
 use Rattle.std.specs.Float.{nan, binary64}
 use Rattle.std.specs.Float.Ieee.{of_bits}
-use Rattle.common.specs.declared.Limit.{Limit}
-use Rattle.common.specs.declared.Limit.TheVariants.{Nothing, At}
 use Rattle.geom.specs.declared.Quat.{Quat}
 use Rattle.actuators.specs.declared.Wheel.{Wheel}
 use Rattle.actuators.specs.declared.Thruster.{Thruster}
 use Rattle.actuators.specs.declared.CmgPyramid.{CmgPyramid}
-use Rattle.actuators.specs.declared.Cmgs.{Cmgs}
-use Rattle.actuators.specs.declared.Cmgs.TheVariants.{Without, With}
 use Rattle.actuators.specs.declared.Actuators.{Actuators}
 use Rattle.actuators.specs.Maps.{blank_wheel, blank_thruster}
 use Rattle.problem.specs.declared.Weights.{Weights}
@@ -50,9 +46,9 @@ abbrev pub nums : List Float → List Piece → List Piece
 nums [] rest = rest
 nums (x ∷ xs) rest = num x ∷ nums xs rest
 
-abbrev pub limit : Limit → Piece
-limit Nothing = non
-limit (At x) = num x
+abbrev pub limit : Option Float → Piece
+limit None = non
+limit (Some x) = num x
 
 abbrev pub line : List ℕ → List Float → List ℕ → List Piece
 line head xs tail = lit head ∷ nums xs (lit tail ∷ [])
@@ -79,13 +75,13 @@ abbrev pub entries : List Entry → List Piece → List Piece
 entries [] rest = rest
 entries (e ∷ es) rest = lit (bytes "\n") ∷ (entry e ++ entries es rest)
 
-abbrev pub gyros : Cmgs → List Entry
-gyros Without = []
-gyros (With p) = pyramid p ∷ []
+abbrev pub gyros : Option CmgPyramid → List Entry
+gyros None = []
+gyros (Some p) = pyramid p ∷ []
 
 -- what stands past the end of a list, which nothing depends on
 abbrev pub no_wheel : Wheel
-no_wheel = record { axis = []; max_torque_nm = nan; max_momentum_nms = nan; max_power_w = Nothing }
+no_wheel = record { axis = []; max_torque_nm = nan; max_momentum_nms = nan; max_power_w = None }
 
 abbrev pub no_thruster : Thruster
 no_thruster = record { torque_axis = []; max_torque_nm = nan }
@@ -101,7 +97,7 @@ thrusters_of a = firsts no_thruster 0 a.thruster_count a.thrusters
 abbrev pub momenta_of : Momenta → List Float
 momenta_of m = floats m.count m.at
 
-abbrev pub listed : List Wheel → List Thruster → Cmgs → List Entry
+abbrev pub listed : List Wheel → List Thruster → Option CmgPyramid → List Entry
 listed ws ts c = map wheel ws ++ (map thruster ts ++ gyros c)
 
 unfoldable pub actuators : Actuators → List Piece
@@ -132,7 +128,7 @@ abbrev pub tidy_thruster : Thruster → Thruster
 tidy_thruster t = record { torque_axis = floats 3 t.torque_axis; max_torque_nm = t.max_torque_nm }
 
 -- these actuators from the front, blank ones after them
-abbrev pub packed : List Wheel → List Thruster → Cmgs → Actuators
+abbrev pub packed : List Wheel → List Thruster → Option CmgPyramid → Actuators
 packed ws ts c = record {
   wheels = sets (replicate 8 blank_wheel) 0 (map tidy_wheel ws);
   wheel_count = length ws;

@@ -1,9 +1,22 @@
 -- What stands at a position, in parts. Assumes nothing.
-use Rattle.std.specs.Prelude.{ℕ, zero, suc, ◌+◌, ◌≤◌, ◌<◌, ◌≡◌, refl, Bool, true, false, ◌&&◌, List, [], ◌∷◌, ◌++◌, ltb, eqb, length, get_or}
-use Rattle.std.proofs.Common.{arith, add-zero, zero-add, lt_of_not-le, sym, length-append, ext_get_or, eq-eqb, eqb-true, lt-ltb, le-leb, leb-true}
+use Rattle.std.specs.Prelude.{ℕ, zero, suc, ◌+◌, ◌≤◌, ◌<◌, ◌≡◌, refl, Bool, true, false, ◌&&◌, List, [], ◌∷◌, ◌++◌, ltb, eqb, length, get_or, Option, Some, None}
+use Rattle.std.proofs.Common.{ap, arith, add-zero, zero-add, lt_of_not-le, sym, length-append, ext_get_or, eq-eqb, eqb-true, lt-ltb, le-leb, leb-true}
 use Rattle.std.proofs.Math.ListN.{get_or-eq_default}
 use Rattle.std.proofs.Math.Seq.{append_snoc, get_or-append_seam}
 use Rattle.text.specs.Lines.{is_at}
+
+-- ---- answers
+
+pub none_some : {A B : Type 0} {x : A} → None ≡ Some x → B
+none_some e = let z : ◌≡◌ {A = ℕ} 0 1 = cc in absurd (omega arith)
+
+pub some_is : {A : Type 0} {x y : A} → Some x ≡ Some y → x ≡ y
+some_is e = cc
+
+pub some_pair : {A B : Type 0} {a c : A} {b d : B} → ◌≡◌ {A = Option (A × B)} (Some (a, b)) (Some (c, d)) → (a ≡ c) × (b ≡ d)
+some_pair {A} {B} e = let p = some_is e in (ap (λ (q : A × B). q.0) p, ap (λ (q : A × B). q.1) p)
+
+-- ---- bytes
 
 pub both : (a b : Bool) → (a && b) ≡ true → (a ≡ true) × (b ≡ true)
 both true b e = (refl, e)

@@ -1,8 +1,6 @@
 -- A digit never follows a float in the canonical text. Assumes nothing.
-use Rattle.std.specs.Prelude.{◌+◌, ◌≡◌, refl, true, false, List, [], ◌∷◌, ◌++◌, leb, Float}
+use Rattle.std.specs.Prelude.{◌≡◌, refl, true, false, List, [], ◌∷◌, ◌++◌, leb, Float, Option, Some, None}
 use Rattle.std.proofs.Common.{sym, ◌∙◌}
-use Rattle.common.specs.declared.Limit.{Limit}
-use Rattle.common.specs.declared.Limit.TheVariants.{Nothing, At}
 use Rattle.actuators.specs.declared.Actuators.{Actuators}
 use Rattle.problem.specs.declared.Problem.{Problem}
 use Rattle.text.specs.Bytes.{bytes}
@@ -39,9 +37,9 @@ apart_entry : (e : Entry) → apart (entry e) ≡ true
 unfolding apart digit
 apart_entry (wheel w) = go w.max_power_w
   where
-    go : (l : Limit) → apart (lit (bytes "  (wheel") ∷ nums (floats 3 w.axis) (num w.max_torque_nm ∷ num w.max_momentum_nms ∷ limit l ∷ lit (bytes ")") ∷ [])) ≡ true
-    go Nothing = refl
-    go (At x) = refl
+    go : (l : Option Float) → apart (lit (bytes "  (wheel") ∷ nums (floats 3 w.axis) (num w.max_torque_nm ∷ num w.max_momentum_nms ∷ limit l ∷ lit (bytes ")") ∷ [])) ≡ true
+    go None = refl
+    go (Some x) = refl
 apart_entry (thruster t) = refl
 apart_entry (pyramid p) = refl
 
@@ -54,10 +52,10 @@ apart_actuators : (a : Actuators) → apart (actuators a) ≡ true
 unfolding actuators apart
 apart_actuators a = apart_entries (listed (wheels_of a) (thrusters_of a) a.cmgs) (lit (bytes "))\n") ∷ []) refl
 
-apart_slew : (l : Limit) (rest : List Piece) → apart rest ≡ true → apart (limit l ∷ lit (bytes ")\n") ∷ rest) ≡ true
+apart_slew : (l : Option Float) (rest : List Piece) → apart rest ≡ true → apart (limit l ∷ lit (bytes ")\n") ∷ rest) ≡ true
 unfolding apart digit
-apart_slew Nothing rest h = h
-apart_slew (At x) rest h = h
+apart_slew None rest h = h
+apart_slew (Some x) rest h = h
 
 apart_nums : (xs : List Float) (rest : List Piece) → leb 16 (digit (first rest)) ≡ true → apart rest ≡ true → (apart (nums xs rest) ≡ true) × (leb 16 (digit (first (nums xs rest))) ≡ true)
 unfolding digit

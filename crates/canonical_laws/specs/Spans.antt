@@ -1,5 +1,5 @@
 -- A list of pieces stands in a text between two positions, in some form. Its canonical text does in every form; in the strict form nothing else does. Assumes nothing.
-use Rattle.std.specs.Prelude.{ℕ, ◌+◌, ◌≤◌, ◌<◌, ◌≡◌, refl, Bool, true, false, ◌&&◌, T, leb, eqb}
+use Rattle.std.specs.Prelude.{ℕ, ◌+◌, ◌≤◌, ◌<◌, ◌≡◌, refl, Bool, true, false, ◌&&◌, T, leb, eqb, Some}
 use native.Mathlib.Omega.{arith}
 use Rattle.std.proofs.Common.{add-zero, add_assoc, ◌∙◌}
 use Rattle.std.proofs.Math.Path.{sym}
@@ -9,7 +9,6 @@ use Rattle.std.specs.Float.Ieee as Ieee
 use Rattle.std.specs.Float.Ieee.{binary64, fits, to_bits}
 use Rattle.std.specs.Float.Ieee.Bits.{to_bits-lt}
 use borrow.Author.Tests.{eqb-true, eq-eqb, leb-true}
-use Rattle.text.specs.declared.hex.Real.TheVariants.{Is, Wrong}
 use Rattle.text.specs.Bytes.{bytes}
 use Rattle.text.specs.Hex.{real_text}
 use Rattle.canonical_laws.specs.Strict.{capital}
@@ -19,13 +18,13 @@ use Rattle.text.specs.Forms.{Form}
 use Rattle.canonical_laws.specs.Strict.{strict}
 use Rattle.text.specs.Lines.{word_at, none_at, none_end}
 use Rattle.canonical_laws.specs.Pieces.{Piece, lit, num, non, text, flat}
-use Rattle.canonical_laws.specs.Positions.{is_at_cons, within, start, nothing, split, join, both}
+use Rattle.canonical_laws.specs.Positions.{is_at_cons, within, start, nothing, split, join, both, none_some}
 use Rattle.canonical_laws.specs.FormLaws.{Lawful, first_digit, strict_forth}
 
 -- a piece stands from a position to another
 abbrev pub Span : Form → List ℕ → ℕ → Piece → ℕ → Type 0
 Span f s at (lit w) j = (is_at s at w ≡ true) × (j ≡ at + length w)
-Span f s at (num x) j = word_at f s at ≡ Is x j
+Span f s at (num x) j = word_at f s at ≡ Some (x, j)
 Span f s at non j = (none_at f s at ≡ true) × (j ≡ none_end f s at)
 
 abbrev pub Spans : Form → List ℕ → ℕ → List Piece → ℕ → Type 0
@@ -59,17 +58,17 @@ parts f s [] qs at k h = (at, refl, h)
 parts f s (p ∷ ps) qs at k h = let r = parts f s ps qs h.0 k h.2 in (r.0, (h.0, h.1, r.1), r.2)
 
 -- ---- a blank, and what stands after it
-word_is : (f : Form) (s : List ℕ) (at i j : ℕ) (x : Ieee.Float) → get_or s at 0 ≡ 32 → f.skip s (at + 1) ≡ i → f.real s i ≡ Is x j → word_at f s at ≡ Is x j
+word_is : (f : Form) (s : List ℕ) (at i j : ℕ) (x : Ieee.Float) → get_or s at 0 ≡ 32 → f.skip s (at + 1) ≡ i → f.real s i ≡ Some (x, j) → word_at f s at ≡ Some (x, j)
 unfolding word_at
 word_is f s at i j x b e r = rw (eq-eqb _ _ b, e) r
 
-pub word_forth : (f : Form) (s : List ℕ) (at j : ℕ) (x : Ieee.Float) → word_at f s at ≡ Is x j → (get_or s at 0 ≡ 32) × (f.real s (f.skip s (at + 1)) ≡ Is x j)
+pub word_forth : (f : Form) (s : List ℕ) (at j : ℕ) (x : Ieee.Float) → word_at f s at ≡ Some (x, j) → (get_or s at 0 ≡ 32) × (f.real s (f.skip s (at + 1)) ≡ Some (x, j))
 unfolding word_at
 word_forth f s at j x e = go (eqb (get_or s at 0) 32) refl
   where
-    go : (b : Bool) → eqb (get_or s at 0) 32 ≡ b → (get_or s at 0 ≡ 32) × (f.real s (f.skip s (at + 1)) ≡ Is x j)
+    go : (b : Bool) → eqb (get_or s at 0) 32 ≡ b → (get_or s at 0 ≡ 32) × (f.real s (f.skip s (at + 1)) ≡ Some (x, j))
     go true q = (eqb-true _ _ q, rw q at e)
-    go false q = let w : Wrong ≡ Is x j = rw q at e in let z : ◌≡◌ {A = ℕ} 0 1 = cc in absurd (omega arith)
+    go false q = none_some (rw q at e)
 
 none_is : (f : Form) (s : List ℕ) (at i : ℕ) → get_or s at 0 ≡ 32 → f.skip s (at + 1) ≡ i → is_at s i (bytes "none") ≡ true → none_at f s at ≡ true
 unfolding none_at

@@ -1,14 +1,13 @@
 -- In the strict form reading and writing a pattern are inverse: what is written of it is read as it, and what is read as it is what is written of it. Assumes nothing.
-use Rattle.std.specs.Prelude.{ℕ, zero, suc, ◌+◌, ◌-◌, ◌*◌, ◌/◌, ◌%◌, ◌^◌, ◌≤◌, ◌<◌, ◌≡◌, refl, List, [], ◌∷◌, Bool, true, false, eqb, ltb, length, get_or, ◌⊎◌}
+use Rattle.std.specs.Prelude.{ℕ, zero, suc, ◌+◌, ◌-◌, ◌*◌, ◌/◌, ◌%◌, ◌^◌, ◌≤◌, ◌<◌, ◌≡◌, refl, List, [], ◌∷◌, Bool, true, false, eqb, ltb, length, get_or, ◌⊎◌, Some}
 use Rattle.std.proofs.Common.{arith, add-zero, add_assoc, mod-lt, div-lt_iff_lt-mul, div-add-mod', zero-mul, mod-eq_of_lt, sym, ◌∙◌, ap, eq-eqb, ne_eqb, lt-ltb, le-ltb, ltb-true, ltb-false, eqb-true, inl, inr, ⊎_elim}
 use Rattle.std.proofs.Math.Nat.{pow-succ', zero-div}
 use Rattle.std.proofs.Math.Arith.{digits_lt, digits_div, digits_mod}
 use Rattle.std.proofs.lemmas.Bool.{eqb-false}
 use Rattle.text.specs.Hex.{digit_byte, hex_text}
 use Rattle.canonical_laws.specs.Strict.{capital, strict_more, stop, strict_hex_at}
-use Rattle.canonical_laws.specs.Positions.{is_at_cons, start, nothing}
+use Rattle.canonical_laws.specs.Positions.{is_at_cons, start, nothing, none_some, some_pair}
 use Rattle.text.specs.Lines.{is_at}
-use Rattle.text.specs.declared.hex.Hex.TheVariants.{Bits, Wrong}
 use Rattle.canonical_laws.specs.CapitalLaws.{capital_low, capital_decimal, capital_between, capital_letter, capital_high, more_step, more_stop, more_end, strict_step, strict_none, capital_within}
 
 -- a digit's byte is read as the digit
@@ -45,7 +44,7 @@ shift at n = omega arith
 sum_is : (m x k : ℕ) → m + x / 16 ^ k * 16 ^ k + x % 16 ^ k ≡ m + x
 sum_is m x k = add_assoc m (x / 16 ^ k * 16 ^ k) (x % 16 ^ k) ∙ ap (λ (y : ℕ). m + y) (div-add-mod' x (16 ^ k))
 
-stop_is : (m last at : ℕ) → (last ≡ 0 → ⊥) → stop m last at ≡ Bits m at
+stop_is : (m last at : ℕ) → (last ≡ 0 → ⊥) → stop m last at ≡ Some (m, at)
 stop_is m last at n = simp (ne_eqb _ _ n)
 
 zero_times : (a : ℕ) → 0 * a + 0 ≡ 0
@@ -66,17 +65,17 @@ module _ (s : List ℕ) where
   -- the text of x below 16 ^ k, x no 0, followed by no digit, adds x
   abbrev Back : ℕ → Type 0
   Back k = (x at m last : ℕ) → x < 16 ^ k → (x ≡ 0 → ⊥) → is_at s at (hex_text k x) ≡ true → 16 ≤ capital (get_or s (at + length (hex_text k x)) 0)
-      → strict_more s k at m last ≡ Bits (m + x) (at + length (hex_text k x))
+      → strict_more s k at m last ≡ Some (m + x, at + length (hex_text k x))
 
   last_digit : (k x at m last : ℕ) → x < 16 ^ suc k → (x ≡ 0 → ⊥) → x % 16 ^ k ≡ 0 → is_at s at (hex_text (suc k) x) ≡ true
-      → 16 ≤ capital (get_or s (at + length (hex_text (suc k) x)) 0) → strict_more s (suc k) at m last ≡ Bits (m + x) (at + length (hex_text (suc k) x))
+      → 16 ≤ capital (get_or s (at + length (hex_text (suc k) x)) 0) → strict_more s (suc k) at m last ≡ Some (m + x, at + length (hex_text (suc k) x))
   last_digit k x at m last l n q i e =
       let t = text_nil k x q in
       let v : m + x / 16 ^ k * 16 ^ k ≡ m + x = sym (add-zero _) ∙ ap (λ (y : ℕ). m + x / 16 ^ k * 16 ^ k + y) (sym q) ∙ sum_is m x k in
       rw t (step k x at m last [] l (rw t at i) ∙ more_none s k (at + 1) _ _ (rw t at e) ∙ stop_is _ _ _ (top_some k x q n) ∙ rw v)
 
   next_digit : (k x at m last : ℕ) → Back k → x < 16 ^ suc k → (x % 16 ^ k ≡ 0 → ⊥) → is_at s at (hex_text (suc k) x) ≡ true
-      → 16 ≤ capital (get_or s (at + length (hex_text (suc k) x)) 0) → strict_more s (suc k) at m last ≡ Bits (m + x) (at + length (hex_text (suc k) x))
+      → 16 ≤ capital (get_or s (at + length (hex_text (suc k) x)) 0) → strict_more s (suc k) at m last ≡ Some (m + x, at + length (hex_text (suc k) x))
   next_digit k x at m last back l q i e =
       let t = text_cons k x q in
       let u = hex_text k (x % 16 ^ k) in
@@ -90,7 +89,7 @@ module _ (s : List ℕ) where
   more_back zero x at m last l n i e = absurd (n (omega arith))
   more_back (suc k) x at m last l n i e = go (more_back k) (eqb (x % 16 ^ k) 0) refl
     where
-      go : Back k → (b : Bool) → eqb (x % 16 ^ k) 0 ≡ b → strict_more s (suc k) at m last ≡ Bits (m + x) (at + length (hex_text (suc k) x))
+      go : Back k → (b : Bool) → eqb (x % 16 ^ k) 0 ≡ b → strict_more s (suc k) at m last ≡ Some (m + x, at + length (hex_text (suc k) x))
       go back true q = last_digit k x at m last l n (eqb-true _ _ q) i e
       go back false q = next_digit k x at m last back l (eqb-false _ _ q) i e
 
@@ -102,10 +101,10 @@ module _ (s : List ℕ) where
 
   -- a pattern's text, followed by no digit, is read as the pattern
   pub hex_back : (x at : ℕ) → x < 2 ^ 64 → is_at s at (hex_text 16 x) ≡ true → 16 ≤ capital (get_or s (at + length (hex_text 16 x)) 0)
-      → strict_hex_at s at ≡ Bits x (at + length (hex_text 16 x))
+      → strict_hex_at s at ≡ Some (x, at + length (hex_text 16 x))
   hex_back x at l i e = go (eqb (x % 16 ^ 15) 0) refl
     where
-      go : (b : Bool) → eqb (x % 16 ^ 15) 0 ≡ b → strict_hex_at s at ≡ Bits x (at + length (hex_text 16 x))
+      go : (b : Bool) → eqb (x % 16 ^ 15) 0 ≡ b → strict_hex_at s at ≡ Some (x, at + length (hex_text 16 x))
       go true q =
           let t = text_nil 15 x (eqb-true _ _ q) in
           let v : x / 16 ^ 15 * 16 ^ 15 ≡ x = let z = eqb-true (x % 16 ^ 15) 0 q in omega arith in
@@ -143,14 +142,14 @@ abbrev Read : List ℕ → ℕ → ℕ → ℕ → ℕ → ℕ → ℕ → Type 
 Read s k at m last y j =
     (r : ℕ) × (y ≡ m + r) × (r < 16 ^ k) × (((r ≡ 0) × (j ≡ at) × (last ≡ 0 → ⊥)) ⊎ ((r ≡ 0 → ⊥) × (is_at s at (hex_text k r) ≡ true) × (j ≡ at + length (hex_text k r))))
 
-stop_forth : (m last at y j : ℕ) → stop m last at ≡ Bits y j → (last ≡ 0 → ⊥) × (y ≡ m) × (j ≡ at)
+stop_forth : (m last at y j : ℕ) → stop m last at ≡ Some (y, j) → (last ≡ 0 → ⊥) × (y ≡ m) × (j ≡ at)
 stop_forth m last at y j e = go (eqb last 0) refl
   where
     go : (b : Bool) → eqb last 0 ≡ b → (last ≡ 0 → ⊥) × (y ≡ m) × (j ≡ at)
-    go true q = let w : Wrong ≡ Bits y j = rw q at e in let z : ◌≡◌ {A = ℕ} 0 1 = cc in absurd (omega arith)
-    go false q = let w : Bits m at ≡ Bits y j = rw q at e in (eqb-false last 0 q, cc, cc)
+    go true q = none_some (rw q at e)
+    go false q = let w = some_pair (rw q at e) in (eqb-false last 0 q, sym w.0, sym w.1)
 
-stopped : (s : List ℕ) (k at m last y j : ℕ) → stop m last at ≡ Bits y j → Read s k at m last y j
+stopped : (s : List ℕ) (k at m last y j : ℕ) → stop m last at ≡ Some (y, j) → Read s k at m last y j
 stopped s k at m last y j e =
     let f = stop_forth m last at y j e in
     let z = pow_pos k in
@@ -189,11 +188,11 @@ ahead s k at m last v y j h l e i =
     let p = i.1 ∙ add_assoc m (v * 16 ^ k) r' in
     ⊎_elim (λ c. ahead_one s k at m last v y j r' _ h l e i.2 refl p c) (λ c. ahead_more s k at m last v y j r' _ h l e i.2 refl p c) i.3
 
-pub forth : (s : List ℕ) (k at m last y j : ℕ) → strict_more s k at m last ≡ Bits y j → Read s k at m last y j
+pub forth : (s : List ℕ) (k at m last y j : ℕ) → strict_more s k at m last ≡ Some (y, j) → Read s k at m last y j
 forth s zero at m last y j e = stopped s 0 at m last y j (sym (more_end s at m last 0 refl) ∙ e)
 forth s (suc k) at m last y j e = go (λ at m last e. forth s k at m last y j e) (ltb (capital (get_or s at 0)) 16) refl
   where
-    go : ((at m last : ℕ) → strict_more s k at m last ≡ Bits y j → Read s k at m last y j) → (b : Bool) → ltb (capital (get_or s at 0)) 16 ≡ b → Read s (suc k) at m last y j
+    go : ((at m last : ℕ) → strict_more s k at m last ≡ Some (y, j) → Read s k at m last y j) → (b : Bool) → ltb (capital (get_or s at 0)) 16 ≡ b → Read s (suc k) at m last y j
     go back true q =
         let v = capital (get_or s at 0) in
         let h : v < 16 = ltb-true v 16 q in
@@ -203,7 +202,7 @@ forth s (suc k) at m last y j e = go (λ at m last e. forth s k at m last y j e)
     go back false q = stopped s (suc k) at m last y j (sym (more_none s (suc k) at m last (ltb-false _ _ q)) ∙ e)
 
 -- what is read as the pattern y is the text of y
-pub hex_forth : (s : List ℕ) (at y j : ℕ) → strict_hex_at s at ≡ Bits y j → (y < 2 ^ 64) × (is_at s at (hex_text 16 y) ≡ true) × (j ≡ at + length (hex_text 16 y))
+pub hex_forth : (s : List ℕ) (at y j : ℕ) → strict_hex_at s at ≡ Some (y, j) → (y < 2 ^ 64) × (is_at s at (hex_text 16 y) ≡ true) × (j ≡ at + length (hex_text 16 y))
 hex_forth s at y j e = go (ltb (capital (get_or s at 0)) 16) refl
   where
     go : (b : Bool) → ltb (capital (get_or s at 0)) 16 ≡ b → (y < 2 ^ 64) × (is_at s at (hex_text 16 y) ≡ true) × (j ≡ at + length (hex_text 16 y))
@@ -225,4 +224,4 @@ hex_forth s at y j e = go (ltb (capital (get_or s at 0)) 16) refl
         let t : hex_text 16 y ≡ digit_byte v ∷ hex_text 15 r = text_cons 15 y (λ z. c.0 (sym L ∙ z)) ∙ rw (T, L) in
         (S, rw t (start s at (digit_byte v) (hex_text 15 r) l d c.1), rw t (c.2 ∙ shift at (length (hex_text 15 r)))))
         i.3
-    go false q = let w : Wrong ≡ Bits y j = sym (strict_none s at _ refl (ltb-false _ _ q)) ∙ e in let z : ◌≡◌ {A = ℕ} 0 1 = cc in absurd (omega arith)
+    go false q = none_some (sym (strict_none s at _ refl (ltb-false _ _ q)) ∙ e)

@@ -1,5 +1,5 @@
 -- Words in hexadecimal, the floats that they stand for, and when a float is the stored one. Definitions only.
-use Rattle.std.specs.Prelude.{ℕ, ◌+◌, ◌-◌, ◌*◌, ◌%◌, Bool, true, false, cond, not, ◌&&◌, List, length, ◌==◌, from_bits, nat_le, nat_lt, slice_index, to_bits, Float}
+use Rattle.std.specs.Prelude.{ℕ, ◌+◌, ◌-◌, ◌*◌, ◌%◌, Bool, true, false, cond, not, ◌&&◌, List, length, ◌==◌, from_bits, nat_le, nat_lt, slice_index, to_bits, Float, Option, Some, None}
 use Rattle.std.specs.Float.{binary64}
 use Rattle.std.specs.Float.Ieee.{eq, ne}
 use Rattle.common.specs.Iter.{iter}
@@ -8,16 +8,14 @@ use Rattle.cases.specs.declared.read.Word.{Word}
 abbrev inside : ℕ → ℕ → ℕ → Bool
 inside b low high = nat_le low b && nat_le b high
 
--- a digit's value, 0 to 9 or a to f, and 16 of any other byte
-unfoldable pub digit : ℕ → ℕ
-digit b = cond (inside b 48 57) (b - 48) (cond (inside b 97 102) (b - 87) 16)
+-- a digit's value, 0 to 9 or a to f; none of any other byte
+unfoldable pub digit : ℕ → Option ℕ
+digit b = cond (inside b 48 57) (Some (b - 48)) (cond (inside b 97 102) (Some (b - 87)) None)
 
 -- the word after a byte that is the digit d, or no digit: then it has ended
-abbrev pub taken_by : ℕ → Word → Word
-taken_by d w =
-    cond (nat_lt d 16)
-    (record { value = w.value % 1152921504606846976 * 16 + d; next = w.next + 1; going = true })
-    (record { value = w.value; next = w.next + 1; going = false })
+abbrev pub taken_by : Option ℕ → Word → Word
+taken_by (Some d) w = record { value = w.value % 1152921504606846976 * 16 + d; next = w.next + 1; going = true }
+taken_by None w = record { value = w.value; next = w.next + 1; going = false }
 
 -- one byte more of a word; past the text's end it stays as it is
 unfoldable pub taken : List ℕ → Word → Word

@@ -1,11 +1,13 @@
 // The words of a stored case: hexadecimal digits in lower case, one blank or line feed after each; a float stands by its bits.
-ghost use Rattle.std.specs.Prelude.{◌≡◌, ◌<◌, ◌≤◌, length};
+ghost use Rattle.std.specs.Prelude.{◌≡◌, ◌+◌, ◌<◌, ◌≤◌, ◌↔◌, length, EachIndex, IfSome, IsTrue};
+ghost use Rattle.common.specs.Lists.{at};
 ghost use Rattle.cases.specs.Words as Words;
 
-use common::ResidualNumbers;
+use std::array::from_fn;
 use text::hex::{byte, real_of};
 
 // A word and where the next one starts; `going` while its digits go on.
+// No Option, since the programs' answers may not change: a word that goes on has a value and a place, from which they read on.
 #[derive(Clone, Copy)]
 pub struct Word {
     pub value: u64,
@@ -21,46 +23,37 @@ pub struct Case {
     pub next: usize,
 }
 
-// A digit's value; 16 for any other byte.
-fn digit(b: u8) -> u64
-    ensures { result ≡ Words.digit b }
+// A digit's value; none of any other byte.
+fn digit(b: u8) -> Option<u64>
+    ensures is { result ≡ Words.digit b }
+    ensures small { IfSome result (λ d. d < 16) }
 {
     match b {
-        b'0'..=b'9' => wide(b) - 48,
-        b'a'..=b'f' => wide(b) - 87,
-        _ => 16,
+        b'0'..=b'9' => Some(u64::from(b - b'0')),
+        b'a'..=b'f' => Some(u64::from(b - b'a' + 10)),
+        _ => None,
     }
-}
-
-fn wide(b: u8) -> u64
-    ensures { result ≡ b }
-{
-    b as u64
 }
 
 // One byte more of a word. A byte that is no digit ends it and is passed over; past the text's end the word goes on.
 fn taken(s: &[u8], w: Word) -> Word
     ensures { result ≡ Words.taken s.now w }
 {
-    let at = w.next;
-    if !w.going {
+    if !w.going || w.next >= s.len() {
         return w;
     }
-    if at >= s.len() {
-        return w;
-    }
-    let d = digit(byte(s, at));
-    if d < 16 {
-        return Word {
+    let next = w.next + 1;
+    match digit(s[w.next]) {
+        Some(d) => Word {
             value: w.value % 0x1000_0000_0000_0000 * 16 + d,
-            next: at + 1,
+            next,
             going: true,
-        };
-    }
-    Word {
-        value: w.value,
-        next: at + 1,
-        going: false,
+        },
+        None => Word {
+            next,
+            going: false,
+            ..w
+        },
     }
 }
 
@@ -73,20 +66,15 @@ pub fn word_at(s: &[u8], at: usize) -> Word
         next: at,
         going: true,
     };
-    let mut k: usize = 0;
-    while k < 17 {
+    for _ in 0..17usize {
         w = taken(s, w);
-        k += 1;
     }
     w
 }
 
 // Whether b stands before a position.
 pub fn stands_before(s: &[u8], at: usize, b: u8) -> bool {
-    if at == 0 {
-        return false;
-    }
-    byte(s, at - 1) == b
+    at > 0 && byte(s, at - 1) == b
 }
 
 // The head of the line at a position.
@@ -103,15 +91,11 @@ pub fn head(s: &[u8], at: usize) -> Case {
 
 // The next `count` words, as many as there is room for, and where they end.
 pub fn words(s: &[u8], at: usize, count: u64, out: &mut [u64; 1024]) -> usize {
-    let mut i = 0;
     let mut next = at;
-    while i < 1024 {
-        if (i as u64) < count {
-            let w = word_at(s, next);
-            out[i] = w.value;
-            next = w.next;
-        }
-        i += 1;
+    for x in out[..count.min(1024) as usize].iter_mut() {
+        let w = word_at(s, next);
+        *x = w.value;
+        next = w.next;
     }
     next
 }
@@ -130,35 +114,11 @@ pub fn real(v: &[u64; 1024], k: usize) -> f64
     real_of(at(v, k))
 }
 
-// The three floats from k on.
-pub fn three(v: &[u64; 1024], k: usize) -> [f64; 3]
-    requires { k < 2000 }
+// The N floats from k on.
+pub fn reals<const N: usize>(v: &[u64; 1024], k: usize) -> [f64; N]
+    requires { (k < 2000) × (N ≤ 1000) }
 {
-    [real(v, k), real(v, k + 1), real(v, k + 2)]
-}
-
-// The four floats from k on.
-pub fn four(v: &[u64; 1024], k: usize) -> [f64; 4]
-    requires { k < 2000 }
-{
-    [real(v, k), real(v, k + 1), real(v, k + 2), real(v, k + 3)]
-}
-
-// The nine floats from k on.
-pub fn nine(v: &[u64; 1024], k: usize) -> [f64; 9]
-    requires { k < 900 }
-{
-    [
-        real(v, k),
-        real(v, k + 1),
-        real(v, k + 2),
-        real(v, k + 3),
-        real(v, k + 4),
-        real(v, k + 5),
-        real(v, k + 6),
-        real(v, k + 7),
-        real(v, k + 8),
-    ]
+    from_fn(|i| real(v, k + i))
 }
 
 // Whether x is the float at k, bit for bit, or both are NaN.
@@ -173,125 +133,24 @@ pub fn same(v: &[u64; 1024], k: usize, x: f64) -> bool
     y != y
 }
 
-// Whether the three floats from k on are these.
-pub fn same3(v: &[u64; 1024], k: usize, x: [f64; 3]) -> bool
-    requires { k < 2000 }
-{
-    same(v, k, x[0]) && same(v, k + 1, x[1]) && same(v, k + 2, x[2])
-}
-
-// Whether the four floats from k on are these.
-pub fn same4(v: &[u64; 1024], k: usize, x: [f64; 4]) -> bool
-    requires { k < 2000 }
-{
-    same(v, k, x[0]) && same(v, k + 1, x[1]) && same(v, k + 2, x[2]) && same(v, k + 3, x[3])
-}
-
 // Whether the floats from k on are these.
 pub fn same_all(v: &[u64; 1024], k: usize, x: &[f64]) -> bool
-    requires { (k < 900) × (length x.now ≤ 1000) }
+    requires { (k < 2000) × (length x.now ≤ 1000) }
+    ensures { IsTrue result ↔ EachIndex x.now (λ i. IsTrue (Words.same (Words.word v.now (k + i)) (at x.now i))) }
 {
-    let mut all = true;
-    let mut i: usize = 0;
-    while i < x.len() {
-        all = all & same(v, k + i, x[i]);
-        i += 1;
-    }
-    all
+    x.iter().enumerate().all(|(i, y)| same(v, k + i, *y))
 }
 
-// Whether the 8 floats from k on are these.
-pub fn same8(v: &[u64; 1024], k: usize, x: &[f64; 8]) -> bool
-    requires { k < 900 }
+// Whether a call was answered as is stored: the word at k is a refusal's number, or 0 and the floats behind it are x.
+pub fn same_outcome(v: &[u64; 1024], k: usize, refused: usize, x: &[f64]) -> bool
+    requires { (k < 1000) × (length x.now ≤ 1000) }
+    ensures number { IsTrue result → Words.word v.now k ≡ refused }
+    ensures given { IsTrue result → refused ≡ 0 → EachIndex x.now (λ i. IsTrue (Words.same (Words.word v.now (k + 1 + i)) (at x.now i))) }
 {
-    same_all(v, k, x)
-}
-
-// Whether the 9 floats from k on are these.
-pub fn same9(v: &[u64; 1024], k: usize, x: &[f64; 9]) -> bool
-    requires { k < 900 }
-{
-    same_all(v, k, x)
-}
-
-// Whether the 12 floats from k on are these.
-pub fn same12(v: &[u64; 1024], k: usize, x: &[f64; 12]) -> bool
-    requires { k < 900 }
-{
-    same_all(v, k, x)
-}
-
-// Whether the 14 floats from k on are these.
-pub fn same14(v: &[u64; 1024], k: usize, x: &[f64; 14]) -> bool
-    requires { k < 900 }
-{
-    same_all(v, k, x)
-}
-
-// Whether the 20 floats from k on are these.
-pub fn same20(v: &[u64; 1024], k: usize, x: &[f64; 20]) -> bool
-    requires { k < 900 }
-{
-    same_all(v, k, x)
-}
-
-// Whether the 22 floats from k on are these.
-pub fn same22(v: &[u64; 1024], k: usize, x: &[f64; 22]) -> bool
-    requires { k < 900 }
-{
-    same_all(v, k, x)
-}
-
-// Whether the 24 floats from k on are these.
-pub fn same24(v: &[u64; 1024], k: usize, x: &[f64; 24]) -> bool
-    requires { k < 900 }
-{
-    same_all(v, k, x)
-}
-
-// Whether the 36 floats from k on are these.
-pub fn same36(v: &[u64; 1024], k: usize, x: &[f64; 36]) -> bool
-    requires { k < 900 }
-{
-    same_all(v, k, x)
-}
-
-// Whether the 51 floats from k on are these.
-pub fn same51(v: &[u64; 1024], k: usize, x: &[f64; 51]) -> bool
-    requires { k < 900 }
-{
-    same_all(v, k, x)
-}
-
-// Whether the 79 floats from k on are these.
-pub fn same79(v: &[u64; 1024], k: usize, x: &ResidualNumbers) -> bool
-    requires { k < 900 }
-{
-    same_all(v, k, x)
-}
-
-// Puts the floats from k on into out.
-pub fn reals(v: &[u64; 1024], k: usize, out: &mut [f64])
-    requires { (k < 900) × (length out.old ≤ 1000) }
-{
-    let n = out.len();
-    let mut i: usize = 0;
-    while i < n {
-        out[i] = real(v, k + i);
-        i += 1;
-    }
-}
-
-// The 22 floats from k on: a profile's, or a node's.
-pub fn reals22(v: &[u64; 1024], k: usize) -> [f64; 22]
-    requires { k < 900 }
-{
-    let mut p = [0.0; 22];
-    reals(v, k, &mut p);
-    p
+    at(v, k) == refused as u64 && (refused != 0 || same_all(v, k + 1, x))
 }
 
 // Whether the word at k says this.
 pub fn said(v: &[u64; 1024], k: usize, b: bool) -> bool {
-    if b { at(v, k) == 1 } else { at(v, k) == 0 }
+    at(v, k) == u64::from(b)
 }

@@ -1,123 +1,145 @@
-// Counts of cases and of those that differ, in eight groups, the last for cases of no known group; of answers that are stored wrong on purpose, and of those
-// of them that are noticed; and where the next case starts.
-ghost use Rattle.std.specs.Prelude.{◌<◌};
-
-use std::io;
+// Counts of cases and of those that differ, by groups; of answers that are stored wrong on purpose, and of those of them that are noticed; and where the next
+// case starts.
 use std::io::Print;
-use std::num::{wrapping_add_u64, wrapping_sub_u64};
+use std::{fmt, io};
+
+// What a case asks for: functions over numbers, then problem texts; the last stands for what is not known.
+#[derive(Clone, Copy, PartialEq, Eq)]
+pub enum Group {
+    Leaves,
+    Shapes,
+    Rigs,
+    Courses,
+    Runs,
+    Samples,
+    Planned,
+    Seeded,
+    Sampled,
+    Unknown,
+}
+
+// The groups in the order of their counts, and of their lines.
+const GROUPS: [Group; 10] = [
+    Group::Leaves,
+    Group::Shapes,
+    Group::Rigs,
+    Group::Courses,
+    Group::Runs,
+    Group::Samples,
+    Group::Planned,
+    Group::Seeded,
+    Group::Sampled,
+    Group::Unknown,
+];
+
+impl fmt::Display for Group {
+    fn fmt<W: fmt::Write>(&self, f: &mut fmt::Formatter<W>) -> fmt::Result {
+        f.write_str(match self {
+            Group::Leaves => "whole root, floats, angles",
+            Group::Shapes => "attitudes, vectors, tensors",
+            Group::Rigs => "actuators, control rows",
+            Group::Courses => "profile and seed",
+            Group::Runs => "forward runs, residuals",
+            Group::Samples => "dense samples",
+            Group::Planned => "texts planned",
+            Group::Seeded => "texts planned from a seed",
+            Group::Sampled => "texts sampled",
+            Group::Unknown => "unknown",
+        })
+    }
+}
+
+// How many cases, and how many of them differ.
+#[derive(Clone, Copy)]
+pub struct Count {
+    pub cases: u64,
+    pub wrong: u64,
+}
+
+impl Count {
+    // One case more.
+    fn with(self, right: bool) -> Count {
+        Count {
+            cases: self.cases.wrapping_add(1),
+            wrong: self.wrong.wrapping_add(u64::from(!right)),
+        }
+    }
+
+    fn plus(self, more: Count) -> Count {
+        Count {
+            cases: self.cases.wrapping_add(more.cases),
+            wrong: self.wrong.wrapping_add(more.wrong),
+        }
+    }
+}
+
+impl fmt::Display for Count {
+    fn fmt<W: fmt::Write>(&self, f: &mut fmt::Formatter<W>) -> fmt::Result {
+        write!(f, "{} cases, {} differ", self.cases, self.wrong)
+    }
+}
+
+const NONE: Count = Count { cases: 0, wrong: 0 };
 
 #[derive(Clone, Copy)]
 pub struct Tally {
-    pub cases: [u64; 8],
-    pub wrong: [u64; 8],
+    pub counts: [Count; 10],
     pub planted: u64,
     pub noticed: u64,
     pub at: usize,
 }
 
 pub fn none() -> Tally {
-    let cases = [0u64; 8];
-    let wrong = [0u64; 8];
     Tally {
-        cases: cases,
-        wrong: wrong,
+        counts: [NONE; 10],
         planted: 0,
         noticed: 0,
         at: 0,
     }
 }
 
-// A group's place: past the groups, the last.
-fn place(group: u64) -> usize
-    ensures { result < 8 }
-{
-    if group < 7 { group as usize } else { 7 }
-}
-
-// A row of counts with one more in a group.
-fn raised(counts: [u64; 8], group: u64) -> [u64; 8] {
-    let mut out = counts;
-    let k = place(group);
-    out[k] = wrapping_add_u64(out[k], 1);
-    out
-}
-
-// The sum of a row.
-fn total(c: [u64; 8]) -> u64 {
-    let low = wrapping_add_u64(wrapping_add_u64(c[0], c[1]), wrapping_add_u64(c[2], c[3]));
-    let high = wrapping_add_u64(wrapping_add_u64(c[4], c[5]), wrapping_add_u64(c[6], c[7]));
-    wrapping_add_u64(low, high)
-}
-
 impl Tally {
     // The same counts, the next case at `at`.
     pub fn from(self, at: usize) -> Tally {
-        let cases = self.cases;
-        let wrong = self.wrong;
-        Tally {
-            cases: cases,
-            wrong: wrong,
-            planted: self.planted,
-            noticed: self.noticed,
-            at: at,
-        }
+        Tally { at, ..self }
     }
 
     // One more answer that is wrong on purpose; the next case starts at `at`.
     pub fn with_planted(self, noticed: bool, at: usize) -> Tally {
-        let cases = self.cases;
-        let wrong = self.wrong;
-        let more = if noticed { 1 } else { 0 };
         Tally {
-            cases: cases,
-            wrong: wrong,
-            planted: wrapping_add_u64(self.planted, 1),
-            noticed: wrapping_add_u64(self.noticed, more),
-            at: at,
+            planted: self.planted.wrapping_add(1),
+            noticed: self.noticed.wrapping_add(u64::from(noticed)),
+            at,
+            ..self
         }
     }
 
     // One case more in a group; the next starts at `at`.
-    pub fn with(self, group: u64, right: bool, at: usize) -> Tally {
-        let before = self.cases;
-        let cases = raised(before, group);
-        let mut wrong = self.wrong;
-        if !right {
-            let next = raised(wrong, group);
-            wrong = next;
-        }
-        Tally {
-            cases: cases,
-            wrong: wrong,
-            planted: self.planted,
-            noticed: self.noticed,
-            at: at,
-        }
+    pub fn with(self, group: Group, right: bool, at: usize) -> Tally {
+        let mut counts = self.counts;
+        let k = group as usize;
+        counts[k] = counts[k].with(right);
+        Tally { counts, at, ..self }
     }
-}
 
-// A group's line, where it has cases: how many, and how many differ.
-pub fn print_group(rt: &HostRuntime, name: &[u8], cases: u64, wrong: u64) -> io::Result<()> {
-    if cases == 0 {
-        return Ok(());
+    // The cases of all groups.
+    fn total(self) -> Count {
+        self.counts.iter().fold(NONE, |all, c| all.plus(*c))
     }
-    rt.stdout().write_all(name)?;
-    println!(rt; "{cases} cases, {wrong} differ")
-}
 
-// How many answers are equal, and how many differ.
-fn print_sums(rt: &HostRuntime, cases: u64, wrong: u64) -> io::Result<()> {
-    let equal = wrapping_sub_u64(cases, wrong);
-    print!(rt; "{equal} cases equal, {wrong} differ; ")
-}
-
-// The line of the last group, and that of all.
-pub fn print_total(rt: &HostRuntime, t: Tally) -> io::Result<()> {
-    let c = t.cases;
-    let w = t.wrong;
-    print_group(rt, b"unknown: ", c[7], w[7])?;
-    print_sums(rt, total(c), total(w))?;
-    let planted = t.planted;
-    let noticed = t.noticed;
-    println!(rt; "of {planted} wrong answers on purpose {noticed} noticed")
+    // A line for each group that has cases, and one for all.
+    pub fn print(self, rt: &HostRuntime) -> io::Result<()> {
+        for (group, count) in GROUPS.iter().zip(&self.counts) {
+            if count.cases > 0 {
+                println!(rt; "{group}: {count}")?;
+            }
+        }
+        let all = self.total();
+        let equal = all.cases.wrapping_sub(all.wrong);
+        print!(rt; "{equal} cases equal, {} differ; ", all.wrong)?;
+        println!(rt;
+            "of {} wrong answers on purpose {} noticed",
+            self.planted, self.noticed
+        )
+    }
 }

@@ -1,22 +1,18 @@
 -- Limits of controls, momenta and powers: a row held to its limits, and by how much a limit is passed. As in actuators.rs. Definitions only.
-use Rattle.std.specs.Prelude.{ℕ, ◌+◌, ◌-◌, Bool, cond, List, ltb, get_or, length, Float}
-use Rattle.std.specs.Float.{nan, binary64}
+use Rattle.std.specs.Prelude.{ℕ, ◌+◌, ◌-◌, Bool, cond, List, ltb, get_or, length, Float, Option, Some, None}
+use Rattle.std.specs.Float.{binary64}
 use Rattle.std.specs.Float.Ieee.{mul, sub, neg, lt}
 use Rattle.common.specs.Floats.{plus_zero}
 use Rattle.common.specs.Iter.{iter}
 use Rattle.common.specs.Lists.{at}
-use Rattle.common.specs.declared.Limit.{Limit}
-use Rattle.common.specs.declared.Limit.TheVariants.{Nothing, At}
 use Rattle.float.specs.Ops.{abs, max, clamp}
 use Rattle.geom.specs.Vec.{dot3}
 use Rattle.actuators.specs.Maps.{axis_at, gimbals, no_power_value}
-use Rattle.actuators.specs.declared.Power.{Power}
-use Rattle.actuators.specs.declared.Cmgs.{Cmgs}
-use Rattle.actuators.specs.declared.Cmgs.TheVariants.{Without, With}
 use Rattle.control_rows.specs.Stored.{stored}
 use Rattle.control_rows.specs.Parts.{bare, width}
 use Rattle.control_limits.specs.declared.Held.{Held}
 use Rattle.control_rows.specs.declared.Rig.{Rig}
+use Rattle.actuators.specs.declared.CmgPyramid.{CmgPyramid}
 
 -- ---- projection
 
@@ -37,9 +33,9 @@ abbrev pub hold_at : (ℕ → Float) → ℕ → Float → Float
 hold_at limit k x = hold (limit k) x
 
 -- the limit of a gimbal's rate; without a pyramid nothing is held to it
-abbrev pub gimbal_rate : Cmgs → Float
-gimbal_rate Without = plus_zero
-gimbal_rate (With p) = p.max_gimbal_rate_rad_s
+abbrev pub gimbal_rate : Option CmgPyramid → Float
+gimbal_rate None = plus_zero
+gimbal_rate (Some p) = p.max_gimbal_rate_rad_s
 
 -- control k's limit in a row of parts: its wheel's torque, its thruster's torque or the pyramid's rate
 abbrev pub part_limit_value : Rig → List Float → List Float → ℕ → Float
@@ -68,21 +64,21 @@ projected r wheels thrusters box u =
 -- ---- excesses
 
 -- the larger of e and the size of x less its limit; a NaN gives way, and where there is no limit e stays
-abbrev pub larger_excess : Limit → Float → Float → Float
-larger_excess Nothing x e = e
-larger_excess (At limit) x e = max e (sub binary64 (abs x) limit)
+abbrev pub larger_excess : Option Float → Float → Float → Float
+larger_excess None x e = e
+larger_excess (Some limit) x e = max e (sub binary64 (abs x) limit)
 
 -- number k is looked at
-abbrev pub excess_turn : (ℕ → Limit) → (ℕ → Float) → ℕ → Float → Float
+abbrev pub excess_turn : (ℕ → Option Float) → (ℕ → Float) → ℕ → Float → Float
 excess_turn limit x k e = larger_excess (limit k) (x k) e
 
 -- by how much the first n numbers pass their limits at most; +0 where none does
-abbrev pub excess : (ℕ → Limit) → (ℕ → Float) → ℕ → Float
+abbrev pub excess : (ℕ → Option Float) → (ℕ → Float) → ℕ → Float
 excess limit x n = iter (excess_turn limit x) plus_zero n
 
 -- number k of a table as a limit
-abbrev pub limit_at : List Float → ℕ → Limit
-limit_at limits k = At (at limits k)
+abbrev pub limit_at : List Float → ℕ → Option Float
+limit_at limits k = Some (at limits k)
 
 -- the momenta hw against the limits of n wheels
 unfoldable pub momentum_excess : List Float → ℕ → List Float → Float
@@ -93,9 +89,9 @@ abbrev pub power : List Float → List Float → List Float → ℕ → Float
 power axes u w k = mul binary64 (at u k) (dot3 w (axis_at axes k))
 
 -- the power limit of wheel k, if it has one
-abbrev pub power_limit : List Power → ℕ → Limit
-power_limit powers k = (get_or powers k no_power_value).limit
+abbrev pub power_limit : List (Option Float) → ℕ → Option Float
+power_limit powers k = get_or powers k no_power_value
 
 -- the powers of n wheels under the controls u at rate w against the limits that are declared
-unfoldable pub power_excess : List Float → List Power → ℕ → List Float → List Float → Float
+unfoldable pub power_excess : List Float → List (Option Float) → ℕ → List Float → List Float → Float
 power_excess axes powers n u w = excess (power_limit powers) (power axes u w) n

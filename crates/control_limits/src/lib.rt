@@ -8,8 +8,8 @@ ghost use Rattle.control_rows.specs.Parts as Parts;
 ghost use Rattle.control_rows.specs.Stored as Stored;
 ghost use Rattle.control_limits.specs.Limits as Limits;
 
-use actuators::{Cmgs, Power};
-use common::{Limit, MAX_WHEELS};
+use actuators::CmgPyramid;
+use common::MAX_WHEELS;
 use control_rows::{Rig, is_bare};
 
 // A control held to its limit: the number, and whether holding changed it.
@@ -34,21 +34,18 @@ pub fn hold_part(limits: &[f64], n: usize, u: &mut [f64])
     requires { (n ≤ length limits.now) × (n ≤ length u.old) }
     ensures { u.new ≡ Stored.stored (Limits.hold_at (at limits.now)) u.old n }
 {
-    let mut i: usize = 0;
-    while i < n {
-        let h = hold(u[i], limits[i]);
-        u[i] = h.x;
-        i += 1;
+    for i in 0..n {
+        u[i] = hold(u[i], limits[i]).x;
     }
 }
 
 // The larger of `e` and the size of `x` less its limit, where it has one.
-pub fn larger_excess(limit: Limit, x: f64, e: f64) -> f64
+pub fn larger_excess(limit: Option<f64>, x: f64, e: f64) -> f64
     ensures { result ≡ Limits.larger_excess limit x e }
 {
     match limit {
-        Limit::Nothing => e,
-        Limit::At(most) => float::max(e, float::abs(x) - most),
+        None => e,
+        Some(most) => float::max(e, float::abs(x) - most),
     }
 }
 
@@ -58,10 +55,8 @@ pub fn momentum_excess(limits: &[f64; 8], n: usize, hw: &[f64]) -> f64
     ensures { result ≡ Limits.momentum_excess limits.now n hw.now }
 {
     let mut e = 0.0;
-    let mut i: usize = 0;
-    while i < n {
-        e = larger_excess(Limit::At(limits[i]), hw[i], e);
-        i += 1;
+    for i in 0..n {
+        e = larger_excess(Some(limits[i]), hw[i], e);
     }
     e
 }
@@ -69,7 +64,7 @@ pub fn momentum_excess(limits: &[f64; 8], n: usize, hw: &[f64]) -> f64
 // By how much the first n wheels pass their declared powers at most.
 pub fn power_excess(
     axes: &[f64; 24],
-    powers: [Power; MAX_WHEELS],
+    powers: [Option<f64>; MAX_WHEELS],
     n: usize,
     u: &[f64],
     omega: [f64; 3],
@@ -78,25 +73,21 @@ pub fn power_excess(
     ensures { result ≡ Limits.power_excess axes.now powers n u.now omega }
 {
     let mut e = 0.0;
-    let mut i: usize = 0;
-    while i < n {
+    for i in 0..n {
         let a = 3 * i;
         let speed = omega[0] * axes[a] + omega[1] * axes[a + 1] + omega[2] * axes[a + 2];
-        let power = powers[i];
-        let limit = power.limit;
-        e = larger_excess(limit, u[i] * speed, e);
-        i += 1;
+        e = larger_excess(powers[i], u[i] * speed, e);
     }
     e
 }
 
 // The limit of a gimbal's rate; without a pyramid nothing is held to it.
-pub fn gimbal_rate(cmgs: Cmgs) -> f64
+pub fn gimbal_rate(cmgs: Option<CmgPyramid>) -> f64
     ensures { result ≡ Limits.gimbal_rate cmgs }
 {
     match cmgs {
-        Cmgs::Without => 0.0,
-        Cmgs::With(p) => p.max_gimbal_rate_rad_s,
+        None => 0.0,
+        Some(p) => p.max_gimbal_rate_rad_s,
     }
 }
 

@@ -1,5 +1,5 @@
 -- What a control row does to the body: the wheel part, then the thruster part, then the gimbal part. As in actuators.rs. Definitions only.
-use Rattle.std.specs.Prelude.{ℕ, ◌+◌, ◌≤◌, Bool, cond, ◌&&◌, List, [], ◌∷◌, eqb, leb, length, Float}
+use Rattle.std.specs.Prelude.{ℕ, ◌+◌, ◌≤◌, Bool, cond, ◌&&◌, List, [], ◌∷◌, eqb, length, Float, Option, Some, None}
 use Rattle.std.specs.Float.{binary64}
 use Rattle.std.specs.Float.Ieee.{add, mul, neg}
 use Rattle.common.specs.Iter.{iter}
@@ -7,12 +7,11 @@ use Rattle.common.specs.Lists.{at, slice}
 use Rattle.geom.specs.Vec.{add3, scale3, cross, row, zero3, minus_one}
 use Rattle.actuators.specs.Maps.{axis_at, no_cmgs}
 use Rattle.actuators.specs.Pyramid.{rows, dot4}
-use Rattle.actuators.specs.declared.Cmgs.{Cmgs}
-use Rattle.actuators.specs.declared.Cmgs.TheVariants.{Without, With}
 use Rattle.control_rows.specs.Stored.{stored}
 use Rattle.control_rows.specs.declared.Rig.{Rig}
 use Rattle.control_rows.specs.declared.WheelLaw.{WheelLaw}
 use Rattle.control_rows.specs.declared.WheelLaw.TheVariants.{Once, Published}
+use Rattle.actuators.specs.declared.CmgPyramid.{CmgPyramid}
 
 -- axis k of a flat table, scaled by number k of u, is added to e
 abbrev pub axis_turn : List Float → List Float → ℕ → List Float → List Float
@@ -38,9 +37,9 @@ pyramid_part momentum a u tau =
     add3 tau (scale3 (dot4 (row (rows a) 0) u ∷ dot4 (row (rows a) 1) u ∷ dot4 (row (rows a) 2) u ∷ []) (neg momentum))
 
 -- the gimbal part u; no pyramid leaves tau as it is
-abbrev pub gimbal_part : Cmgs → List Float → List Float → List Float → List Float
-gimbal_part Without a u tau = tau
-gimbal_part (With p) a u tau = pyramid_part p.wheel_momentum_nms a u tau
+abbrev pub gimbal_part : Option CmgPyramid → List Float → List Float → List Float → List Float
+gimbal_part None a u tau = tau
+gimbal_part (Some p) a u tau = pyramid_part p.wheel_momentum_nms a u tau
 
 -- there are no actuators: a row is three body torques
 abbrev pub bare : Rig → Bool

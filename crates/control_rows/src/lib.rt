@@ -6,7 +6,7 @@ ghost use Rattle.std.specs.Prelude.{◌≡◌, ◌*◌, ◌≤◌, length};
 ghost use Rattle.actuators.specs.Maps as Maps;
 ghost use Rattle.control_rows.specs.Parts as Parts;
 
-use actuators::Cmgs;
+use actuators::CmgPyramid;
 
 // How the wheels' stored momentum enters a step: its cross product with the rate stands once, in Euler's equations; or, as in the published Rust, in the
 // wheels' torque too.
@@ -22,7 +22,7 @@ pub enum WheelLaw {
 pub struct Rig {
     pub wheel_count: usize,
     pub thruster_count: usize,
-    pub cmgs: Cmgs,
+    pub cmgs: Option<CmgPyramid>,
     pub law: WheelLaw,
 }
 
@@ -32,17 +32,14 @@ pub fn axis_sum(axes: &[f64], n: usize, u: &[f64], start: [f64; 3]) -> [f64; 3]
     ensures { result ≡ Parts.axes axes.now u.now start n }
 {
     let mut e = start;
-    let mut i: usize = 0;
-    while i < n {
+    for i in 0..n {
         let a = 3 * i;
         let x = u[i];
-        let t = [
+        e = [
             e[0] + axes[a] * x,
             e[1] + axes[a + 1] * x,
             e[2] + axes[a + 2] * x,
         ];
-        e = t;
-        i += 1;
     }
     e
 }
@@ -95,13 +92,13 @@ fn pyramid_part(momentum: f64, a: [f64; 12], u: &[f64], tau: [f64; 3]) -> [f64; 
 }
 
 // The gimbal part of a row, taken from `tau`.
-pub fn gimbal_part(cmgs: Cmgs, a: [f64; 12], u: &[f64], tau: [f64; 3]) -> [f64; 3]
+pub fn gimbal_part(cmgs: Option<CmgPyramid>, a: [f64; 12], u: &[f64], tau: [f64; 3]) -> [f64; 3]
     requires { Maps.gimbals cmgs ≤ length u.now }
     ensures { result ≡ Parts.gimbal_part cmgs a u.now tau }
 {
     match cmgs {
-        Cmgs::Without => tau,
-        Cmgs::With(p) => pyramid_part(p.wheel_momentum_nms, a, u, tau),
+        None => tau,
+        Some(p) => pyramid_part(p.wheel_momentum_nms, a, u, tau),
     }
 }
 
@@ -170,10 +167,8 @@ pub fn momenta_next(n: usize, hw: [f64; 8], u: &[f64], dt: f64) -> [f64; 8]
     ensures { result ≡ Parts.momenta_next n hw u.now dt }
 {
     let mut out = hw;
-    let mut i: usize = 0;
-    while i < n {
-        out[i] = out[i] + u[i] * dt;
-        i += 1;
+    for i in 0..n {
+        out[i] += u[i] * dt;
     }
     out
 }

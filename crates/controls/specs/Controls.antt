@@ -1,24 +1,22 @@
 -- The operations on control rows that the specification names, over whole maps. They take every map and every row. A map whose counts pass its tables, and a row
 -- that is too short where the Rust would panic, have no meaning in the specification: the answer there is free, and is said to be so at its place. Definitions only.
-use Rattle.std.specs.Prelude.{ℕ, Bool, cond, ◌&&◌, List, leb, length, replicate, Float}
+use Rattle.std.specs.Prelude.{ℕ, Bool, cond, ◌&&◌, List, leb, length, replicate, Float, Option, Some, None, Result, Ok, Err}
 use Rattle.common.specs.Floats.{plus_zero}
 use Rattle.common.specs.Lists.{at}
 use Rattle.geom.specs.Vec.{zero3}
-use Rattle.common.specs.declared.Fate.{Fate}
-use Rattle.common.specs.declared.Fate.TheVariants.{Going, Refused}
 use Rattle.actuators.specs.Maps.{gimbals}
-use Rattle.actuators.specs.Pyramid.{pyramid_a}
+use Rattle.actuators.specs.Pyramid.{Jacobian, pyramid_a}
 use Rattle.actuators.specs.declared.ActuatorMap.{ActuatorMap}
-use Rattle.actuators.specs.declared.Cmgs.{Cmgs}
-use Rattle.actuators.specs.declared.Cmgs.TheVariants.{Without, With}
-use Rattle.actuators.specs.declared.Jacobian.{Jacobian}
 use Rattle.control_rows.specs.Stored.{stored}
 use Rattle.control_rows.specs.Parts as Parts
 use Rattle.control_limits.specs.Limits as Limits
 use Rattle.control_rows.specs.declared.Rig.{Rig}
 use Rattle.control_rows.specs.declared.WheelLaw.{WheelLaw}
 use Rattle.control_rows.specs.declared.WheelLaw.TheVariants.{Once}
-use Rattle.controls.specs.declared.Torque.{Torque}
+use Rattle.actuators.specs.declared.CmgPyramid.{CmgPyramid}
+use Rattle.common.specs.declared.Refusal.{Refusal}
+use Rattle.common.specs.Refusals.{refusal}
+use Rattle.std.specs.Result.{result_unwrap_or}
 
 -- The wheels that a list of n numbers reaches: a list may be shorter than the wheels, and what it lacks is not looked at. Of a count beyond the tables none is
 -- reached (free).
@@ -65,24 +63,32 @@ project_controls m box u =
     cond (row_fits_value (rig_of m) 0 (length u)) (Limits.projected (rig_of m) m.wheel_torques m.thruster_torques box u) u
 
 -- the pyramid's matrix at the gimbal angles d, or 11; without a pyramid twelve +0 that nothing reads
-abbrev pub matrix : Cmgs → List Float → Jacobian
-matrix Without d = record { fate = Going; a = replicate 12 plus_zero }
-matrix (With p) d = pyramid_a p.skew_rad d
+abbrev pub matrix : Option CmgPyramid → List Float → Jacobian
+matrix None d = Ok (replicate 12 plus_zero)
+matrix (Some p) d = pyramid_a p.skew_rad d
 
--- a torque, or the refusal of the matrix with three +0
-abbrev pub torque_by : Fate → List Float → Torque
-torque_by Going tau = record { fate = Going; tau = tau }
-torque_by (Refused number place) tau = record { fate = Refused number place; tau = zero3 }
+-- the torque of a row, or its refusal
+abbrev pub Torque : Type 0
+Torque = Result (List Float) Refusal
+
+-- a torque, +0 where it is refused
+abbrev pub torque_or_zeros : Torque → List Float
+torque_or_zeros t = result_unwrap_or t zero3
+
+-- a torque by the pyramid's matrix, or the refusal of the matrix
+abbrev pub torque_by : Jacobian → (List Float → List Float) → Torque
+torque_by (Ok a) tau = Ok (tau a)
+torque_by (Err why) tau = Err why
 
 -- How a row that is too short ends. With no actuators the Rust says "wrong width", for which the specification has no number of its own: 8. With actuators the
--- Rust panics, and a count beyond the tables has no meaning: free, it goes on.
-abbrev pub short_row_value : Rig → Fate
-short_row_value r = cond (Parts.bare r) (Refused 8 0) Going
+-- Rust panics, and a count beyond the tables has no meaning: free, it gives three +0.
+abbrev pub short_row_value : Rig → Torque
+short_row_value r = cond (Parts.bare r) (Err (refusal 8 0)) (Ok zero3)
 
--- The torque of the row u at rate w, stored momentum h and gimbal angles d; 11 where an angle is outside. A row that is too short gives three +0, beside
--- 8 with no actuators.
+-- The torque of the row u at rate w, stored momentum h and gimbal angles d; 11 where an angle is outside. A row that is too short gives 8
+-- with no actuators, else three +0.
 unfoldable pub body_torque : ActuatorMap → List Float → List Float → List Float → List Float → Torque
 body_torque m u w h d =
     cond (row_fits_value (rig_of m) (gimbals m.cmgs) (length u))
-    (torque_by (matrix m.cmgs d).fate (Parts.row_torque (rig_of m) m.wheel_axes m.thruster_axes u w h (matrix m.cmgs d).a))
-    (torque_by (short_row_value (rig_of m)) zero3)
+    (torque_by (matrix m.cmgs d) (Parts.row_torque (rig_of m) m.wheel_axes m.thruster_axes u w h))
+    (short_row_value (rig_of m))

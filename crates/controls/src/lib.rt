@@ -6,16 +6,9 @@
 ghost use Rattle.std.specs.Prelude.{◌≡◌, ◌≤◌};
 ghost use Rattle.controls.specs.Controls as Controls;
 
-use actuators::{ActuatorMap, Cmgs, Jacobian};
-use common::{Fate, MAX_THRUSTERS, MAX_WHEELS};
+use actuators::{ActuatorMap, CmgPyramid};
+use common::{MAX_THRUSTERS, MAX_WHEELS, Refusal};
 use control_rows::{Rig, WheelLaw};
-
-// The torque of a row, or the refusal of the pyramid's matrix and zeros.
-#[derive(Clone, Copy)]
-pub struct Torque {
-    pub fate: Fate,
-    pub tau: [f64; 3],
-}
 
 // The wheels that a list of n numbers reaches.
 fn paired(wheel_count: usize, n: usize) -> usize
@@ -33,10 +26,8 @@ pub fn wheel_momentum_rates(map: ActuatorMap, u: &[f64]) -> [f64; 8]
 {
     let n = paired(map.wheel_count, u.len());
     let mut out = [0.0; 8];
-    let mut i: usize = 0;
-    while i < n {
+    for i in 0..n {
         out[i] = u[i];
-        i += 1;
     }
     out
 }
@@ -46,8 +37,7 @@ pub fn body_momentum(map: ActuatorMap, wheel_momenta: &[f64]) -> [f64; 3]
     ensures { result ≡ Controls.body_momentum map wheel_momenta.now }
 {
     let n = paired(map.wheel_count, wheel_momenta.len());
-    let axes = map.wheel_axes;
-    control_rows::body_momentum(&axes, n, wheel_momenta)
+    control_rows::body_momentum(&map.wheel_axes, n, wheel_momenta)
 }
 
 // By how much a wheel's momentum passes its limit at most.
@@ -55,8 +45,7 @@ pub fn momentum_excess(map: ActuatorMap, wheel_momenta: &[f64]) -> f64
     ensures { result ≡ Controls.momentum_excess map wheel_momenta.now }
 {
     let n = paired(map.wheel_count, wheel_momenta.len());
-    let limits = map.wheel_momenta;
-    control_limits::momentum_excess(&limits, n, wheel_momenta)
+    control_limits::momentum_excess(&map.wheel_momenta, n, wheel_momenta)
 }
 
 // By how much a wheel's power passes its declared limit at most.
@@ -64,21 +53,18 @@ pub fn power_excess(map: ActuatorMap, u: &[f64], omega: [f64; 3]) -> f64
     ensures { result ≡ Controls.power_excess map u.now omega }
 {
     let n = paired(map.wheel_count, u.len());
-    let axes = map.wheel_axes;
-    let powers = map.wheel_powers;
-    control_limits::power_excess(&axes, powers, n, u, omega)
+    control_limits::power_excess(&map.wheel_axes, map.wheel_powers, n, u, omega)
 }
 
 // Which actuators a map has, under a law of their torque.
 pub fn rig_under(law: WheelLaw, map: ActuatorMap) -> Rig
     ensures { result ≡ Controls.rig_under law map }
 {
-    let cmgs = map.cmgs;
     Rig {
         wheel_count: map.wheel_count,
         thruster_count: map.thruster_count,
-        cmgs: cmgs,
-        law: law,
+        cmgs: map.cmgs,
+        law,
     }
 }
 
@@ -114,77 +100,53 @@ pub fn project_controls(map: ActuatorMap, u: &mut [f64], torque_limit: [f64; 3])
     if !row_fits(rig, 0, u.len()) {
         return;
     }
-    let wheels = map.wheel_torques;
-    let thrusters = map.thruster_torques;
-    control_limits::project_row(rig, &wheels, &thrusters, torque_limit, u);
+    control_limits::project_row(
+        rig,
+        &map.wheel_torques,
+        &map.thruster_torques,
+        torque_limit,
+        u,
+    );
 }
 
 // The pyramid's matrix at these gimbal angles; without a pyramid zeros that nothing reads.
-fn matrix(cmgs: Cmgs, delta: [f64; 4]) -> Jacobian
+fn matrix(cmgs: Option<CmgPyramid>, delta: [f64; 4]) -> Result<[f64; 12], Refusal>
     ensures { result ≡ Controls.matrix cmgs delta }
 {
     match cmgs {
-        Cmgs::Without => {
-            let a = [0.0; 12];
-            Jacobian {
-                fate: Fate::Going,
-                a: a,
-            }
-        }
-        Cmgs::With(p) => actuators::pyramid_a(p.skew_rad, delta),
+        None => Ok([0.0; 12]),
+        Some(p) => actuators::pyramid_a(p.skew_rad, delta),
     }
 }
 
-// A torque, or the refusal of the matrix and zeros.
-fn torque_by(fate: Fate, tau: [f64; 3]) -> Torque
-    ensures { result ≡ Controls.torque_by fate tau }
-{
-    match fate {
-        Fate::Going => Torque {
-            fate: Fate::Going,
-            tau: tau,
-        },
-        Fate::Refused(number, place) => {
-            let zero = [0.0; 3];
-            Torque {
-                fate: Fate::Refused(number, place),
-                tau: zero,
-            }
-        }
-    }
-}
-
-// How a row that does not fit the map ends: refused with no actuators, as in the Rust.
-fn short_row(r: Rig) -> Fate
+// The torque of a row that does not fit the map: refused with no actuators, as in the Rust, else zeros.
+fn short_row(r: Rig) -> Result<[f64; 3], Refusal>
     ensures { result ≡ Controls.short_row_value r }
 {
     if control_rows::is_bare(r) {
-        return Fate::Refused(8, 0);
+        return Err(Refusal {
+            number: 8,
+            place: 0,
+        });
     }
-    Fate::Going
+    Ok([0.0; 3])
 }
 
-// The torque of a row: its wheel part, then the thruster part, then the gimbal part. A row that does not fit the map gives zeros, beside refusal 8 where
-// there are no actuators.
+// The torque of a row: its wheel part, then the thruster part, then the gimbal part. A row that does not fit the map is refused with 8 where there are no
+// actuators, else it gives zeros.
 pub fn body_torque(
     map: ActuatorMap,
     u: &[f64],
     omega: [f64; 3],
     h: [f64; 3],
     delta: [f64; 4],
-) -> Torque
+) -> Result<[f64; 3], Refusal>
     ensures { result ≡ Controls.body_torque map u.now omega h delta }
 {
     let rig = rig_of(map);
-    let cmgs = map.cmgs;
-    if !row_fits(rig, actuators::gimbals(cmgs), u.len()) {
-        return torque_by(short_row(rig), [0.0; 3]);
+    if !row_fits(rig, actuators::gimbals(map.cmgs), u.len()) {
+        return short_row(rig);
     }
-    let made = matrix(cmgs, delta);
-    let a = made.a;
-    let fate = made.fate;
-    let wheels = map.wheel_axes;
-    let thrusters = map.thruster_axes;
-    let tau = control_rows::row_torque(rig, &wheels, &thrusters, u, omega, h, a);
-    torque_by(fate, tau)
+    let a = matrix(map.cmgs, delta)?;
+    Ok(control_rows::row_torque(rig, &map.wheel_axes, &map.thruster_axes, u, omega, h, a))
 }

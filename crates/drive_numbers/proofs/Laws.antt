@@ -1,6 +1,6 @@
 -- What a part's number says of the float, and the way back. x is exact x times 2 ^ -1074, and a unit 2 ^ weight of these. Assumes nothing.
 use Rattle.std.proofs.Math.Path.{◌≡◌, refl, subst}
-use Rattle.std.proofs.Common.{sym, ap, ◌∙◌, zero-mul, suc-mul, ltb→lt, nltb→le, pow_pos}
+use Rattle.std.proofs.Common.{sym, ap, ◌∙◌, zero-mul, suc-mul, ltb→lt, nltb→le, pow_pos, Option, Some, None}
 use Rattle.std.specs.Prelude.{◌⊎◌, ℕ, zero, suc, ◌+◌, ◌-◌, ◌*◌, ◌%◌, ◌^◌, ◌≤◌, ◌<◌, Bool, not, ℤ, pos, negsuc, neg_ℤ, nat_abs, ◌-ℤ◌, ◌*ℤ◌, ltb, Float}
 use Rattle.std.proofs.Math.Logic.{inl, inr}
 use native.Mathlib.Omega.{arith}
@@ -12,10 +12,8 @@ use Rattle.std.specs.Float.Ieee.Nearest.{closest}
 use Rattle.std.specs.Float.Ieee.Scale.{finite}
 use Rattle.float_laws.specs.Exact.{exact}
 use Rattle.drive_numbers.specs.declared.Unit.{Unit}
-use Rattle.drive_numbers.specs.declared.Whole.{Whole}
-use Rattle.drive_numbers.specs.declared.Whole.TheVariants as Whole
 use Rattle.drive_numbers.specs.Numbers.{weight, rounded, in_range, whole_in_range, part, read_back_value}
-use Rattle.drive_numbers.specs.Rounding.{apart, Nearest, Numbered}
+use Rattle.drive_numbers.specs.Rounding.{Nearest, Numbered}
 use Rattle.drive_numbers.specs.NearestLaws.{Near, closest_near, near_one}
 use Rattle.drive_numbers.specs.BackLaws.{read_back}
 
@@ -96,66 +94,66 @@ module _ (u : ℕ) (U : 0 < u) where
       none e k = omega arith
 
 -- ---- parts
-whole_in_range_is : (b : Bool) (m n : ℤ) → cond b (Whole.Is m) Whole.Outside ≡ Whole.Is n → T b × (m ≡ n)
+whole_in_range_is : (b : Bool) (m n : ℤ) → cond b (Some m) None ≡ Some n → T b × (m ≡ n)
 whole_in_range_is true m n h = (tt, cc)
 whole_in_range_is false m n h = absurd (none h)
   where
-    none : Whole.Outside ≡ Whole.Is n → ⊥
+    none : None ≡ Some n → ⊥
     none h = let z : ◌≡◌ {A = ℕ} 0 1 = cc in omega arith
 
-by_parts : (b : Bool) (m n : ℤ) → cond b (whole_in_range m) Whole.Outside ≡ Whole.Is n → T b × T (in_range m) × (m ≡ n)
+by_parts : (b : Bool) (m n : ℤ) → cond b (whole_in_range m) None ≡ Some n → T b × T (in_range m) × (m ≡ n)
 by_parts true m n h = let k = whole_in_range_is (in_range m) m n h in (tt, k.0, k.1)
 by_parts false m n h = absurd (whole_in_range_is false m n h).0
 
 module _ (x : Float) (u : Unit) where
-  pub number_says : (n : ℤ) → part x u ≡ Whole.Is n → Numbered x u n
+  pub number_says : (n : ℤ) → part x u ≡ Some n → Numbered x u n
   unfolding part
   number_says n h =
       let k = by_parts (finite x) (rounded (2 ^ weight u) (exact x)) n h in
       record { fine = k.0; in_range_law = subst (λ (z : ℤ). T (in_range z)) k.2 k.1; nearest = subst (λ (z : ℤ). Nearest (2 ^ weight u) z (exact x)) k.2 (rounded_nearest (2 ^ weight u) (pow_pos (weight u)) (exact x)) }
 
-  pub says_number : (n : ℤ) → Numbered x u n → part x u ≡ Whole.Is n
+  pub says_number : (n : ℤ) → Numbered x u n → part x u ≡ Some n
   unfolding part
   says_number n h =
       rw (is_true (finite x) h.fine) (rw (← only_rounded (2 ^ weight u) (pow_pos (weight u)) n (exact x) h.nearest) (rw (is_true (in_range n) h.in_range_law)))
 
   -- outside: no number is right
-  pub outside_says : part x u ≡ Whole.Outside → (n : ℤ) → Numbered x u n → ⊥
+  pub outside_says : part x u ≡ None → (n : ℤ) → Numbered x u n → ⊥
   outside_says h n k = none n (sym h ∙ says_number n k)
     where
-      none : (n : ℤ) → Whole.Outside ≡ Whole.Is n → ⊥
+      none : (n : ℤ) → None ≡ Some n → ⊥
       none n h = let z : ◌≡◌ {A = ℕ} 0 1 = cc in omega arith
 
-  pub says_outside : ((n : ℤ) → Numbered x u n → ⊥) → part x u ≡ Whole.Outside
+  pub says_outside : ((n : ℤ) → Numbered x u n → ⊥) → part x u ≡ None
   says_outside h = by (part x u) (λ n k. h n (number_says n k))
     where
-      by : (w : Whole) → ((n : ℤ) → w ≡ Whole.Is n → ⊥) → w ≡ Whole.Outside
-      by (Whole.Is n) k = absurd (k n refl)
-      by Whole.Outside k = refl
+      by : (w : Option ℤ) → ((n : ℤ) → w ≡ Some n → ⊥) → w ≡ None
+      by (Some n) k = absurd (k n refl)
+      by None k = refl
 
 -- the same by the rule itself: outside exactly where x is not finite or its rounded number is out of range
 module _ (x : Float) (u : Unit) where
   abbrev nearest : ℤ
   nearest = rounded (2 ^ weight u) (exact x)
 
-  pub outside_where : part x u ≡ Whole.Outside → (finite x ≡ false) ⊎ (in_range nearest ≡ false)
+  pub outside_where : part x u ≡ None → (finite x ≡ false) ⊎ (in_range nearest ≡ false)
   unfolding part
   outside_where h = by (finite x) (in_range nearest) h
     where
-      by : (b c : Bool) → cond b (cond c (Whole.Is nearest) Whole.Outside) Whole.Outside ≡ Whole.Outside → (b ≡ false) ⊎ (c ≡ false)
+      by : (b c : Bool) → cond b (cond c (Some nearest) None) None ≡ None → (b ≡ false) ⊎ (c ≡ false)
       by false c k = inl refl
       by true false k = inr refl
       by true true k = absurd (none k)
         where
-          none : Whole.Is nearest ≡ Whole.Outside → ⊥
+          none : Some nearest ≡ None → ⊥
           none k = let z : ◌≡◌ {A = ℕ} 0 1 = cc in omega arith
 
-  pub where_outside : (finite x ≡ false) ⊎ (in_range nearest ≡ false) → part x u ≡ Whole.Outside
+  pub where_outside : (finite x ≡ false) ⊎ (in_range nearest ≡ false) → part x u ≡ None
   unfolding part
   where_outside (inl h) = rw h
   where_outside (inr h) = rw h (by (finite x))
     where
-      by : (b : Bool) → cond b Whole.Outside Whole.Outside ≡ Whole.Outside
+      by : (b : Bool) → cond {A = Option ℤ} b None None ≡ None
       by true = refl
       by false = refl
 
@@ -163,7 +161,7 @@ module _ (x : Float) (u : Unit) where
 pub back_exact : (n : ℤ) (u : Unit) → T (in_range n) → exact (read_back_value n u) ≡ n *ℤ pos (2 ^ weight u)
 back_exact n u h = (read_back n u h).1
 
-pub written_again : (n : ℤ) (u : Unit) → T (in_range n) → part (read_back_value n u) u ≡ Whole.Is n
+pub written_again : (n : ℤ) (u : Unit) → T (in_range n) → part (read_back_value n u) u ≡ Some n
 unfolding part
 written_again n u h =
     rw (is_true (finite (read_back_value n u)) (read_back n u h).0) (rw (back_exact n u h) (rw (rounded_whole (2 ^ weight u) (pow_pos (weight u)) n) (rw (is_true (in_range n) h))))

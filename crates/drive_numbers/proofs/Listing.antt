@@ -1,4 +1,5 @@
 -- A list for the drive board, in the code's steps. Assumes nothing.
+use Rattle.std.specs.Prelude.{Some, None, Ok, Err}
 use Prim.Native.Nat.{ℕ, suc, ◌+◌, ◌<◌, ◌≤◌}
 use mathlib.Core.Path.{◌≡◌, refl, sym, ◌∙◌}
 use mathlib.Core.List.{List, [], ◌∷◌, ◌++◌, append_assoc}
@@ -11,57 +12,53 @@ use lib.Seq.{set_at, drop-cons}
 use lib.Ieee.{Float}
 use Rattle.common.specs.Iter.{iter}
 use Rattle.common.specs.IterLaws.{iter_none, iter_next, iter_stays}
-use Rattle.common.specs.declared.Fate.TheVariants as Fate
 use Rattle.samples.specs.Counts.{sample_count}
-use Rattle.samples.specs.declared.Count.TheVariants as Count
-use Rattle.drive_numbers.specs.declared.Driven.{Driven}
 use Rattle.drive_numbers.specs.declared.lists.Listed.{Listed}
-use Rattle.drive_numbers.specs.Drive.{drive_sample}
-use Rattle.drive_numbers.specs.Lists.{listing_with, onward, listing, drive_list, Lists}
+use Rattle.common.specs.declared.Refusal.{Refusal}
+use Rattle.drive_numbers.specs.Drive.{Driven, drive_sample}
+use Rattle.drive_numbers.specs.Lists.{listing_with, onward, listing, drive_list, not_begun, Lists}
+use Rattle.common.specs.Refusals.{going}
 
 -- k samples have their rows, and the list goes on
 pub record Going (sample : ℕ → Driven) (k : ℕ) (out out' : List (List ℤ)) : Type 0 where
   pub rows : List (List ℤ)
-  pub is : listing_with Fate.Going rows ≡ listing sample k
+  pub is : listing_with going rows ≡ listing sample k
   pub count : length rows ≡ k
   pub left : out' ≡ rows ++ drop k out
 
 pub goes_first : (sample : ℕ → Driven) (out : List (List ℤ)) → Going sample 0 out out
 unfolding listing
-goes_first sample out = record { rows = []; is = iter_none (onward sample) (listing_with Fate.Going []); count = refl; left = refl }
+goes_first sample out = record { rows = []; is = iter_none (onward sample) (listing_with going []); count = refl; left = refl }
 
 module _ (sample : ℕ → Driven) {k : ℕ} {out out' : List (List ℤ)} {d : Driven} (g : Going sample k out out') (e : d ≡ sample k) where
-  pub goes_next : k < length out → d.fate ≡ Fate.Going → Going sample (k + 1) out (set out' k d.numbers)
+  pub goes_next : {row : List ℤ} → k < length out → d ≡ Ok row → Going sample (k + 1) out (set out' k row)
   unfolding listing onward
-  goes_next h f =
+  goes_next {row} h f =
       record {
-        rows = g.rows ++ d.numbers ∷ [];
-        is = iter_next (onward sample) (listing_with Fate.Going []) k g.is (rw (← e, f));
-        count = length-append g.rows (d.numbers ∷ []) ∙ omega (arith, g.count);
+        rows = g.rows ++ row ∷ [];
+        is = iter_next (onward sample) (listing_with going []) k g.is (rw (← e, f));
+        count = length-append g.rows (row ∷ []) ∙ omega (arith, g.count);
         left =
-            rw (g.left, drop-cons out k [] h, add-one k) (set_at g.rows (get_or out k []) (drop (suc k) out) d.numbers k g.count ∙ sym (append_assoc g.rows (d.numbers ∷ []) (drop (suc k) out)));
+            rw (g.left, drop-cons out k [] h, add-one k) (set_at g.rows (get_or out k []) (drop (suc k) out) row k g.count ∙ sym (append_assoc g.rows (row ∷ []) (drop (suc k) out)));
       }
 
-  pub goes_cut : {n p m : ℕ} → k < m → d.fate ≡ Fate.Refused n p → Lists (listing sample m) out (record { fate = Fate.Refused n p; rows = k }) out'
+  pub goes_cut : {why : Refusal} {m : ℕ} → k < m → d ≡ Err why → Lists (listing sample m) out (record { fate = Err why; rows = k }) out'
   unfolding listing onward
-  goes_cut {n} {p} {m} h f =
-      let stopped : listing_with (Fate.Refused n p) g.rows ≡ iter (onward sample) (listing_with Fate.Going []) m = iter_stays (onward sample) (listing_with Fate.Going []) (k + 1) m (omega arith) (iter_next (onward sample) (listing_with Fate.Going []) k g.is (rw (← e, f))) (λ j. refl) in
+  goes_cut {why} {m} h f =
+      let stopped : listing_with (Err why) g.rows ≡ iter (onward sample) (listing_with going []) m = iter_stays (onward sample) (listing_with going []) (k + 1) m (omega arith) (iter_next (onward sample) (listing_with going []) k g.is (rw (← e, f))) (λ j. refl) in
       record { fate = rw (← stopped); count = rw (← stopped) (sym g.count); rows = rw (← stopped, g.count) g.left }
 
-pub goes_whole : (sample : ℕ → Driven) {k : ℕ} {out out' : List (List ℤ)} → Going sample k out out' → Lists (listing sample k) out (record { fate = Fate.Going; rows = k }) out'
+pub goes_whole : (sample : ℕ → Driven) {k : ℕ} {out out' : List (List ℤ)} → Going sample k out out' → Lists (listing sample k) out (record { fate = going; rows = k }) out'
 goes_whole sample g = record { fate = rw (← g.is); count = rw (← g.is) (sym g.count); rows = rw (← g.is, g.count) g.left }
 
 -- ---- the list by its count
 module _ (j : List (List Float)) (tol duration : Float) (nodes : List (List Float)) (requested : ℕ) (alpha : Float) (out : List (List ℤ)) where
-  abbrev told : ℕ → Listed
-  told n = record { fate = Fate.Refused n 0; rows = 0 }
-
-  pub lists_many : sample_count duration requested alpha ≡ Count.TooMany → Lists (drive_list j tol duration nodes requested alpha (length out)) out (told 20) out
+  pub lists_many : sample_count duration requested alpha ≡ None → Lists (drive_list j tol duration nodes requested alpha (length out)) out (not_begun 20) out
   unfolding drive_list
   lists_many e = rw e (record { fate = refl; count = refl; rows = refl })
 
-  module _ {count : ℕ} (e : sample_count duration requested alpha ≡ Count.Of count) where
-    pub lists_short : length out < count → Lists (drive_list j tol duration nodes requested alpha (length out)) out (told 99) out
+  module _ {count : ℕ} (e : sample_count duration requested alpha ≡ Some count) where
+    pub lists_short : length out < count → Lists (drive_list j tol duration nodes requested alpha (length out)) out (not_begun 99) out
     unfolding drive_list
     lists_short h = rw (e, lt-ltb (length out) count h) (record { fate = refl; count = refl; rows = refl })
 

@@ -1,12 +1,12 @@
 -- A part by what code works out: its size against a limit, and the pattern of the size's sum with a power of two. Assumes nothing.
-use Rattle.std.specs.Prelude.{◌≡◌, ℕ, zero, suc, ◌+◌, ◌-◌, ◌*◌, ◌^◌, ◌≤◌, ◌<◌, Bool, not, ℤ, leb, Float}
+use Rattle.std.specs.Prelude.{◌≡◌, ℕ, zero, suc, ◌+◌, ◌-◌, ◌*◌, ◌^◌, ◌≤◌, ◌<◌, Bool, not, ℤ, leb, Float, Some, None}
 use Rattle.std.proofs.Math.Path.{refl, ap, subst}
 use Rattle.std.proofs.Common.{sym, ◌∙◌, le_of_eq, mul-pos, zero-add, lt_of_le_of_lt, mul-one, one-mul, mul_right_comm, mul-lt-mul_of_pos_right, mul-le-mul_right, lt_of_mul-lt-mul_right, le_of_mul-le-mul_right, arith, ltb→lt, nltb→le, le→leb, lit≤, pow-add, pow_pos}
 use Rattle.std.proofs.Math.Nat.{le_trans, lt_of_lt_of_le, zero-mul, eq_of_mul-eq-mul_right}
 use Rattle.std.proofs.Math.Bool.{true, false, cond}
 use Rattle.std.proofs.Math.IntN.{pos, neg_ℤ}
 use Rattle.std.proofs.Math.Dec.{T, ltb}
-use Rattle.std.specs.Float.Ieee.{nan, fin, binary64, up, down, round, neg, sum, add, lt, fits, to_bits, of_bits, is_nan}
+use Rattle.std.specs.Float.Ieee.{nan, fin, binary64, up, down, round, neg, sum, add, lt, fits, to_bits, of_bits}
 use Rattle.std.specs.Float.{inf}
 use Rattle.std.specs.Float.Ieee.Bits.{is_true, is_false}
 use Rattle.std.proofs.Math.Arith.{lt→nleb}
@@ -16,10 +16,7 @@ use Rattle.float.specs.Ops.{abs}
 use Rattle.float_laws.specs.Place.{mag, mag_exact}
 use Rattle.float_laws.specs.Exact.{exact, signed}
 use Rattle.drive_numbers.specs.declared.Unit.{Unit}
-use Rattle.drive_numbers.specs.declared.Unit.TheVariants as Unit
-use Rattle.drive_numbers.specs.declared.Whole.{Whole}
-use Rattle.drive_numbers.specs.declared.Whole.TheVariants as Whole
-use Rattle.drive_numbers.specs.Numbers.{weight, rounded, whole_in_range, placed, part}
+use Rattle.drive_numbers.specs.Numbers.{weight, rounded, whole_in_range, part}
 use Rattle.drive_numbers.specs.Rounding.{Counted}
 use Rattle.drive_numbers.specs.Inner.{size}
 use Rattle.drive_numbers.specs.NearestLaws.{closest_ge, closest_whole}
@@ -84,24 +81,24 @@ from_limit n a d c l D L h k =
 
 -- by the bounds of 32 bits
 module _ (n : ℕ) where
-  pub inside_plus : n ≤ 2 ^ 31 - 1 → Whole.Is (pos n) ≡ whole_in_range (pos n)
+  pub inside_plus : n ≤ 2 ^ 31 - 1 → Some (pos n) ≡ whole_in_range (pos n)
   inside_plus h = rw (is_true (leb n (2 ^ 31 - 1)) (le→leb n (2 ^ 31 - 1) h))
 
-  pub outside_plus : 2 ^ 31 - 1 < n → Whole.Outside ≡ whole_in_range (pos n)
+  pub outside_plus : 2 ^ 31 - 1 < n → None ≡ whole_in_range (pos n)
   outside_plus h = rw (is_false (leb n (2 ^ 31 - 1)) (lt→nleb n (2 ^ 31 - 1) h))
 
-pub inside_minus : (n : ℕ) → n ≤ 2 ^ 31 → Whole.Is (neg_ℤ (pos n)) ≡ whole_in_range (neg_ℤ (pos n))
+pub inside_minus : (n : ℕ) → n ≤ 2 ^ 31 → Some (neg_ℤ (pos n)) ≡ whole_in_range (neg_ℤ (pos n))
 inside_minus zero h = refl
 inside_minus (suc n) h = rw (is_true (leb n (2 ^ 31 - 1)) (le→leb n (2 ^ 31 - 1) (omega arith)))
 
-pub outside_minus : (n : ℕ) → 2 ^ 31 < n → Whole.Outside ≡ whole_in_range (neg_ℤ (pos n))
+pub outside_minus : (n : ℕ) → 2 ^ 31 < n → None ≡ whole_in_range (neg_ℤ (pos n))
 outside_minus zero h = absurd (none h)
   where
     none : 2 ^ 31 < 0 → ⊥
     none h = omega arith
 outside_minus (suc n) h = rw (is_false (leb n (2 ^ 31 - 1)) (lt→nleb n (2 ^ 31 - 1) (omega arith)))
 
-outside : (s : Bool) (n : ℕ) → 2 ^ 32 ≤ n → Whole.Outside ≡ whole_in_range (signed s n)
+outside : (s : Bool) (n : ℕ) → 2 ^ 32 ≤ n → None ≡ whole_in_range (signed s n)
 outside false n h = outside_plus n (omega arith)
 outside true n h = outside_minus n (omega arith)
 
@@ -140,7 +137,7 @@ module _ (u : Unit) (b c : ℕ) (B : b + 1074 ≡ 32 + weight u) (C : c + 1074 �
           is = ap (λ (z : ℕ). whole_in_range (signed (lt (fin s m e) (of_bits binary64 0)) z)) d ∙ ap whole_in_range (sign_is m e (2 ^ weight u) (pow_pos (weight u)) s F) ∙ sym (part_fin s m e u);
         }
 
-    outside_fin : lt (fin false m e) (fin false 1 (pos b)) ≡ false → Whole.Outside ≡ part (fin s m e) u
+    outside_fin : lt (fin false m e) (fin false 1 (pos b)) ≡ false → None ≡ part (fin s m e) u
     outside_fin h = outside s n (closest_ge a (2 ^ weight u) (2 ^ 32) (pow_pos (weight u)) (beyond h)) ∙ sym (part_fin s m e u)
 
   pub counted : (x : Float) → T (fits binary64 x) → lt (abs x) (fin false 1 (pos b)) ≡ true → Counted x (add binary64 (abs x) (fin false 1 (pos c))) (suc (weight u) * 2 ^ 52) u
@@ -155,7 +152,7 @@ module _ (u : Unit) (b c : ℕ) (B : b + 1074 ≡ 32 + weight u) (C : c + 1074 �
       no h = subst (λ (t : Bool). T (not t)) h tt
   counted (fin s m e) F h = counted_fin s m e F h
 
-  pub uncounted : (x : Float) → T (fits binary64 x) → lt (abs x) (fin false 1 (pos b)) ≡ false → Whole.Outside ≡ part x u
+  pub uncounted : (x : Float) → T (fits binary64 x) → lt (abs x) (fin false 1 (pos b)) ≡ false → None ≡ part x u
   unfolding abs
   uncounted nan F h = unfold part in refl
   uncounted (inf s) F h = unfold part in refl
@@ -236,7 +233,7 @@ module _ (x : Float) (F : T (fits binary64 x)) (u : Unit) (b c : ℕ) (B : b + 1
   size_counted : lt (size x) (fin false 1 (pos b)) ≡ true → Counted x (add binary64 (size x) (fin false 1 (pos c))) (suc (weight u) * 2 ^ 52) u
   size_counted h = subst (λ (z : Float). Counted x z (suc (weight u) * 2 ^ 52) u) (sym (size_add x c)) (counted u b c B C K x F (sym (size-lt x b) ∙ h))
 
-  size_outside : lt (size x) (fin false 1 (pos b)) ≡ false → Whole.Outside ≡ part x u
+  size_outside : lt (size x) (fin false 1 (pos b)) ≡ false → None ≡ part x u
   size_outside h = uncounted u b c B C K x F (sym (size-lt x b) ∙ h)
 
 module _ (x a : Float) (F : T (fits binary64 x)) (q : a ≡ size x) where
@@ -245,7 +242,7 @@ module _ (x a : Float) (F : T (fits binary64 x)) (q : a ≡ size x) where
   is_counted Unit.Fine h = rw q (size_counted x F Unit.Fine 2 22 refl refl (lit≤ tt) (rw q at h))
   is_counted Unit.Coarse h = rw q (size_counted x F Unit.Coarse 12 32 refl refl (lit≤ tt) (rw q at h))
 
-  pub is_outside : (u : Unit) → lt a (of_bits binary64 (limit u)) ≡ false → Whole.Outside ≡ part x u
+  pub is_outside : (u : Unit) → lt a (of_bits binary64 (limit u)) ≡ false → None ≡ part x u
   unfolding of_bits
   is_outside Unit.Fine h = size_outside x F Unit.Fine 2 22 refl refl (lit≤ tt) (rw q at h)
   is_outside Unit.Coarse h = size_outside x F Unit.Coarse 12 32 refl refl (lit≤ tt) (rw q at h)

@@ -1,39 +1,33 @@
 -- A dense sample as the drive board takes it: 13 numbers, or a refusal. Definitions only.
-use Rattle.std.specs.Prelude.{ℕ, Bool, true, false, cond, ◌&&◌, List, [], ◌∷◌, replicate, ℤ, pos, Float}
+use Rattle.std.specs.Prelude.{ℕ, Bool, true, false, cond, ◌&&◌, List, [], ◌∷◌, replicate, ℤ, pos, Float, Option, Some, None, Result, Ok, Err}
 use Rattle.common.specs.Answer.{Answer, Given, Refused}
 use Rattle.common.specs.Lists.{at}
-use Rattle.common.specs.declared.Fate.{Fate}
-use Rattle.common.specs.declared.Fate.TheVariants as Fate
-use Rattle.geom.specs.Answers.{of_fate}
-use Rattle.samples.specs.Samples.{sample}
+use Rattle.samples.specs.Samples.{Sampled, sample}
 use Rattle.samples.specs.declared.PathSample.{PathSample}
-use Rattle.samples.specs.declared.Sampled.{Sampled}
 use Rattle.drive_numbers.specs.declared.Unit.{Unit}
-use Rattle.drive_numbers.specs.declared.Unit.TheVariants as Unit
-use Rattle.drive_numbers.specs.declared.Whole.{Whole}
-use Rattle.drive_numbers.specs.declared.Whole.TheVariants as Whole
-use Rattle.drive_numbers.specs.declared.Driven.{Driven}
 use Rattle.drive_numbers.specs.Numbers.{part}
+use Rattle.common.specs.Refusals.{refusal}
+use Rattle.common.specs.declared.Refusal.{Refusal}
 
 -- whether there is a number, and the number, or 0
-abbrev pub inside : Whole → Bool
-inside (Whole.Is n) = true
-inside Whole.Outside = false
+abbrev pub inside : Option ℤ → Bool
+inside (Some n) = true
+inside None = false
 
-abbrev pub number : Whole → ℤ
-number (Whole.Is n) = n
-number Whole.Outside = pos 0
+abbrev pub number : Option ℤ → ℤ
+number (Some n) = n
+number None = pos 0
 
 -- whether all are inside, and their numbers
-abbrev pub all : List Whole → Bool
+abbrev pub all : List (Option ℤ) → Bool
 all [] = true
 all (w ∷ ws) = inside w && all ws
 
-abbrev pub numbers : List Whole → List ℤ
+abbrev pub numbers : List (Option ℤ) → List ℤ
 numbers [] = []
 numbers (w ∷ ws) = number w ∷ numbers ws
 
-abbrev pub wholes : List (Float × Unit) → List Whole
+abbrev pub wholes : List (Float × Unit) → List (Option ℤ)
 wholes [] = []
 wholes (m ∷ ms) = part m.0 m.1 ∷ wholes ms
 
@@ -46,23 +40,24 @@ parts s =
     ∷ (at s.h 0, Unit.Coarse) ∷ (at s.h 1, Unit.Coarse) ∷ (at s.h 2, Unit.Coarse)
     ∷ []
 
+-- what a sample gives: its 13 numbers, or a refusal
+abbrev pub Driven : Type 0
+Driven = Result (List ℤ) Refusal
+
 abbrev pub refused : ℕ → ℕ → Driven
-refused n place = record { fate = Fate.Refused n place; numbers = replicate 13 (pos 0) }
+refused n place = Err (refusal n place)
 
 abbrev pub given : List ℤ → Driven
-given ns = record { fate = Fate.Going; numbers = ns }
+given ns = Ok ns
 
 -- a sample's 13 numbers, or 24 at the sample
 unfoldable pub numbered : PathSample → ℕ → Driven
 numbered s index = cond (all (wholes (parts s))) (given (numbers (wholes (parts s)))) (refused 24 index)
 
-abbrev pub driven_by : Fate → PathSample → ℕ → Driven
-driven_by (Fate.Refused n place) s index = refused n place
-driven_by Fate.Going s index = numbered s index
-
 -- the sample that was asked for under this number: its own refusal, 20, 5 or 11, or 24, or its numbers
-unfoldable pub drive : Sampled → ℕ → Driven
-drive s index = driven_by s.fate s.sample index
+abbrev pub drive : Sampled → ℕ → Driven
+drive (Err why) index = Err why
+drive (Ok s) index = numbered s index
 
 -- sample number index of a path
 unfoldable pub drive_sample : List (List Float) → Float → Float → List (List Float) → ℕ → Float → ℕ → Driven
@@ -70,9 +65,15 @@ drive_sample j tol duration nodes requested alpha index = drive (sample j tol du
 
 -- in the specification's numbers, before any run
 abbrev pub of_driven : Driven → Answer (List ℤ)
-of_driven d = of_fate d.numbers d.fate
+of_driven (Ok ns) = Given ns
+of_driven (Err why) = Refused why.number why.place 0
+
+-- its numbers, or zeros beside a refusal
+abbrev pub numbers_or_zeros : Driven → List ℤ
+numbers_or_zeros (Ok ns) = ns
+numbers_or_zeros (Err why) = replicate 13 (pos 0)
 
 -- a part's number, or 24 at place 0
-abbrev pub of_whole : Whole → Answer ℤ
-of_whole (Whole.Is n) = Given n
-of_whole Whole.Outside = Refused 24 0 0
+abbrev pub of_whole : Option ℤ → Answer ℤ
+of_whole (Some n) = Given n
+of_whole None = Refused 24 0 0

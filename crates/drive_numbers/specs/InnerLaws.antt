@@ -1,8 +1,7 @@
 -- A sample's parts are inside where those of its rows are. Assumes nothing.
-use Rattle.std.specs.Prelude.{◌≡◌, refl, Bool, true, false, ◌&&◌, List, [], ◌∷◌, ◌++◌}
+use Rattle.std.specs.Prelude.{◌≡◌, refl, Bool, true, false, ◌&&◌, List, [], ◌∷◌, ◌++◌, Option, ℤ}
 use Rattle.std.proofs.Common.{ap, ◌∙◌}
 use Rattle.samples.specs.declared.PathSample.{PathSample}
-use Rattle.drive_numbers.specs.declared.Whole.{Whole}
 use Rattle.drive_numbers.specs.Drive.{inside, all, wholes, parts}
 use Rattle.drive_numbers.specs.Inner.{attitude, vector}
 
@@ -14,7 +13,7 @@ and_assoc : (a b c : Bool) → a && (b && c) ≡ (a && b) && c
 and_assoc true b c = refl
 and_assoc false b c = refl
 
-all_join : (xs ys : List Whole) → all (xs ++ ys) ≡ all xs && all ys
+all_join : (xs ys : List (Option ℤ)) → all (xs ++ ys) ≡ all xs && all ys
 all_join [] ys = refl
 all_join (x ∷ xs) ys = ap (λ (b : Bool). inside x && b) (all_join xs ys) ∙ and_assoc (inside x) (all xs) (all ys)
 

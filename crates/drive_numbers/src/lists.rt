@@ -1,16 +1,16 @@
 // A path's whole list of samples for the drive board, into lent memory.
-ghost use Rattle.std.specs.Prelude.{length, ◌≤◌};
+ghost use Rattle.std.specs.Prelude.{◌≡◌, length, ◌≤◌};
 ghost use Rattle.drive_numbers.specs.Drive as Drive;
 ghost use Rattle.drive_numbers.specs.Lists as Lists;
 
 use super::drive_sample;
-use common::{Fate, SOLVER_NODES};
-use samples::{Count, sample_count};
+use common::{Refusal, SOLVER_NODES};
+use samples::sample_count;
 
-// How a list ended, and how many rows it has.
+// How a list ended, and how many rows it has. No Result: rows are counted beside a refusal too, those before the refused sample.
 #[derive(Clone, Copy)]
 pub struct Listed {
-    pub fate: Fate,
+    pub fate: Result<(), Refusal>,
     pub rows: usize,
 }
 
@@ -29,26 +29,30 @@ fn put_rows(
     ensures { Lists.Lists (Lists.listing (Drive.drive_sample inertia tolerance duration nodes.now requested alpha) count)
         out.old result out.new }
 {
-    let mut k: usize = 0;
-    while k < count {
-        let d = drive_sample(inertia, tolerance, duration, nodes, requested, alpha, k);
-        let fate = d.fate;
-        let row = d.numbers;
-        match fate {
-            Fate::Refused(n, p) => {
+    for k in 0..count {
+        match drive_sample(inertia, tolerance, duration, nodes, requested, alpha, k) {
+            Err(why) => {
                 return Listed {
-                    fate: Fate::Refused(n, p),
+                    fate: Err(why),
                     rows: k,
                 };
             }
-            Fate::Going => {}
+            Ok(row) => out[k] = row,
         }
-        out[k] = row;
-        k += 1;
     }
     Listed {
-        fate: Fate::Going,
-        rows: k,
+        fate: Ok(()),
+        rows: count,
+    }
+}
+
+// A refusal before the first row.
+fn not_begun(number: usize) -> Listed
+    ensures { result ≡ Lists.not_begun number }
+{
+    Listed {
+        fate: Err(Refusal { number, place: 0 }),
+        rows: 0,
     }
 }
 
@@ -65,22 +69,13 @@ pub fn drive_list(
     ensures { Lists.Lists (Lists.drive_list inertia tolerance duration nodes.now requested alpha (length out.old))
         out.old result out.new }
 {
-    let counted = sample_count(duration, requested, alpha);
-    match counted {
-        Count::TooMany => Listed {
-            fate: Fate::Refused(20, 0),
-            rows: 0,
-        },
-        Count::Of(count) => {
-            if count > out.len() {
-                return Listed {
-                    fate: Fate::Refused(99, 0),
-                    rows: 0,
-                };
-            }
-            put_rows(
-                inertia, tolerance, duration, nodes, requested, alpha, count, out,
-            )
-        }
+    let Some(count) = sample_count(duration, requested, alpha) else {
+        return not_begun(20);
+    };
+    if count > out.len() {
+        return not_begun(99);
     }
+    put_rows(
+        inertia, tolerance, duration, nodes, requested, alpha, count, out,
+    )
 }

@@ -1,23 +1,22 @@
 -- How many forward runs an eigenaxis plan begins: at most 29 tries of 7,802 runs each. Assumes nothing.
 use Prim.Native.Nat.{ℕ, zero, suc, ◌+◌, ◌*◌, ◌≤◌}
-use Rattle.std.specs.Prelude.{◌≡◌, Bool, true, false, cond, Float}
+use Rattle.std.specs.Prelude.{◌≡◌, Bool, true, false, cond, Float, Ok, Err}
 use native.Mathlib.Omega.{arith}
 use Rattle.std.proofs.Math.Nat.{suc-mul}
 use Rattle.common.specs.Iter.{iter}
-use Rattle.common.specs.declared.Fate.{Fate}
-use Rattle.common.specs.declared.Fate.TheVariants.{Going, Refused}
 use Rattle.problem.specs.declared.Problem.{Problem}
 use Rattle.planner.specs.RunsMost.{plan_from_most}
 use Rattle.eigenaxis_seed.specs.declared.Shape.{Shape}
 use Rattle.eigenaxis_seed.specs.declared.Seeding.{Seeding}
 use Rattle.eigenaxis.specs.Ladders as Ladders
 use Rattle.eigenaxis.specs.declared.Ladder.{Ladder}
+use Rattle.common.specs.Refusals.{Fate}
 
 -- ---- the ladder
 module _ (q : Problem) (shape : Shape) (size : ℕ) where
   rung_by_law : (e : Fate) (s : Ladder) (t : Float) (z : Seeding) → (Ladders.rung_by e s t (Ladders.tried q size t z)).runs ≤ s.runs + 7802
-  rung_by_law Going s t z = omega (arith, plan_from_most q size t z.rates z.torques)
-  rung_by_law (Refused n k) s t z = omega (arith, plan_from_most q size t z.rates z.torques)
+  rung_by_law (Ok _) s t z = omega (arith, plan_from_most q size t z.rates z.torques)
+  rung_by_law (Err why) s t z = omega (arith, plan_from_most q size t z.rates z.torques)
 
   rung_of_law : (b : Bool) (s : Ladder) (t : Float) (z : Seeding) → (Ladders.rung_of b q size s t z).runs ≤ s.runs + 7802
   rung_of_law true s t z = rung_by_law (Ladders.tried q size t z).fate s t z
@@ -36,8 +35,8 @@ module _ (q : Problem) (shape : Shape) (size : ℕ) where
   climb_turn_most k s = climb_by s.climbing s
 
   narrow_by_law : (e : Fate) (s : Ladder) → (Ladders.narrow_by e q shape size s).runs ≤ s.runs + 7802
-  narrow_by_law Going s = rung_most s _
-  narrow_by_law (Refused n k) s = omega arith
+  narrow_by_law (Ok _) s = rung_most s _
+  narrow_by_law (Err why) s = omega arith
 
   pub narrow_turn_most : (k : ℕ) (s : Ladder) → (Ladders.narrow_turn q shape size k s).runs ≤ s.runs + 7802
   unfolding Ladders.narrow_turn

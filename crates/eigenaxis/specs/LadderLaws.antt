@@ -1,11 +1,9 @@
 -- Laws of what tries keep, in the code's steps. Assumes nothing.
-use Rattle.std.specs.Prelude.{ℕ, ◌≡◌, Bool, true, false, List, Float}
+use Rattle.std.specs.Prelude.{ℕ, ◌≡◌, Bool, true, false, List, Float, Err}
 use Rattle.std.proofs.Math.Path.{refl, sym, ap}
 use Rattle.std.proofs.Common.{◌∙◌}
 use Rattle.std.proofs.Math.Bool.{cond}
 use Rattle.common.specs.Iter.{iter}
-use Rattle.common.specs.declared.Fate.{Fate}
-use Rattle.common.specs.declared.Fate.TheVariants.{Going, Refused}
 use Rattle.problem.specs.Problems.{check}
 use Rattle.problem.specs.declared.Problem.{Problem}
 use Rattle.planner.specs.Plans as Plans
@@ -18,6 +16,7 @@ use Rattle.eigenaxis_seed.specs.declared.Seeding.{Seeding}
 use Rattle.eigenaxis.specs.Ladders as Ladders
 use Rattle.eigenaxis.specs.Keeps.{Keeps, Begins}
 use Rattle.eigenaxis.specs.declared.Ladder.{Ladder}
+use Rattle.common.specs.Refusals.{Fate, refusal, going}
 
 -- nothing was done
 pub keeps_same : (q : Problem) (shape : Shape) {s r : Ladder} {ws : List Float} → r ≡ s → Keeps q shape s r ws ws
@@ -57,10 +56,10 @@ module _ (q : Problem) (shape : Shape) (size : ℕ) (s : Ladder) where
       judged : Ladders.rung_by x.fate s t x ≡ Ladders.rung q shape size s t
       judged = ap (λ (y : Planned). Ladders.rung_by y.fate s t y) answer ∙ sym (ap (λ (b : Bool). Ladders.rung_of b q size s t z) fits) ∙ opened
 
-      pub rung_refused : {n k : ℕ} → x.fate ≡ Refused n k → Ladders.passed s t x.runs ≡ Ladders.rung q shape size s t
+      pub rung_refused : {n k : ℕ} → x.fate ≡ Err (refusal n k) → Ladders.passed s t x.runs ≡ Ladders.rung q shape size s t
       rung_refused h = sym (ap (λ (e : Fate). Ladders.rung_by e s t x) h) ∙ judged
 
-      pub rung_reached : x.fate ≡ Going → Ladders.reached s t x ≡ Ladders.rung q shape size s t
+      pub rung_reached : x.fate ≡ going → Ladders.reached s t x ≡ Ladders.rung q shape size s t
       rung_reached h = sym (ap (λ (e : Fate). Ladders.rung_by e s t x) h) ∙ judged
 
   pub climb_goes : (k : ℕ) → s.climbing ≡ true → Ladders.rung q shape size s s.next ≡ Ladders.climb_turn q shape size k s
@@ -71,11 +70,11 @@ module _ (q : Problem) (shape : Shape) (size : ℕ) (s : Ladder) where
   unfolding Ladders.climb_turn
   climb_stays k h = sym (ap (λ (b : Bool). cond b (Ladders.rung q shape size s s.next) s) h)
 
-  pub narrow_goes : (k : ℕ) {m : Float} → m ≡ Ladders.middle s → s.planned.fate ≡ Going → Ladders.rung q shape size s m ≡ Ladders.narrow_turn q shape size k s
+  pub narrow_goes : (k : ℕ) {m : Float} → m ≡ Ladders.middle s → s.planned.fate ≡ going → Ladders.rung q shape size s m ≡ Ladders.narrow_turn q shape size k s
   unfolding Ladders.narrow_turn
   narrow_goes k e h = ap (λ (t : Float). Ladders.rung q shape size s t) e ∙ sym (ap (λ (f : Fate). Ladders.narrow_by f q shape size s) h)
 
-  pub narrow_stays : (k : ℕ) {n j : ℕ} → s.planned.fate ≡ Refused n j → s ≡ Ladders.narrow_turn q shape size k s
+  pub narrow_stays : (k : ℕ) {n j : ℕ} → s.planned.fate ≡ Err (refusal n j) → s ≡ Ladders.narrow_turn q shape size k s
   unfolding Ladders.narrow_turn
   narrow_stays k h = sym (ap (λ (f : Fate). Ladders.narrow_by f q shape size s) h)
 

@@ -1,11 +1,9 @@
 -- The ladder of durations: which are tried, in which order, and the answer that stands at the end. Definitions only.
-use Rattle.std.specs.Prelude.{ℕ, ◌+◌, Bool, true, false, cond, eqb, Float}
+use Rattle.std.specs.Prelude.{ℕ, ◌+◌, Bool, true, false, cond, eqb, Float, Ok, Err}
 use Rattle.std.specs.Float.{binary64}
 use Rattle.std.specs.Float.Ieee.{add, mul, of_bits}
 use Rattle.common.specs.Floats.{plus_zero}
 use Rattle.common.specs.Iter.{iter}
-use Rattle.common.specs.declared.Fate.{Fate}
-use Rattle.common.specs.declared.Fate.TheVariants.{Going, Refused}
 use Rattle.geom.specs.Vec.{half, two}
 use Rattle.problem.specs.Problems.{check}
 use Rattle.problem.specs.declared.Problem.{Problem}
@@ -16,6 +14,7 @@ use Rattle.eigenaxis_seed.specs.declared.Shape.{Shape}
 use Rattle.eigenaxis_seed.specs.declared.Seeding.{Seeding}
 use Rattle.eigenaxis.specs.declared.Ladder.{Ladder}
 use Rattle.eigenaxis.specs.declared.Eigenaxis.{Eigenaxis}
+use Rattle.common.specs.Refusals.{Fate}
 
 -- the problem with its weights at 0: nothing reads those that the user gives
 unfoldable pub unweighted : Problem → Problem
@@ -51,8 +50,8 @@ abbrev pub reached : Ladder → Float → Planned → Ladder
 reached s t r = record { climbing = false; low = s.low; next = s.next; at = t; runs = s.runs + r.runs; planned = r }
 
 abbrev pub rung_by : Fate → Ladder → Float → Planned → Ladder
-rung_by Going s t r = reached s t r
-rung_by (Refused n k) s t r = passed s t r.runs
+rung_by (Ok _) s t r = reached s t r
+rung_by (Err why) s t r = passed s t r.runs
 
 -- a seed that would be held to a limit is passed over: it cannot land
 abbrev pub rung_of : Bool → Problem → ℕ → Ladder → Float → Seeding → Ladder
@@ -91,8 +90,8 @@ middle s = mul binary64 half (add binary64 s.low s.at)
 
 -- the narrowing
 abbrev pub narrow_by : Fate → Problem → Shape → ℕ → Ladder → Ladder
-narrow_by Going q shape size s = rung q shape size s (middle s)
-narrow_by (Refused n k) q shape size s = s
+narrow_by (Ok _) q shape size s = rung q shape size s (middle s)
+narrow_by (Err why) q shape size s = s
 
 unfoldable pub narrow_turn : Problem → Shape → ℕ → ℕ → Ladder → Ladder
 narrow_turn q shape size k s = narrow_by s.planned.fate q shape size s

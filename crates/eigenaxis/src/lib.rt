@@ -10,7 +10,6 @@ ghost use Rattle.problem.specs.Problems as Problems;
 ghost use Rattle.eigenaxis.specs.Ladders as Ladders;
 ghost use Rattle.eigenaxis.specs.Keeps as Keeps;
 
-use common::Fate;
 use eigenaxis_seed::{Seeding, Shape, seed, turn_of};
 use planner::{Planned, plan_from};
 use problem::{Problem, Weights, check};
@@ -132,8 +131,8 @@ fn rung(q: Problem, shape: Shape, s: Ladder, t: f64, ws: &mut [f64]) -> Ladder
     let planned = tried(q, t, seeding, ws);
     let fate = planned.fate;
     match fate {
-        Fate::Refused(_, _) => passed(s, t, planned.runs),
-        Fate::Going => reached(s, t, planned),
+        Err(_) => passed(s, t, planned.runs),
+        Ok(()) => reached(s, t, planned),
     }
 }
 
@@ -155,10 +154,8 @@ fn climb(q: Problem, shape: Shape, first: Ladder, ws: &mut [f64]) -> Ladder
         × Keeps.Keeps q shape first result ws.old ws.new }
 {
     let mut s = first;
-    let mut k: usize = 0;
-    while k < 20 {
+    for _ in 0..20usize {
         s = climb_turn(q, shape, s, ws);
-        k += 1;
     }
     s
 }
@@ -178,8 +175,8 @@ fn narrow_turn(q: Problem, shape: Shape, s: Ladder, ws: &mut [f64]) -> Ladder
     let planned = s.planned;
     let fate = planned.fate;
     match fate {
-        Fate::Refused(_, _) => s,
-        Fate::Going => rung(q, shape, s, middle(s), ws),
+        Err(_) => s,
+        Ok(()) => rung(q, shape, s, middle(s), ws),
     }
 }
 
@@ -190,10 +187,8 @@ fn narrow(q: Problem, shape: Shape, first: Ladder, ws: &mut [f64]) -> Ladder
         × Keeps.Keeps q shape first result ws.old ws.new }
 {
     let mut s = first;
-    let mut k: usize = 0;
-    while k < 8 {
+    for _ in 0..8usize {
         s = narrow_turn(q, shape, s, ws);
-        k += 1;
     }
     s
 }

@@ -25,14 +25,8 @@ pub fn steepest(nodes: [Node; SOLVER_NODES], dt: f64) -> f64
     ensures { result ≡ Courses.steepest nodes dt }
 {
     let mut a = 0.0;
-    let mut k: usize = 0;
-    while k < 16 {
-        let node = nodes[k];
-        let next = nodes[k + 1];
-        let w = node.w;
-        let w2 = next.w;
-        a = steeper(w, w2, dt, a);
-        k += 1;
+    for k in 0..16 {
+        a = steeper(nodes[k].w, nodes[k + 1].w, dt, a);
     }
     a
 }

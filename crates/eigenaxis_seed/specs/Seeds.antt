@@ -1,6 +1,6 @@
 -- The eigenaxis seed: for each of the 16 steps the torque that takes the rate reached so far to the next rate of the shape. The motion is followed by the step law's
 -- own operations (controls `Controls`, forward `Steps`), on the row that the planner runs: allocated and held to its limits. Definitions only.
-use Rattle.std.specs.Prelude.{ℕ, ◌+◌, ◌*◌, Bool, true, false, cond, List, [], ◌∷◌, set, replicate, Float}
+use Rattle.std.specs.Prelude.{ℕ, ◌+◌, ◌*◌, Bool, true, false, cond, List, [], ◌∷◌, set, replicate, Float, Option, Some, None}
 use Rattle.std.specs.Float.{binary64}
 use Rattle.std.specs.Float.Ieee.{add, mul, div, neg, eq}
 use Rattle.common.specs.Floats as Floats
@@ -9,14 +9,10 @@ use Rattle.common.specs.Lists.{at}
 use Rattle.geom.specs.Vec as Vec
 use Rattle.geom.specs.Vec.{row}
 use Rattle.geom.specs.Quats.{norm3, rotation_between}
-use Rattle.geom.specs.Tensors.{invert3}
-use Rattle.geom.specs.declared.Rotation.{Rotation}
-use Rattle.geom.specs.declared.Rotation.TheVariants as Rotation
-use Rattle.actuators.specs.Allocate.{allocate}
+use Rattle.geom.specs.Tensors.{invert3, inverse_or_zeros}
+use Rattle.actuators.specs.Allocate.{allocate, row_or_zeros}
 use Rattle.actuators.specs.Pyramid as Pyramid
 use Rattle.actuators.specs.declared.CmgPyramid.{CmgPyramid}
-use Rattle.actuators.specs.declared.Cmgs.{Cmgs}
-use Rattle.actuators.specs.declared.Cmgs.TheVariants.{Without, With}
 use Rattle.controls.specs.Controls as Controls
 use Rattle.problem.specs.declared.CheckedProblem.{CheckedProblem}
 use Rattle.forward.specs.Steps.{rate_dot, rate_next, gimbals_next}
@@ -26,9 +22,9 @@ use Rattle.eigenaxis_seed.specs.declared.Motion.{Motion}
 use Rattle.eigenaxis_seed.specs.declared.Seeding.{Seeding}
 
 -- a rotation vector; zeros where there is none, which no two normalized attitudes have
-abbrev pub vector_of : Rotation → List Float
-vector_of Rotation.Outside = Vec.zero3
-vector_of (Rotation.By x y z) = x ∷ y ∷ z ∷ []
+abbrev pub vector_of : Option (Float × Float × Float) → List Float
+vector_of None = Vec.zero3
+vector_of (Some (x, y, z)) = x ∷ y ∷ z ∷ []
 
 -- the turn from q0 to qf as a rotation vector, the shorter way round; a half turn has one too, and no turn has zeros
 unfoldable pub turn_of : CheckedProblem → List Float
@@ -56,19 +52,19 @@ mixed a b = against (row a 0) b ∷ against (row a 1) b ∷ against (row a 2) b 
 -- The allocation takes a torque to gimbal rates A(0)ᵀ y as if the gimbals stood at 0; at the angles d these give -h A(d) A(0)ᵀ y. That is solved for y, and
 -- -h A(0) A(0)ᵀ y is what the allocation must be handed. Where there is no y, it is zeros.
 unfoldable pub pyramid_share : Float → List (List Float) → List (List Float) → List Float → List Float
-pyramid_share momentum a a0 net = Vec.apply_tensor (Vec.tensor (invert3 (mixed a a0)).m) (Vec.scale3 net (div binary64 Vec.minus_one momentum))
+pyramid_share momentum a a0 net = Vec.apply_tensor (Vec.tensor (inverse_or_zeros (invert3 (mixed a a0)))) (Vec.scale3 net (div binary64 Vec.minus_one momentum))
 
 unfoldable pub pyramid_by : Float → List (List Float) → List (List Float) → List Float → List Float
 pyramid_by momentum a a0 net = Vec.scale3 (Vec.apply_tensor (Pyramid.gram a0) (pyramid_share momentum a a0 net)) (neg momentum)
 
 abbrev pub pyramid_torque : CmgPyramid → List Float → List Float → List Float
 pyramid_torque p d net =
-    pyramid_by p.wheel_momentum_nms (Pyramid.rows (Pyramid.pyramid_a p.skew_rad d).a) (Pyramid.rows (Pyramid.pyramid_a p.skew_rad (replicate 4 Floats.plus_zero)).a) net
+    pyramid_by p.wheel_momentum_nms (Pyramid.rows (Pyramid.matrix_or_zeros (Pyramid.pyramid_a p.skew_rad d))) (Pyramid.rows (Pyramid.matrix_or_zeros (Pyramid.pyramid_a p.skew_rad (replicate 4 Floats.plus_zero)))) net
 
 -- what the allocation must be handed so that the step has the torque net
-abbrev pub handed : Cmgs → List Float → List Float → List Float
-handed Without d net = net
-handed (With p) d net = pyramid_torque p d net
+abbrev pub handed : Option CmgPyramid → List Float → List Float → List Float
+handed None d net = net
+handed (Some p) d net = pyramid_torque p d net
 
 -- the seed's torque
 unfoldable pub seed_torque : CheckedProblem → Float → List Float → Motion → List Float
@@ -77,7 +73,7 @@ seed_torque p dt target m = handed p.map.cmgs m.delta (net_torque p dt target m)
 -- ---- the row of a torque, and the motion that it makes
 
 abbrev pub row_of : CheckedProblem → List Float → List Float
-row_of p torque = (allocate p.map torque).u
+row_of p torque = row_or_zeros (allocate p.map torque)
 
 abbrev pub held_row : CheckedProblem → List Float → List Float
 held_row p u = Controls.project_controls p.map p.torque_limit u
@@ -98,7 +94,7 @@ charged hw rates dt =
 -- the rate at the end of a step with the row u
 unfoldable pub rate_after : CheckedProblem → Float → List Float → Motion → List Float
 rate_after p dt u m =
-    rate_next m.w (rate_dot p.inertia p.inverse m.w m.h (Controls.body_torque p.map u m.w m.h m.delta).tau) dt
+    rate_next m.w (rate_dot p.inertia p.inverse m.w m.h (Controls.torque_or_zeros (Controls.body_torque p.map u m.w m.h m.delta))) dt
 
 -- the momenta at its end
 unfoldable pub momenta_after : CheckedProblem → Float → List Float → Motion → List Float

@@ -1,10 +1,8 @@
 -- How the rate goes about the axis of the turn: 17 heights, in whole numbers, one a node. Definitions only.
-use Rattle.std.specs.Prelude.{ℕ, ◌-◌, ◌*◌, cond, List, [], ◌∷◌, get_or, pos, Float, ltb}
+use Rattle.std.specs.Prelude.{ℕ, ◌-◌, ◌*◌, cond, List, [], ◌∷◌, get_or, pos, Float, ltb, Option, Some, None}
 use Rattle.std.specs.Float.{binary64}
 use Rattle.std.specs.Float.Ieee.{mul, div, lt, of_int, of_bits}
 use Rattle.common.specs.Iter.{iter}
-use Rattle.common.specs.declared.Limit.{Limit}
-use Rattle.common.specs.declared.Limit.TheVariants.{Nothing, At}
 use Rattle.eigenaxis_seed.specs.declared.Shape.{Shape}
 use Rattle.eigenaxis_seed.specs.declared.Shape.TheVariants.{Fastest, Gentle}
 
@@ -43,6 +41,6 @@ abbrev pub rising_turn : Float → Float → Float → ℕ → ℕ → ℕ
 rising_turn limit angle duration i k = fewer_rising limit angle duration k
 
 -- the rising steps of a turn by this angle: 8, or fewer, down to 1, where the slew limit asks for a coast
-abbrev pub rising : Limit → Float → Float → ℕ
-rising Nothing angle duration = 8
-rising (At limit) angle duration = iter (rising_turn limit angle duration) 8 7
+abbrev pub rising : Option Float → Float → Float → ℕ
+rising None angle duration = 8
+rising (Some limit) angle duration = iter (rising_turn limit angle duration) 8 7

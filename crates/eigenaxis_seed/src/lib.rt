@@ -8,9 +8,8 @@ ghost use Rattle.actuators.specs.Pyramid as Pyramid;
 ghost use Rattle.eigenaxis_seed.specs.Shapes as Shapes;
 ghost use Rattle.eigenaxis_seed.specs.Seeds as Seeds;
 
-use actuators::{ActuatorMap, CmgPyramid, Cmgs, allocate_body_torque, pyramid_a};
-use common::{Limit, STEPS};
-use geom::Rotation;
+use actuators::{ActuatorMap, CmgPyramid, allocate_body_torque, pyramid_a};
+use common::STEPS;
 use problem::CheckedProblem;
 
 // How the rate goes about the axis: up, level and down, as short as the limits allow; or in one smooth wave, for sensors that shake.
@@ -42,11 +41,9 @@ pub struct Seeding {
 pub fn turn_of(p: CheckedProblem) -> [f64; 3]
     ensures { result ≡ Seeds.turn_of p }
 {
-    let q0 = p.q0;
-    let rotation = geom::rotation_between(q0, p.qf);
-    match rotation {
-        Rotation::Outside => [0.0; 3],
-        Rotation::By(x, y, z) => [x, y, z],
+    match geom::rotation_between(p.q0, p.qf) {
+        None => [0.0; 3],
+        Some((x, y, z)) => [x, y, z],
     }
 }
 
@@ -63,10 +60,7 @@ fn height(shape: Shape, k: usize, i: usize) -> u32
     ensures { result ≡ Shapes.height shape k i }
 {
     match shape {
-        Shape::Fastest => {
-            let h = least(i, least(k, 16 - i));
-            h as u32
-        }
+        Shape::Fastest => least(i, least(k, 16 - i)) as u32,
         Shape::Gentle => {
             let wave: [u32; 17] = [
                 0, 225, 784, 1521, 2304, 3025, 3600, 3969, 4096, 3969, 3600, 3025, 2304, 1521, 784,
@@ -83,10 +77,7 @@ fn area(shape: Shape, k: usize) -> u32
     ensures { result ≡ Shapes.area shape k }
 {
     match shape {
-        Shape::Fastest => {
-            let a = k * (16 - k);
-            a as u32
-        }
+        Shape::Fastest => (k * (16 - k)) as u32,
         Shape::Gentle => 34952,
     }
 }
@@ -118,21 +109,19 @@ fn limited_rising(limit: f64, angle: f64, duration: f64) -> usize
     ensures { (result ≡ iter (Shapes.rising_turn limit angle duration) 8 7) × (result ≤ 8) }
 {
     let mut k: usize = 8;
-    let mut i: usize = 0;
-    while i < 7 {
+    for _ in 0..7usize {
         k = fewer_rising(limit, angle, duration, k);
-        i += 1;
     }
     k
 }
 
 // The rising steps: as many as the slew limit lets, from 8 down to 1.
-fn rising(slew: Limit, angle: f64, duration: f64) -> usize
+fn rising(slew: Option<f64>, angle: f64, duration: f64) -> usize
     ensures { (result ≡ Shapes.rising slew angle duration) × (result ≤ 8) }
 {
     match slew {
-        Limit::Nothing => 8,
-        Limit::At(limit) => limited_rising(limit, angle, duration),
+        None => 8,
+        Some(limit) => limited_rising(limit, angle, duration),
     }
 }
 
@@ -169,8 +158,7 @@ fn mixed(a: [[f64; 4]; 3], b: [[f64; 4]; 3]) -> [[f64; 3]; 3]
 fn pyramid_share(momentum: f64, a: [[f64; 4]; 3], a0: [[f64; 4]; 3], net: [f64; 3]) -> [f64; 3]
     ensures { result ≡ Seeds.pyramid_share momentum a a0 net }
 {
-    let inverse = geom::invert3(mixed(a, a0));
-    let m = inverse.m;
+    let m = geom::invert3(mixed(a, a0)).unwrap_or([0.0; 9]);
     geom::apply_tensor(geom::tensor(m), geom::scale3(net, -1.0 / momentum))
 }
 
@@ -189,25 +177,23 @@ fn pyramid_by(momentum: f64, a: [[f64; 4]; 3], a0: [[f64; 4]; 3], net: [f64; 3])
 fn pyramid_torque(p: CmgPyramid, delta: [f64; 4], net: [f64; 3]) -> [f64; 3]
     ensures { result ≡ Seeds.pyramid_torque p delta net }
 {
-    let here = pyramid_a(p.skew_rad, delta);
-    let first = pyramid_a(p.skew_rad, [0.0; 4]);
-    let a = here.a;
-    let a0 = first.a;
+    let here = pyramid_a(p.skew_rad, delta).unwrap_or([0.0; 12]);
+    let first = pyramid_a(p.skew_rad, [0.0; 4]).unwrap_or([0.0; 12]);
     pyramid_by(
         p.wheel_momentum_nms,
-        actuators::pyramid::rows(a),
-        actuators::pyramid::rows(a0),
+        actuators::pyramid::rows(here),
+        actuators::pyramid::rows(first),
         net,
     )
 }
 
 // The torque to be allocated so that the step has the torque net: another one with a pyramid alone, since its rates are allocated as if its gimbals had not moved.
-fn handed(cmgs: Cmgs, delta: [f64; 4], net: [f64; 3]) -> [f64; 3]
+fn handed(cmgs: Option<CmgPyramid>, delta: [f64; 4], net: [f64; 3]) -> [f64; 3]
     ensures { result ≡ Seeds.handed cmgs delta net }
 {
     match cmgs {
-        Cmgs::Without => net,
-        Cmgs::With(p) => pyramid_torque(p, delta, net),
+        None => net,
+        Some(p) => pyramid_torque(p, delta, net),
     }
 }
 
@@ -215,41 +201,30 @@ fn handed(cmgs: Cmgs, delta: [f64; 4], net: [f64; 3]) -> [f64; 3]
 fn net_torque(p: CheckedProblem, dt: f64, target: [f64; 3], m: Motion) -> [f64; 3]
     ensures { result ≡ Seeds.net_torque p dt target m }
 {
-    let j = p.inertia;
-    let w = m.w;
-    let h = m.h;
-    let wd = geom::scale3(geom::sub3(target, w), 1.0 / dt);
-    geom::euler_lhs(geom::tensor(j), wd, w, h)
+    let wd = geom::scale3(geom::sub3(target, m.w), 1.0 / dt);
+    geom::euler_lhs(geom::tensor(p.inertia), wd, m.w, m.h)
 }
 
 // The torque of the seed for the step that is to end with the target rate.
 fn seed_torque(p: CheckedProblem, dt: f64, target: [f64; 3], m: Motion) -> [f64; 3]
     ensures { result ≡ Seeds.seed_torque p dt target m }
 {
-    let map = p.map;
-    let cmgs = map.cmgs;
-    let delta = m.delta;
-    handed(cmgs, delta, net_torque(p, dt, target, m))
+    handed(p.map.cmgs, m.delta, net_torque(p, dt, target, m))
 }
 
 // The row of controls that gives a torque.
 fn row_of(p: CheckedProblem, torque: [f64; 3]) -> [f64; 20]
     ensures { result ≡ Seeds.row_of p torque }
 {
-    let map = p.map;
-    let row = allocate_body_torque(map, torque);
-    let u = row.u;
-    u
+    allocate_body_torque(p.map, torque).unwrap_or([0.0; 20])
 }
 
 // The row held to its limits.
 fn held_row(p: CheckedProblem, u: [f64; 20]) -> [f64; 20]
     ensures { result ≡ Seeds.held_row p u }
 {
-    let map = p.map;
-    let limit = p.torque_limit;
     let mut out = u;
-    controls::project_controls(map, &mut out, limit);
+    controls::project_controls(p.map, &mut out, p.torque_limit);
     out
 }
 
@@ -265,10 +240,8 @@ fn alike(a: [f64; 20], b: [f64; 20]) -> bool
     ensures { result ≡ Seeds.alike a b }
 {
     let mut same = true;
-    let mut i: usize = 0;
-    while i < 20 {
+    for i in 0..20 {
         same = also(same, a[i], b[i]);
-        i += 1;
     }
     same
 }
@@ -306,8 +279,7 @@ fn rate_after(p: CheckedProblem, dt: f64, u: [f64; 20], m: Motion) -> [f64; 3]
     let w = m.w;
     let h = m.h;
     let delta = m.delta;
-    let torque = controls::body_torque(map, &u, w, h, delta);
-    let tau = torque.tau;
+    let tau = controls::body_torque(map, &u, w, h, delta).unwrap_or([0.0; 3]);
     forward::steps::rate_next(w, forward::steps::rate_dot(j, inverse, w, h, tau), dt)
 }
 
@@ -416,13 +388,10 @@ fn turn(
 pub fn seed(p: CheckedProblem, shape: Shape, phi: [f64; 3], duration: f64) -> Seeding
     ensures { result ≡ Seeds.seed p shape phi duration }
 {
-    let slew = p.slew;
-    let k = rising(slew, geom::norm3(phi), duration);
+    let k = rising(p.slew, geom::norm3(phi), duration);
     let mut s = start(p);
-    let mut i: usize = 0;
-    while i < STEPS {
+    for i in 0..STEPS {
         s = turn(p, shape, k, duration, phi, i, s);
-        i += 1;
     }
     s
 }

@@ -8,7 +8,6 @@ ghost use Rattle.plan_text.specs.PlanTexts as PlanTexts;
 ghost use Rattle.plan_text.specs.PlanTexts.{Tells};
 ghost use Rattle.eigenaxis_text.specs.EigenaxisTexts as EigenaxisTexts;
 
-use common::Fate;
 use eigenaxis::plan_counted;
 use eigenaxis_seed::Shape;
 use plan_text::{Told, no_room, tell};
@@ -22,8 +21,8 @@ pub fn plan_eigenaxis_read(read: Read, shape: Shape, ws: &mut [f64]) -> Planned
 {
     let fate = read.fate;
     match fate {
-        Fate::Refused(number, line) => refused(number, line, 0),
-        Fate::Going => {
+        Err(why) => refused(why, 0),
+        Ok(()) => {
             let p = read.problem;
             plan_counted(p, shape, ws)
         }

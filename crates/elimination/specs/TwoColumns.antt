@@ -12,7 +12,6 @@ use borrow.Author.Tests.{eqb-true, eqb-false, eq-eqb, ne_eqb, le-leb, lt-leb, lt
 use Rattle.common.specs.Iter.{iter}
 use Rattle.common.specs.Lists.{at}
 use Rattle.float.specs.Ops.{abs}
-use Rattle.normal_equations.specs.Tab.{tab}
 use Rattle.normal_equations.specs.TabLaws.{tab_same, tab_of, get_d_tab}
 use Rattle.normal_equations.specs.Rows.{row, rows}
 use Rattle.normal_equations.specs.RowsLaws.{line_rows, cell_rows}

@@ -14,10 +14,8 @@ fn take_right(b: &mut [f64], col: &[f64], k: usize)
     ensures { b.new ≡ Inner.right_less (length b.old) k col.now b.old }
 {
     let y = b[k];
-    let mut i = 0;
-    while i < b.len() {
-        b[i] = b[i] - col[i] * y;
-        i += 1;
+    for i in 0..b.len() {
+        b[i] -= col[i] * y;
     }
     b[k] = y;
 }
@@ -73,8 +71,7 @@ fn begin(
     if best.size < 1.0e-18 {
         return false;
     }
-    let p = best.at;
-    place(a, b, top, spare, col, k, p);
+    place(a, b, top, spare, col, k, best.at);
     true
 }
 
@@ -124,9 +121,8 @@ fn finish(
     if next_best.size < 1.0e-18 {
         return false;
     }
-    let p = next_best.at;
-    elim_row(a, top, k, p);
-    place(a, b, next, spare, col, l, p);
+    elim_row(a, top, k, next_best.at);
+    place(a, b, next, spare, col, l, next_best.at);
     eliminate_two(a, top, next, k);
     true
 }

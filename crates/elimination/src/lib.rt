@@ -26,8 +26,7 @@ pub fn solve_dense(a: &mut [f64], b: &mut [f64]) -> bool
     let mut next = [0.0; DECISION_NUMBERS];
     let mut spare = [0.0; DECISION_NUMBERS];
     let mut col = [0.0; DECISION_NUMBERS];
-    let mut k = 0;
-    while 2 <= n - k {
+    for p in 0..n / 2 {
         if !columns(
             a,
             b,
@@ -35,14 +34,13 @@ pub fn solve_dense(a: &mut [f64], b: &mut [f64]) -> bool
             &mut next[..n],
             &mut spare[..n],
             &mut col[..n],
-            k,
+            2 * p,
         ) {
             return false;
         }
-        k += 2;
     }
-    if k == n {
+    if n % 2 == 0 {
         return true;
     }
-    column(a, b, &mut top[..n], &mut spare[..n], &mut col[..n], k)
+    column(a, b, &mut top[..n], &mut spare[..n], &mut col[..n], n - 1)
 }

@@ -39,17 +39,12 @@ pub fn pivot(col: &[f64], k: usize) -> Best
     requires { k < length col.now }
     ensures { Inner.PivotOf (length col.now) k col.now result.at result.size }
 {
-    let first = k + 1;
-    let rest = col.len() - first;
     let mut best = Best {
         at: k,
         size: float::abs(col[k]),
     };
-    let mut t = 0;
-    while t < rest {
-        let i = first + t;
+    for i in k + 1..col.len() {
         best = larger(best, i, col[i]);
-        t += 1;
     }
     best
 }
@@ -61,10 +56,8 @@ pub fn column_at(col: &mut [f64], a: &[f64], k: usize)
         col.new }
 {
     let n = col.len();
-    let mut i = 0;
-    while i < n {
+    for i in 0..n {
         col[i] = a[i * n + k];
-        i += 1;
     }
 }
 
@@ -81,11 +74,9 @@ pub fn column_after(col: &mut [f64], a: &[f64], top: &[f64], k: usize)
     let n = col.len();
     let l = k + 1;
     let y = top[l];
-    let mut i = 0;
-    while i < n {
+    for i in 0..n {
         let s = i * n;
         col[i] = a[s + l] - a[s + k] * y;
-        i += 1;
     }
     col[k] = y;
 }

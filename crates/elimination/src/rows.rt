@@ -13,10 +13,8 @@ fn divide(row: &mut [f64], k: usize)
     ensures { row.new ≡ Elimination.divided (length row.old) k row.old }
 {
     let d = row[k];
-    let mut j = k;
-    while j < row.len() {
-        row[j] = row[j] / d;
-        j += 1;
+    for j in k..row.len() {
+        row[j] /= d;
     }
 }
 
@@ -25,10 +23,8 @@ fn take_row(row: &mut [f64], top: &[f64], f: f64, k: usize)
     requires { (k < length row.old) × (length top.now ≡ length row.old) }
     ensures { row.new ≡ Elimination.less (length row.old) k f top.now row.old }
 {
-    let mut j = k;
-    while j < row.len() {
-        row[j] = row[j] - f * top[j];
-        j += 1;
+    for j in k..row.len() {
+        row[j] -= f * top[j];
     }
 }
 
@@ -43,9 +39,8 @@ pub fn elim_row(a: &mut [f64], top: &[f64], k: usize, i: usize)
         return;
     }
     let s = i * top.len();
-    let e = s + top.len();
     let f = a[s + k];
-    take_row(&mut a[s..e], top, f, k);
+    take_row(&mut a[s..s + top.len()], top, f, k);
 }
 
 // Elimination in column k, top being row k.
@@ -54,11 +49,8 @@ pub fn eliminate(a: &mut [f64], top: &[f64], k: usize)
     ensures { rows (length top.now) (length top.now) a.new
         ≡ Elimination.eliminate (length top.now) k (rows (length top.now) (length top.now) a.old) }
 {
-    let n = top.len();
-    let mut i = 0;
-    while i < n {
+    for i in 0..top.len() {
         elim_row(a, top, k, i);
-        i += 1;
     }
 }
 
@@ -71,10 +63,8 @@ fn take_two(row: &mut [f64], t: &[f64], u: &[f64], k: usize)
     let f = row[k];
     let g = row[l] - f * t[l];
     row[k] = f - f * t[k];
-    let mut j = l;
-    while j < row.len() {
+    for j in l..row.len() {
         row[j] = row[j] - f * t[j] - g * u[j];
-        j += 1;
     }
 }
 
@@ -93,8 +83,7 @@ fn two_row(a: &mut [f64], t: &[f64], u: &[f64], k: usize, i: usize)
         return;
     }
     let s = i * t.len();
-    let e = s + t.len();
-    take_two(&mut a[s..e], t, u, k);
+    take_two(&mut a[s..s + t.len()], t, u, k);
 }
 
 // Elimination in columns k and k + 1, each number being read and written once for both.
@@ -103,11 +92,8 @@ pub fn eliminate_two(a: &mut [f64], t: &[f64], u: &[f64], k: usize)
     ensures { rows (length t.now) (length t.now) a.new
         ≡ Inner.eliminate_two (length t.now) k t.now u.now a.old }
 {
-    let n = t.len();
-    let mut i = 0;
-    while i < n {
+    for i in 0..t.len() {
         two_row(a, t, u, k, i);
-        i += 1;
     }
 }
 
@@ -120,12 +106,8 @@ pub fn place_rows(a: &mut [f64], top: &mut [f64], spare: &mut [f64], k: usize, p
     ensures { Inner.Placed (length top.old) k p a.old a.new top.new result }
 {
     let n = top.len();
-    let s = k * n;
-    let e = s + n;
-    let t = p * n;
-    let u = t + n;
-    copy(spare, &a[s..e]);
-    copy(top, &a[t..u]);
+    copy(spare, &a[k * n..k * n + n]);
+    copy(top, &a[p * n..p * n + n]);
     let d = top[k];
     divide(top, k);
     put_row(a, p, spare);

@@ -7,9 +7,8 @@ ghost use Rattle.actuators.specs.Maps.{is_sized};
 ghost use Rattle.end_checks.specs.Ends as Ends;
 
 use actuators::ActuatorMap;
-use common::{DEFECT_TOL, Fate, Limit, SOLVER_NODES, STEPS};
+use common::{DEFECT_TOL, Refusal, SOLVER_NODES, STEPS};
 use forward::{Node, Run};
-use geom::Rotation;
 use problem::CheckedProblem;
 
 // The largest attitude error and the largest rate at a path's end.
@@ -18,12 +17,12 @@ const ATT_TOL: f64 = 1.0e-4;
 const RATE_TOL: f64 = 1.0e-4;
 
 // Whether the rate is above the slew limit, where there is one, by more than 1e-9.
-fn too_fast(slew: Limit, w: [f64; 3]) -> bool
+fn too_fast(slew: Option<f64>, w: [f64; 3]) -> bool
     ensures { result ≡ Ends.too_fast slew w }
 {
     match slew {
-        Limit::Nothing => false,
-        Limit::At(limit) => geom::norm3(w) > limit + 1.0e-9,
+        None => false,
+        Some(limit) => geom::norm3(w) > limit + 1.0e-9,
     }
 }
 
@@ -32,82 +31,84 @@ fn over_momentum(map: ActuatorMap, hw: [f64; 8]) -> bool
     requires { is_sized map ≡ true }
     ensures { result ≡ Ends.too_much map hw }
 {
-    let limits = map.wheel_momenta;
-    control_limits::momentum_excess(&limits, map.wheel_count, &hw) > 1.0e-9
+    control_limits::momentum_excess(&map.wheel_momenta, map.wheel_count, &hw) > 1.0e-9
 }
 
 // Torque, rate and momenta of node k against their limits.
-fn node_fate(p: CheckedProblem, node: Node, k: usize) -> Fate
+fn node_fate(p: CheckedProblem, node: Node, k: usize) -> Result<(), Refusal>
     requires { is_sized p.map ≡ true }
     ensures { result ≡ Ends.node_fate p node k }
 {
-    let tau = node.tau;
-    let box_limit = p.torque_limit;
-    if geom::torque_excess(tau, box_limit) > 1.0e-9 {
-        return Fate::Refused(17, k);
+    if geom::torque_excess(node.tau, p.torque_limit) > 1.0e-9 {
+        return Err(Refusal {
+            number: 17,
+            place: k,
+        });
     }
-    let slew = p.slew;
-    let w = node.w;
-    if too_fast(slew, w) {
-        return Fate::Refused(18, k);
+    if too_fast(p.slew, node.w) {
+        return Err(Refusal {
+            number: 18,
+            place: k,
+        });
     }
-    let map = p.map;
-    let hw = node.hw;
-    if over_momentum(map, hw) {
-        return Fate::Refused(19, k);
+    if over_momentum(p.map, node.hw) {
+        return Err(Refusal {
+            number: 19,
+            place: k,
+        });
     }
-    Fate::Going
+    Ok(())
 }
 
 // The 17 nodes in their order; the first refusal stays.
-fn nodes_fate(p: CheckedProblem, nodes: [Node; SOLVER_NODES]) -> Fate
+fn nodes_fate(p: CheckedProblem, nodes: [Node; SOLVER_NODES]) -> Result<(), Refusal>
     requires { is_sized p.map ≡ true }
     ensures { result ≡ Ends.nodes_fate p nodes }
 {
-    let mut k: usize = 0;
-    while k < SOLVER_NODES {
-        let node = nodes[k];
-        let fate = node_fate(p, node, k);
-        match fate {
-            Fate::Refused(number, place) => return Fate::Refused(number, place),
-            Fate::Going => {}
-        }
-        k += 1;
+    for k in 0..SOLVER_NODES {
+        node_fate(p, nodes[k], k)?;
     }
-    Fate::Going
+    Ok(())
 }
 
 // The end rate, the largest defect, then the nodes.
-fn rest_fate(p: CheckedProblem, run: Run) -> Fate
+fn rest_fate(p: CheckedProblem, run: Run) -> Result<(), Refusal>
     requires { is_sized p.map ≡ true }
     ensures { result ≡ Ends.rest_fate p run }
 {
     let nodes = run.nodes;
-    let last = nodes[STEPS];
-    let w = last.w;
-    if geom::norm3(w) > RATE_TOL {
-        return Fate::Refused(15, 0);
+    if geom::norm3(nodes[STEPS].w) > RATE_TOL {
+        return Err(Refusal {
+            number: 15,
+            place: 0,
+        });
     }
     if run.defect > DEFECT_TOL {
-        return Fate::Refused(16, 0);
+        return Err(Refusal {
+            number: 16,
+            place: 0,
+        });
     }
     nodes_fate(p, nodes)
 }
 
 // The end checks of a run that went on: the end attitude, then the rest.
-pub fn end_checks(p: CheckedProblem, run: Run) -> Fate
+pub fn end_checks(p: CheckedProblem, run: Run) -> Result<(), Refusal>
     requires { is_sized p.map ≡ true }
     ensures { result ≡ Ends.end_fate p run }
 {
     let nodes = run.nodes;
-    let last = nodes[STEPS];
-    let q = last.q;
-    let error = geom::rotation_between(q, p.qf);
-    match error {
-        Rotation::Outside => Fate::Refused(11, 0),
-        Rotation::By(a, b, c) => {
+    match geom::rotation_between(nodes[STEPS].q, p.qf) {
+        None => Err(Refusal {
+            number: 11,
+            place: 0,
+        }),
+        Some((a, b, c)) => {
             if geom::norm3([a, b, c]) > ATT_TOL {
-                return Fate::Refused(14, 0);
+                return Err(Refusal {
+                    number: 14,
+                    place: 0,
+                });
             }
             rest_fate(p, run)
         }

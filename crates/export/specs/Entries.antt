@@ -1,5 +1,6 @@
 -- The planner's entries on a problem as declared, and what a call tells of their answers. Definitions only.
-use Rattle.std.specs.Prelude.{ℕ, ◌≡◌, Bool, List, [], ◌∷◌, Float}
+use Rattle.std.specs.Prelude.{ℕ, ◌≡◌, Bool, List, [], ◌∷◌, replicate, Float, Ok, Err}
+use Rattle.common.specs.Floats.{plus_zero}
 use Rattle.common.specs.Answer.{Answer, Given, Refused}
 use Rattle.problem.specs.Answers as Checks
 use Rattle.problem.specs.Problems.{check}
@@ -8,7 +9,7 @@ use Rattle.planner.specs.Plans.{plan, plan_from, profiled, answer, leaves}
 use Rattle.planner.specs.declared.Planned.{Planned}
 use Rattle.samples.specs.Answers.{of_sampled}
 use Rattle.samples.specs.Rows.{rows}
-use Rattle.samples.specs.declared.Sampled.{Sampled}
+use Rattle.samples.specs.Samples.{Sampled}
 use Rattle.plan_text.specs.PlanTexts as PlanTexts
 use Rattle.sample_text.specs.SampleTexts.{numbers}
 use Rattle.problem_numbers.specs.Declared.{problem}
@@ -59,7 +60,12 @@ pub record TextTold (r : Planned) (n : ℕ) (out out' : List ℕ) (ws ws' : List
   pub text_is : out' ≡ PlanTexts.written r out
   pub left : ws' ≡ PlanTexts.leaves r out ws
 
+-- a sample's 14 numbers, or zeros beside a refusal
+abbrev pub numbers_or_zeros : Sampled → List Float
+numbers_or_zeros (Ok s) = numbers s
+numbers_or_zeros (Err why) = replicate 14 plus_zero
+
 -- of a sample s: a refusal's number and place, or 0, and its 14 numbers, zeros beside a refusal
 pub record SampleTold (s : Sampled) (n k : ℕ) (out : List Float) : Type 0 where
   pub placed : Placed (of_sampled s) n k
-  pub numbers_are : out ≡ numbers s.sample
+  pub numbers_are : out ≡ numbers_or_zeros s

@@ -3,7 +3,6 @@ ghost use Rattle.planner.specs.Plans as Plans;
 ghost use Rattle.export_leaves.specs.Outcomes.{AnsweredAt, of_profiled};
 ghost use Rattle.export.specs.Entries as Entries;
 
-use common::Fate;
 use export_leaves::courses::put_profile;
 use export_leaves::pack::place_of;
 use problem::CheckedProblem;
@@ -34,11 +33,11 @@ pub fn slew_problem_profile(
     let checked = problem::check(problem_of(c, v, b, limited));
     let fate = checked.fate;
     match fate {
-        Fate::Refused(number, k) => {
-            *place = k;
-            number
+        Err(refusal) => {
+            *place = refusal.place;
+            refusal.number
         }
-        Fate::Going => {
+        Ok(()) => {
             let p = checked.problem;
             put_checked(p, out, place)
         }

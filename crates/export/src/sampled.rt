@@ -7,20 +7,18 @@ ghost use Rattle.samples.specs.Samples as Samples;
 ghost use Rattle.export_leaves.specs.Outcomes.{Answered};
 ghost use Rattle.export.specs.Entries.{SampleTold};
 
-use export_leaves::pack::{number_of, place_of};
 use sample_text::numbers_of;
-use samples::Count;
 
 // A refusal's number, or 0, and then the count is put into `out`.
-fn put_count(n: Count, out: &mut usize) -> usize
+fn put_count(n: Option<usize>, out: &mut usize) -> usize
     ensures { Answered (Answers.of_count n) result out.old out.new }
 {
     match n {
-        Count::Of(k) => {
+        Some(k) => {
             *out = k;
             0
         }
-        Count::TooMany => 20,
+        None => 20,
     }
 }
 
@@ -47,10 +45,16 @@ pub fn slew_sample_path(
         result place.new out.new }
 {
     let inertia = geom::tensor(*j);
-    let made = samples::sample(inertia, tolerance, duration, nodes, requested, alpha, index);
-    let fate = made.fate;
-    let s = made.sample;
-    *out = numbers_of(s);
-    *place = place_of(fate);
-    number_of(fate)
+    match samples::sample(inertia, tolerance, duration, nodes, requested, alpha, index) {
+        Ok(s) => {
+            *out = numbers_of(s);
+            *place = 0;
+            0
+        }
+        Err(why) => {
+            *out = [0.0; 14];
+            *place = why.place;
+            why.number
+        }
+    }
 }

@@ -15,7 +15,7 @@ ghost use Rattle.export_board.specs.BoardAnswers.{SampleTold, ListTold};
 ghost use Rattle.export_board.specs.Units as Units;
 
 use drive_numbers::lists::drive_list;
-use drive_numbers::{Unit, Whole, drive_sample, part, read_back};
+use drive_numbers::{Unit, drive_sample, part, read_back};
 use export_leaves::pack::{number_of, place_of};
 
 fn unit_of(coarse: bool) -> Unit
@@ -25,16 +25,16 @@ fn unit_of(coarse: bool) -> Unit
 }
 
 // 24 and a 0, or 0 and the number.
-fn put_part(w: Whole, out: &mut i32) -> usize
+fn put_part(w: Option<i32>, out: &mut i32) -> usize
     ensures value { result ≡ number (Drive.of_whole w) }
     ensures out_after { out.new ≡ Drive.number w }
 {
     match w {
-        Whole::Is(n) => {
+        Some(n) => {
             *out = n;
             0
         }
-        Whole::Outside => {
+        None => {
             *out = 0;
             24
         }
@@ -72,12 +72,18 @@ pub fn slew_board_sample(
         result place.new out.new }
 {
     let inertia = geom::tensor(*j);
-    let made = drive_sample(inertia, tolerance, duration, nodes, requested, alpha, index);
-    let fate = made.fate;
-    let numbers = made.numbers;
-    *out = numbers;
-    *place = place_of(fate);
-    number_of(fate)
+    match drive_sample(inertia, tolerance, duration, nodes, requested, alpha, index) {
+        Ok(numbers) => {
+            *out = numbers;
+            *place = 0;
+            0
+        }
+        Err(why) => {
+            *out = [0; 13];
+            *place = why.place;
+            why.number
+        }
+    }
 }
 
 // The whole list of a path: a row a sample, and how many rows were written. What stands behind them stays. Fewer rows lent than there are samples get
@@ -99,8 +105,7 @@ pub fn slew_board_list(
 {
     let inertia = geom::tensor(*j);
     let made = drive_list(inertia, tolerance, duration, nodes, requested, alpha, out);
-    let fate = made.fate;
     *rows = made.rows;
-    *place = place_of(fate);
-    number_of(fate)
+    *place = place_of(made.fate);
+    number_of(made.fate)
 }

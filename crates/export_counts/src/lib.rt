@@ -7,8 +7,6 @@ ghost use Rattle.std.specs.Prelude.{◌≡◌};
 ghost use Rattle.angles.specs.Ended.{sine_series, cosine_series, both_series, arc_series};
 ghost use Rattle.export_counts.specs.Outcomes as Outcomes;
 
-use angles::counted::{Pair, Series};
-
 // Two whole numbers in their order.
 fn two_words(a: u64, b: u64) -> [u64; 2]
     ensures { result ≡ Outcomes.two_words a b }
@@ -24,16 +22,16 @@ fn four_words(a: u64, b: u64, c: u64, d: u64) -> [u64; 4]
 }
 
 // Whether there is a series, whose sum and count are then put into `answer`.
-fn put_series(s: Series, answer: &mut [u64; 2]) -> bool
+fn put_series(s: Option<(u64, u64)>, answer: &mut [u64; 2]) -> bool
     ensures value { result ≡ Outcomes.is_series s }
     ensures answer_after { answer.new ≡ Outcomes.series_or s answer.old }
 {
     match s {
-        Series::Ends(sum, terms) => {
+        Some((sum, terms)) => {
             *answer = two_words(sum, terms);
             true
         }
-        Series::None => false,
+        None => false,
     }
 }
 
@@ -59,16 +57,16 @@ pub fn slew_arc_series(w: f64, answer: &mut [u64; 2]) -> bool
 }
 
 // Whether there are both, whose sums and counts, the sine's first, are then put into `answer`.
-fn put_pair(p: Pair, answer: &mut [u64; 4]) -> bool
+fn put_pair(p: Option<(u64, u64, u64, u64)>, answer: &mut [u64; 4]) -> bool
     ensures value { result ≡ Outcomes.are_pair p }
     ensures answer_after { answer.new ≡ Outcomes.pair_or p answer.old }
 {
     match p {
-        Pair::End(sine, sine_terms, cosine, cosine_terms) => {
+        Some((sine, sine_terms, cosine, cosine_terms)) => {
             *answer = four_words(sine, sine_terms, cosine, cosine_terms);
             true
         }
-        Pair::None => false,
+        None => false,
     }
 }
 

@@ -1,18 +1,17 @@
 -- What the code reads from how an operation ended is what its answer says, in the specification's numbers. Assumes nothing.
-use Rattle.std.specs.Prelude.{ℕ, ◌≡◌, refl}
+use Rattle.std.specs.Prelude.{ℕ, ◌≡◌, refl, Ok, Err}
 use Rattle.std.proofs.Common.{◌∙◌}
 use Rattle.common.specs.Answer.{Answer}
-use Rattle.common.specs.declared.Fate.{Fate}
-use Rattle.common.specs.declared.Fate.TheVariants.{Going, Refused}
 use Rattle.geom.specs.Answers.{of_fate}
 use Rattle.profile.specs.declared.Profiled.{Profiled}
 use Rattle.export_leaves.specs.Packed.{numbers}
 use Rattle.export_leaves.specs.Outcomes.{number, place, runs_or, map, of_profiled, fate_number, fate_place, Answered, AnsweredAt, Placed, Counted}
+use Rattle.common.specs.Refusals.{Fate}
 
 -- an answer put into another form after it is made, or before
 pub map_fate : {A B : Type 0} (g : A → B) (a : A) (f : Fate) → map g (of_fate a f) ≡ of_fate (g a) f
-map_fate g a Going = refl
-map_fate g a (Refused n k) = refl
+map_fate g a (Ok _) = refl
+map_fate g a (Err why) = refl
 
 -- an operation that ended so after these runs answers a
 pub record Tells {A : Type 0} (a : Answer A) (f : Fate) (begun : ℕ) : Type 0 where
@@ -22,8 +21,8 @@ pub record Tells {A : Type 0} (a : Answer A) (f : Fate) (begun : ℕ) : Type 0 w
 
 -- a value beside its fate, before any run
 pub of_fate_law : {A : Type 0} (a : A) (f : Fate) → Tells (of_fate a f) f 0
-of_fate_law a Going = record { number = refl; place = refl; runs = refl }
-of_fate_law a (Refused n k) = record { number = refl; place = refl; runs = refl }
+of_fate_law a (Ok _) = record { number = refl; place = refl; runs = refl }
+of_fate_law a (Err why) = record { number = refl; place = refl; runs = refl }
 
 -- a profile as its numbers
 pub of_profiled_law : (p : Profiled) → Tells (of_profiled p) p.fate 0

@@ -1,12 +1,11 @@
 -- What a call of the C interface answers and leaves in what is lent to it, of what the operation behind it answers. Definitions only.
-use Rattle.std.specs.Prelude.{◌≡◌, Bool, List, ℕ, eqb, Float}
+use Rattle.std.specs.Prelude.{◌≡◌, Bool, List, ℕ, eqb, Float, Ok, Err}
 use Rattle.common.specs.Answer.{Answer, Given, Refused}
-use Rattle.common.specs.declared.Fate.{Fate}
-use Rattle.common.specs.declared.Fate.TheVariants as Fate
 use Rattle.geom.specs.declared.Quat.{Quat}
 use Rattle.profile.specs.Answers as Answers
 use Rattle.profile.specs.declared.Profiled.{Profiled}
 use Rattle.export_leaves.specs.Packed.{four, two, numbers}
+use Rattle.common.specs.Refusals.{Fate}
 
 -- the number of a refusal, 0 where there is none
 abbrev pub number : {A : Type 0} → Answer A → ℕ
@@ -49,12 +48,12 @@ of_profiled p = map numbers (Answers.of_profiled p)
 
 -- ---- how a stage ended: its refusal's number and place, or 0
 abbrev pub fate_number : Fate → ℕ
-fate_number Fate.Going = 0
-fate_number (Fate.Refused n k) = n
+fate_number (Ok _) = 0
+fate_number (Err why) = why.number
 
 abbrev pub fate_place : Fate → ℕ
-fate_place Fate.Going = 0
-fate_place (Fate.Refused n k) = k
+fate_place (Ok _) = 0
+fate_place (Err why) = why.place
 
 -- ---- what a call tells of the answer a
 

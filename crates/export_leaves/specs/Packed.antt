@@ -1,9 +1,7 @@
 -- Records as the numbers that the C interface takes and gives. Definitions only.
-use Rattle.std.specs.Prelude.{List, [], ◌∷◌, Bool, cond, Float}
+use Rattle.std.specs.Prelude.{List, [], ◌∷◌, Bool, cond, Float, Option, Some, None}
 use Rattle.common.specs.Lists.{at}
 use Rattle.geom.specs.Quats as Quats
-use Rattle.common.specs.declared.Limit.{Limit}
-use Rattle.common.specs.declared.Limit.TheVariants.{Nothing, At}
 use Rattle.geom.specs.declared.Quat.{Quat}
 use Rattle.profile.specs.declared.Profile.{Profile}
 
@@ -24,8 +22,8 @@ abbrev pub two : Float → Float → List Float
 two a b = a ∷ (b ∷ [])
 
 -- an optional limit
-abbrev pub limit : Bool → Float → Limit
-limit with x = cond with (At x) Nothing
+abbrev pub limit : Bool → Float → Option Float
+limit with x = cond with (Some x) None
 
 -- the profile of its numbers: theta, alpha, t_acc, t_coast, duration, omega_peak, the axis, the inertia by rows, q0
 abbrev pub profile : List Float → Profile

@@ -12,45 +12,45 @@ ghost use Rattle.export_leaves.specs.Outcomes.{Answered, AnsweredAt, of_quat};
 
 use super::pack::{limit_of, numbers, place_of, profile_of, quat, three};
 use super::shapes::put_turned;
-use common::Fate;
-use profile::{Acceleration, Profiled, Switches};
+use common::Refusal;
+use profile::Profiled;
 
 // A refusal's number, or 0, and then the three switching numbers are put into `out`.
-fn put_switches(s: Switches, out: &mut [f64; 3]) -> usize
+fn put_switches(s: Result<(f64, f64, f64), Refusal>, out: &mut [f64; 3]) -> usize
     ensures { Answered (Answers.of_switches s) result out.old out.new }
 {
     match s {
-        Switches::Are(acc, coast, peak) => {
+        Ok((acc, coast, peak)) => {
             *out = three(acc, coast, peak);
             0
         }
-        Switches::Refused(number, _) => number,
+        Err(refusal) => refusal.number,
     }
 }
 
 // A refusal's number, or 0, and then the acceleration is put into `out`.
-fn put_acceleration(a: Acceleration, out: &mut f64) -> usize
+fn put_acceleration(a: Option<f64>, out: &mut f64) -> usize
     ensures { Answered (Answers.of_acceleration a) result out.old out.new }
 {
     match a {
-        Acceleration::Is(x) => {
+        Some(x) => {
             *out = x;
             0
         }
-        Acceleration::Not => 7,
+        None => 7,
     }
 }
 
 // A refusal's number, or 0, and then the numbers made are put into `out`.
-fn put_made(fate: Fate, made: [f64; 22], out: &mut [f64; 22]) -> usize
+fn put_made(fate: Result<(), Refusal>, made: [f64; 22], out: &mut [f64; 22]) -> usize
     ensures { Answered (Turns.of_fate made fate) result out.old out.new }
 {
     match fate {
-        Fate::Going => {
+        Ok(()) => {
             *out = made;
             0
         }
-        Fate::Refused(number, _) => number,
+        Err(refusal) => refusal.number,
     }
 }
 

@@ -3,7 +3,7 @@ ghost use Rattle.std.specs.Prelude.{◌≡◌};
 ghost use Rattle.export_leaves.specs.Outcomes as Outcomes;
 ghost use Rattle.export_leaves.specs.Packed as Packed;
 
-use common::{Fate, Limit};
+use common::Refusal;
 use geom::Quat;
 use profile::Profile;
 
@@ -36,10 +36,10 @@ pub fn two(a: f64, b: f64) -> [f64; 2]
 }
 
 // An optional limit.
-pub fn limit_of(with: bool, x: f64) -> Limit
+pub fn limit_of(with: bool, x: f64) -> Option<f64>
     ensures { result ≡ Packed.limit with x }
 {
-    if with { Limit::At(x) } else { Limit::Nothing }
+    if with { Some(x) } else { None }
 }
 
 // The profile of its numbers: theta, alpha, t_acc, t_coast, duration, omega_peak, the axis, the inertia by rows, q0.
@@ -101,21 +101,21 @@ pub fn numbers(p: Profile) -> [f64; 22]
 }
 
 // A refusal's number, or 0.
-pub fn number_of(f: Fate) -> usize
+pub fn number_of(f: Result<(), Refusal>) -> usize
     ensures { result ≡ Outcomes.fate_number f }
 {
     match f {
-        Fate::Going => 0,
-        Fate::Refused(number, _) => number,
+        Ok(()) => 0,
+        Err(refusal) => refusal.number,
     }
 }
 
 // A refusal's place, or 0.
-pub fn place_of(f: Fate) -> usize
+pub fn place_of(f: Result<(), Refusal>) -> usize
     ensures { result ≡ Outcomes.fate_place f }
 {
     match f {
-        Fate::Going => 0,
-        Fate::Refused(_, place) => place,
+        Ok(()) => 0,
+        Err(refusal) => refusal.place,
     }
 }

@@ -9,8 +9,8 @@ ghost use Rattle.export_leaves.specs.Outcomes.{Answered, of_quat};
 ghost use Rattle.export_leaves.specs.Packed as Packed;
 
 use super::pack::{four, quat, three};
-use common::Fate;
-use geom::{Axis, Inverse, Normal, Quat, Rotation, Turned};
+use common::Refusal;
+use geom::Quat;
 
 pub fn slew_quat_dot(a: &[f64; 4], b: &[f64; 4]) -> f64
     ensures { result ≡ Quats.dot_q (Packed.quat a.now) (Packed.quat b.now) }
@@ -116,69 +116,67 @@ pub fn slew_body_euler_torque(
 }
 
 // A refusal's number, or 0, and then the answer is put into `out`.
-fn put_normal(n: Normal, out: &mut [f64; 4]) -> usize
+fn put_normal(n: Option<Quat>, out: &mut [f64; 4]) -> usize
     ensures { Answered (of_quat (Answers.of_normal n)) result out.old out.new }
 {
     match n {
-        Normal::Is(q) => {
+        Some(q) => {
             *out = four(q);
             0
         }
-        Normal::Not => 5,
+        None => 5,
     }
 }
 
 // A refusal's number, or 0, and then the answer is put into `out`.
-pub fn put_turned(t: Turned, out: &mut [f64; 4]) -> usize
+pub fn put_turned(t: Option<Quat>, out: &mut [f64; 4]) -> usize
     ensures { Answered (of_quat (Answers.of_turned t)) result out.old out.new }
 {
     match t {
-        Turned::Is(q) => {
+        Some(q) => {
             *out = four(q);
             0
         }
-        Turned::Outside => 11,
+        None => 11,
     }
 }
 
 // A refusal's number, or 0, and then the answer is put into `out`.
-fn put_rotation(t: Rotation, out: &mut [f64; 3]) -> usize
+fn put_rotation(t: Option<(f64, f64, f64)>, out: &mut [f64; 3]) -> usize
     ensures { Answered (Answers.of_rotation t) result out.old out.new }
 {
     match t {
-        Rotation::By(x, y, z) => {
+        Some((x, y, z)) => {
             *out = three(x, y, z);
             0
         }
-        Rotation::Outside => 11,
+        None => 11,
     }
 }
 
 // A refusal's number, or 0, and then the answer is put into `out`.
-fn put_axis(a: Axis, out: &mut [f64; 3]) -> usize
+fn put_axis(a: Option<(f64, f64, f64)>, out: &mut [f64; 3]) -> usize
     ensures { Answered (Answers.of_axis a) result out.old out.new }
 {
     match a {
-        Axis::Is(x, y, z) => {
+        Some((x, y, z)) => {
             *out = three(x, y, z);
             0
         }
-        Axis::Not => 3,
+        None => 3,
     }
 }
 
 // A refusal's number, or 0, and then the answer is put into `out`.
-fn put_inverse(i: Inverse, out: &mut [f64; 9]) -> usize
+fn put_inverse(i: Result<[f64; 9], Refusal>, out: &mut [f64; 9]) -> usize
     ensures { Answered (Answers.of_inverse i) result out.old out.new }
 {
-    let fate = i.fate;
-    let m = i.m;
-    match fate {
-        Fate::Going => {
+    match i {
+        Ok(m) => {
             *out = m;
             0
         }
-        Fate::Refused(number, _) => number,
+        Err(refusal) => refusal.number,
     }
 }
 

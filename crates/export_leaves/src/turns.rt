@@ -8,19 +8,16 @@ ghost use Rattle.export_leaves.specs.Outcomes as Outcomes;
 ghost use Rattle.export_leaves.specs.Outcomes.{Answered};
 
 use super::pack::two;
-use angles::{Angle, Both};
 
 // A refusal's number, or 0, and then the angle is put into `answer`.
-fn put_angle(a: Angle, answer: &mut f64) -> usize
+fn put_angle(a: Option<f64>, answer: &mut f64) -> usize
     ensures { Answered (angle_answer a) result answer.old answer.new }
 {
-    match a {
-        Angle::Is(v) => {
-            *answer = v;
-            0
-        }
-        Angle::Outside => 11,
-    }
+    let Some(v) = a else {
+        return 11;
+    };
+    *answer = v;
+    0
 }
 
 pub fn slew_sin(x: f64, answer: &mut f64) -> bool
@@ -45,15 +42,15 @@ pub fn slew_acos(x: f64, answer: &mut f64) -> bool
 }
 
 // A refusal's number, or 0, and then the sine and the cosine are put into `answer`.
-fn put_both(b: Both, answer: &mut [f64; 2]) -> usize
+fn put_both(b: Option<(f64, f64)>, answer: &mut [f64; 2]) -> usize
     ensures { Answered (Outcomes.of_pair (both_answer b)) result answer.old answer.new }
 {
     match b {
-        Both::Are(s, c) => {
+        Some((s, c)) => {
             *answer = two(s, c);
             0
         }
-        Both::Outside => 11,
+        None => 11,
     }
 }
 

@@ -1,8 +1,6 @@
 -- A mosaic's cursor as the counts and numbers that a caller holds, its way as a number, and the mosaics of a problem as declared. Definitions only.
-use Rattle.std.specs.Prelude.{ℕ, ◌+◌, ◌≡◌, Bool, cond, List, [], ◌∷◌, eqb, get_or, length, Float}
+use Rattle.std.specs.Prelude.{ℕ, ◌+◌, ◌≡◌, Bool, cond, List, [], ◌∷◌, eqb, get_or, length, Float, Option, Some, None, Err}
 use Rattle.common.specs.Lists.{at}
-use Rattle.common.specs.declared.Fate.{Fate}
-use Rattle.common.specs.declared.Fate.TheVariants.{Going, Refused}
 use Rattle.geom.specs.declared.Quat.{Quat}
 use Rattle.problem.specs.declared.Problem.{Problem}
 use Rattle.planner.specs.Plans as Plans
@@ -17,12 +15,12 @@ use Rattle.whole_mosaic.specs.Layout as Layout
 use Rattle.problem_numbers.specs.Declared as Declared
 use Rattle.export_leaves.specs.Outcomes.{fate_number, fate_place}
 use Rattle.export.specs.Entries.{EntryTold}
-use Rattle.export_mosaic.specs.declared.Asked.{Asked}
-use Rattle.export_mosaic.specs.declared.Asked.TheVariants.{By, Unknown}
+use Rattle.mosaic.specs.declared.ways.Way.{Way}
+use Rattle.common.specs.Refusals.{Fate, refusal, going}
 
 -- a refusal's number and place, or number 0
 abbrev pub fate : ℕ → ℕ → Fate
-fate number place = cond (eqb number 0) Going (Refused number place)
+fate number place = cond (eqb number 0) going (Err (refusal number place))
 
 -- the count at k
 abbrev pub count : List ℕ → ℕ → ℕ
@@ -57,24 +55,24 @@ pub record CursorTold (c : Cursor) (n : ℕ) (told : List ℕ) (summed : List Fl
   pub sums_are : summed ≡ sums c
 
 -- ---- the way that a caller's number asks for: 0 the search; 1 about one axis, as short as the limits allow; 2 about one axis, gently; another number none
-abbrev pub asked : ℕ → Asked
+abbrev pub asked : ℕ → Option Way
 asked way =
-    cond (eqb way 0) (By Search)
-    (cond (eqb way 1) (By (Eigenaxis Fastest))
-    (cond (eqb way 2) (By (Eigenaxis Gentle)) Unknown))
+    cond (eqb way 0) (Some Search)
+    (cond (eqb way 1) (Some (Eigenaxis Fastest))
+    (cond (eqb way 2) (Some (Eigenaxis Gentle)) None))
 
 -- one leg: the cursor after it, and its answer. 99, which is no refusal's number, where no way is asked for: nothing is planned, and the cursor stays.
-abbrev pub turn_by_value : Asked → Problem → Cursor → Quat → Quat → ℕ → Advanced
-turn_by_value (By way) p c from to size = record {
+abbrev pub turn_by_value : Option Way → Problem → Cursor → Quat → Quat → ℕ → Advanced
+turn_by_value (Some way) p c from to size = record {
   cursor = Mosaics.next (planner_by way size) p c from to;
   planned = Mosaics.planned (planner_by way size) p c from to;
 }
-turn_by_value Unknown p c from to size = record { cursor = c; planned = Plans.refused 99 0 0 }
+turn_by_value None p c from to size = record { cursor = c; planned = Plans.refused (refusal 99 0) 0 }
 
 -- the whole mosaic of rows of tiles, from the problem's momenta, into lent lists of a, b, c and d rows; or 99 and no legs
-abbrev pub whole_by_value : Asked → Problem → List (List Float) → ℕ → ℕ → ℕ → ℕ → ℕ → Flight
-whole_by_value (By way) p tiles a b c d size = Layout.lent (planner_by way size) p tiles p.momenta a b c d
-whole_by_value Unknown p tiles a b c d size = Mosaics.nothing p.momenta 99 0
+abbrev pub whole_by_value : Option Way → Problem → List (List Float) → ℕ → ℕ → ℕ → ℕ → ℕ → Flight
+whole_by_value (Some way) p tiles a b c d size = Layout.lent (planner_by way size) p tiles p.momenta a b c d
+whole_by_value None p tiles a b c d size = Mosaics.nothing p.momenta (refusal 99 0)
 
 -- ---- of a problem as declared, on a workspace of `size` numbers
 abbrev pub turn : ℕ → List ℕ → List Float → List Float → Bool → List Float → List Float → List ℕ → List Float → ℕ → Advanced

@@ -11,7 +11,7 @@ ghost use Rattle.planner.specs.Plans as Plans;
 ghost use Rattle.problem_numbers.specs.Declared as Declared;
 ghost use Rattle.export_mosaic.specs.Cursors as Cursors;
 
-use common::Fate;
+use common::Refusal;
 use eigenaxis_seed::Shape;
 use export::plans::put_planned;
 use export_leaves::pack::{number_of, place_of};
@@ -23,36 +23,29 @@ use problem::{Momenta, Problem};
 use problem_numbers::problem_of;
 use whole_mosaic::{plan_mosaic, quat_of};
 
-// The way that a caller's number asks for, if any.
-#[derive(Clone, Copy)]
-pub enum Asked {
-    By(Way),
-    Unknown,
-}
-
-fn asked_of(way: usize) -> Asked
+fn asked_of(way: usize) -> Option<Way>
     ensures { result ≡ Cursors.asked way }
 {
     if way == 0 {
-        return Asked::By(Way::Search);
+        return Some(Way::Search);
     }
     if way == 1 {
-        return Asked::By(Way::Eigenaxis(Shape::Fastest));
+        return Some(Way::Eigenaxis(Shape::Fastest));
     }
     if way == 2 {
-        return Asked::By(Way::Eigenaxis(Shape::Gentle));
+        return Some(Way::Eigenaxis(Shape::Gentle));
     }
-    Asked::Unknown
+    None
 }
 
 // How a cursor goes on: a refusal's number and place, or number 0.
-fn fate_of(number: usize, place: usize) -> Fate
+fn fate_of(number: usize, place: usize) -> Result<(), Refusal>
     ensures { result ≡ Cursors.fate number place }
 {
     if number == 0 {
-        return Fate::Going;
+        return Ok(());
     }
-    Fate::Refused(number, place)
+    Err(Refusal { number, place })
 }
 
 // The cursor of its counts and numbers, for so many wheels.
@@ -96,10 +89,16 @@ fn turn(p: Problem, way: usize, c: Cursor, from: Quat, to: Quat, ws: &mut [f64])
 {
     let asked = asked_of(way);
     match asked {
-        Asked::By(by) => next(p, by, c, from, to, ws),
-        Asked::Unknown => Advanced {
+        Some(by) => next(p, by, c, from, to, ws),
+        None => Advanced {
             cursor: c,
-            planned: refused(99, 0, 0),
+            planned: refused(
+                Refusal {
+                    number: 99,
+                    place: 0,
+                },
+                0,
+            ),
         },
     }
 }
@@ -123,8 +122,15 @@ fn fill(
     let m = p.momenta;
     let asked = asked_of(way);
     match asked {
-        Asked::By(by) => plan_mosaic(p, by, m, tiles, counts, times, decisions, nodes, ws),
-        Asked::Unknown => halted(start(m), 99, 0, 0),
+        Some(by) => plan_mosaic(p, by, m, tiles, counts, times, decisions, nodes, ws),
+        None => halted(
+            start(m),
+            Refusal {
+                number: 99,
+                place: 0,
+            },
+            0,
+        ),
     }
 }
 

@@ -2,7 +2,6 @@
 use Rattle.std.specs.Prelude.{ℕ, zero, suc, ◌<◌, ◌≡◌, refl, Bool, true, false, cond, List, Float}
 use Rattle.std.proofs.Common.{ap, arith}
 use Rattle.common.specs.Lists.{at}
-use Rattle.common.specs.declared.Fate.TheVariants.{Going}
 use Rattle.forward.specs.declared.Node.{Node}
 use Rattle.problem.specs.declared.Momenta.{Momenta}
 use Rattle.forward.specs.Runs.{node_at}
@@ -17,6 +16,7 @@ use Rattle.preview.specs.Previews as Previews
 use Rattle.preview.specs.declared.Previewed.{Previewed}
 use Rattle.export_leaves.specs.Outcomes as Outcomes
 use Rattle.export_preview.specs.Numbers as Numbers
+use Rattle.common.specs.Refusals.{going}
 
 -- the last momenta, wheel by wheel
 pub last_is : (wheels : ℕ) (nodes : List Node) (i : ℕ) → i < 8 → at (Numbers.last wheels (rows nodes)).at i ≡ at (node_at nodes 16).hw i
@@ -44,7 +44,7 @@ module _ (m : Momenta) (v : Previewed) where
       Numbers.start m.count m.at (Outcomes.number (Plans.answer v.planned))
       v.began.count v.began.at v.planned.path.wheels (rows v.planned.path.nodes)
 
-  pub start_by_numbers : v.planned.fate ≡ Going → Agree by_numbers (Previews.start m v)
+  pub start_by_numbers : v.planned.fate ≡ going → Agree by_numbers (Previews.start m v)
   unfolding commit
   start_by_numbers g = rw g (by (same m v.began))
     where

@@ -1,14 +1,13 @@
 -- The cases of a row's controls and of the count of rows. Assumes nothing.
-use Rattle.std.specs.Prelude.{ℕ, ◌+◌, ◌<◌, ◌≤◌, ◌≡◌, Bool, cond, List, ltb, Float, replicate}
+use Rattle.std.specs.Prelude.{ℕ, ◌+◌, ◌<◌, ◌≤◌, ◌≡◌, Bool, cond, List, ltb, Float, replicate, Err}
 use Rattle.std.proofs.Common.{sym, lt-ltb, le-ltb}
 use Rattle.std.proofs.Math.Path.{ap}
 use Rattle.common.specs.Floats.{plus_zero}
-use Rattle.common.specs.declared.Fate.{Fate}
-use Rattle.common.specs.declared.Fate.TheVariants.{Going, Refused}
 use Rattle.reference_motion.specs.declared.Reference.{Reference}
 use Rattle.reference_checks.specs.Checks.{controls_of}
 use Rattle.reference.specs.declared.plan.Planned.{Planned}
 use Rattle.export_reference.specs.Rows as Rows
+use Rattle.common.specs.Refusals.{Fate, refusal, going}
 
 module _ (r : Reference) (k : ℕ) where
   abbrev Controls : Bool → List Float
@@ -27,16 +26,16 @@ module _ (x : Planned) (lent : ℕ) where
   abbrev Count : Fate → ℕ
   Count f = Rows.count_by_value f lent (x.reference.steps + 1)
 
-  pub count_refused : {n k : ℕ} → x.fate ≡ Refused n k → 0 ≡ Rows.count x lent
+  pub count_refused : {n k : ℕ} → x.fate ≡ Err (refusal n k) → 0 ≡ Rows.count x lent
   unfolding Rows.count
   count_refused e = ap Count (sym e)
 
-  pub count_going : x.fate ≡ Going → cond (ltb lent (x.reference.steps + 1)) lent (x.reference.steps + 1) ≡ Rows.count x lent
+  pub count_going : x.fate ≡ going → cond (ltb lent (x.reference.steps + 1)) lent (x.reference.steps + 1) ≡ Rows.count x lent
   unfolding Rows.count
   count_going e = ap Count (sym e)
 
-  pub count_lent : lent < x.reference.steps + 1 → x.fate ≡ Going → lent ≡ Rows.count x lent
+  pub count_lent : lent < x.reference.steps + 1 → x.fate ≡ going → lent ≡ Rows.count x lent
   count_lent h e = rw (lt-ltb _ _ h) at (count_going e)
 
-  pub count_all : x.reference.steps + 1 ≤ lent → x.fate ≡ Going → x.reference.steps + 1 ≡ Rows.count x lent
+  pub count_all : x.reference.steps + 1 ≤ lent → x.fate ≡ going → x.reference.steps + 1 ≡ Rows.count x lent
   count_all h e = rw (le-ltb _ _ h) at (count_going e)

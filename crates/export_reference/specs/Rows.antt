@@ -1,17 +1,16 @@
 -- The samples of a reference as rows of 31 numbers. Definitions only.
-use Rattle.std.specs.Prelude.{ℕ, ◌+◌, cond, List, [], ◌∷◌, ltb, replicate, set, Float}
+use Rattle.std.specs.Prelude.{ℕ, ◌+◌, cond, List, [], ◌∷◌, ltb, replicate, set, Float, Ok, Err}
 use Rattle.std.specs.Float.{binary64}
 use Rattle.std.specs.Float.Ieee.{mul}
 use Rattle.common.specs.Floats.{plus_zero}
 use Rattle.common.specs.Iter.{iter}
 use Rattle.common.specs.Lists.{at}
-use Rattle.common.specs.declared.Fate.{Fate}
-use Rattle.common.specs.declared.Fate.TheVariants.{Going, Refused}
 use Rattle.reference_motion.specs.declared.Reference.{Reference}
 use Rattle.reference_motion.specs.declared.Sample.{Sample}
 use Rattle.reference_motion.specs.Motion.{fraction}
 use Rattle.reference_checks.specs.Checks.{sample_of, controls_of}
 use Rattle.reference.specs.declared.plan.Planned.{Planned}
+use Rattle.common.specs.Refusals.{Fate}
 
 -- ---- a row
 
@@ -47,8 +46,8 @@ unfoldable pub written : Reference → List (List Float) → ℕ → List (List 
 written r out n = iter (put_row r) out n
 
 abbrev pub count_by_value : Fate → ℕ → ℕ → ℕ
-count_by_value (Refused n k) lent all = 0
-count_by_value Going lent all = cond (ltb lent all) lent all
+count_by_value (Err why) lent all = 0
+count_by_value (Ok _) lent all = cond (ltb lent all) lent all
 
 -- as many as there are samples and as rows are lent; none of a refusal
 unfoldable pub count : Planned → ℕ → ℕ

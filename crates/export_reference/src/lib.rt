@@ -22,18 +22,14 @@ fn put_planned(x: Planned, counts: &mut [usize; 3], duration: &mut f64, end: &mu
     requires { (x.reference.count ≤ 12) × (x.reference.steps ≤ 100000) }
     ensures { Entries.PlanTold x result counts.new duration.new end.new }
 {
-    let fate = x.fate;
-    let r = x.reference;
-    let steps = r.steps;
-    let last = sample_of(r, steps);
-    let h = last.h;
-    let place = place_of(fate);
-    *counts = [place, x.trials, x.samples];
-    *duration = r.duration;
+    let h = sample_of(x.reference, x.reference.steps).h;
+    *counts = [place_of(x.fate), x.trials, x.samples];
+    *duration = x.reference.duration;
     *end = [h[0], h[1], h[2], h[3], h[4], h[5], h[6], h[7]];
-    number_of(fate)
+    number_of(x.fate)
 }
 
+// The parameters stand one by one: the C interface.
 // The reference of a problem in numbers at so many steps: at the duration `given`, or, where `timed` is false, at the shortest that the search finds.
 pub fn slew_plan_reference_numbers(
     c: &[usize; 11],
@@ -76,8 +72,7 @@ pub fn slew_reference_list_numbers(
     let p = problem_of(c, v, b, limited);
     let planned = plan(p, limit_of(timed, given), steps);
     let n = row_count(planned, out.len());
-    let r = planned.reference;
-    put_rows(r, n, out);
+    put_rows(planned.reference, n, out);
     *written = n;
     put_planned(planned, counts, duration, end)
 }

@@ -2,7 +2,7 @@
 ghost use Rattle.std.specs.Prelude.{◌≡◌, ◌+◌, ◌≤◌, length};
 ghost use Rattle.export_reference.specs.Rows as Rows;
 
-use common::Fate;
+use common::Refusal;
 use reference::plan::Planned;
 use reference_checks::sample_of;
 use reference_motion::{Reference, Sample, controls, fraction};
@@ -12,13 +12,10 @@ fn step_controls(r: Reference, k: usize) -> [f64; 12]
     requires { (r.count ≤ 12) × ((k ≤ 100000) × (r.steps ≤ 100000)) }
     ensures { result ≡ Rows.step_controls r k }
 {
-    let steps = r.steps;
-    if k < steps {
+    if k < r.steps {
         let first = sample_of(r, k);
         let next = sample_of(r, k + 1);
-        let a = first.h;
-        let b = next.h;
-        controls(r, k, a, b)
+        controls(r, k, first.h, next.h)
     } else {
         [0.0; 12]
     }
@@ -28,10 +25,7 @@ fn step_controls(r: Reference, k: usize) -> [f64; 12]
 fn numbers(t: f64, s: Sample, u: [f64; 12]) -> [f64; 31]
     ensures { result ≡ Rows.numbers t s u }
 {
-    let q = s.q;
-    let w = s.w;
-    let a = s.a;
-    let h = s.h;
+    let Sample { q, w, a, h, .. } = s;
     [
         t, q.w, q.x, q.y, q.z, w[0], w[1], w[2], a[0], a[1], a[2], h[0], h[1], h[2], h[3], h[4],
         h[5], h[6], h[7], u[0], u[1], u[2], u[3], u[4], u[5], u[6], u[7], u[8], u[9], u[10], u[11],
@@ -43,8 +37,7 @@ fn row_of(r: Reference, k: usize) -> [f64; 31]
     requires { (r.count ≤ 12) × ((k ≤ 100000) × (r.steps ≤ 100000)) }
     ensures { result ≡ Rows.row r k }
 {
-    let steps = r.steps;
-    let t = r.duration * fraction(k, steps);
+    let t = r.duration * fraction(k, r.steps);
     numbers(t, sample_of(r, k), step_controls(r, k))
 }
 
@@ -53,12 +46,9 @@ pub fn row_count(x: Planned, lent: usize) -> usize
     requires { x.reference.steps ≤ 100000 }
     ensures { (result ≡ Rows.count x lent) × ((result ≤ lent) × (result ≤ x.reference.steps + 1)) }
 {
-    let fate = x.fate;
-    let r = x.reference;
-    let all = r.steps + 1;
-    match fate {
-        Fate::Refused(_, _) => 0,
-        Fate::Going => { if lent < all { lent } else { all } }
+    match x.fate {
+        Err(_) => 0,
+        Ok(()) => lent.min(x.reference.steps + 1),
     }
 }
 
@@ -67,10 +57,7 @@ pub fn put_rows(r: Reference, n: usize, out: &mut [[f64; 31]])
     requires { (r.count ≤ 12) × ((r.steps ≤ 100000) × ((n ≤ r.steps + 1) × (n ≤ length out.old))) }
     ensures { out.new ≡ Rows.written r out.old n }
 {
-    let mut k: usize = 0;
-    while k < n {
-        let row = row_of(r, k);
-        out[k] = row;
-        k += 1;
+    for k in 0..n {
+        out[k] = row_of(r, k);
     }
 }

@@ -1,7 +1,5 @@
 -- What the code reads from how a run ended is what its answer says, in the specification's numbers. Assumes nothing.
-use Rattle.std.specs.Prelude.{ℕ, ◌≡◌, refl, List, Float}
-use Rattle.common.specs.declared.Fate.{Fate}
-use Rattle.common.specs.declared.Fate.TheVariants.{Going, Refused}
+use Rattle.std.specs.Prelude.{ℕ, ◌≡◌, refl, List, Float, Ok, Err}
 use Rattle.forward.specs.Reconstruct as Forward
 use Rattle.forward.specs.declared.Reconstructed.{Reconstructed}
 use Rattle.residuals.specs.MeasuredResiduals as Residuals
@@ -10,20 +8,21 @@ use Rattle.samples.specs.Rows.{rows}
 use Rattle.export_leaves.specs.Outcomes.{fate_number, fate_place}
 use Rattle.export_leaves.specs.OutcomeLaws.{Tells, counted}
 use Rattle.export_runs.specs.Paths.{RunTold, ResidualsTold}
+use Rattle.common.specs.Refusals.{Fate}
 
 pub of_run_law : (r : Reconstructed) → Tells (Forward.answer r) r.run.fate r.runs
 of_run_law r = go r.run.fate refl
   where
     go : (f : Fate) → r.run.fate ≡ f → Tells (Forward.answer r) r.run.fate r.runs
-    go Going e = rw e (record { number = refl; place = refl; runs = refl })
-    go (Refused n k) e = rw e (record { number = refl; place = refl; runs = refl })
+    go (Ok _) e = rw e (record { number = refl; place = refl; runs = refl })
+    go (Err why) e = rw e (record { number = refl; place = refl; runs = refl })
 
 pub of_residuals : (m : Measured) → Tells (Residuals.answer m) m.residuals.fate m.runs
 of_residuals m = go m.residuals.fate refl
   where
     go : (f : Fate) → m.residuals.fate ≡ f → Tells (Residuals.answer m) m.residuals.fate m.runs
-    go Going e = rw e (record { number = refl; place = refl; runs = refl })
-    go (Refused n k) e = rw e (record { number = refl; place = refl; runs = refl })
+    go (Ok _) e = rw e (record { number = refl; place = refl; runs = refl })
+    go (Err why) e = rw e (record { number = refl; place = refl; runs = refl })
 
 -- what is told of them, by their fate
 module _ {n place : ℕ} where

@@ -10,8 +10,6 @@ ghost use Rattle.problem_numbers.specs.Declared as Declared;
 ghost use Rattle.export_leaves.specs.Outcomes.{number, Answered, Placed};
 ghost use Rattle.export_runs.specs.Rigs as Rigs;
 
-use actuators::Measure;
-use export_leaves::pack::{number_of, place_of};
 use problem_numbers::{actuators_of, map_of};
 
 // The unit axes, a refusal's number and place.
@@ -26,15 +24,22 @@ pub fn slew_prepare(
     ensures wheel_axes_after { wheel_axes.new ≡ (Declared.map c.now v.now).wheel_axes }
     ensures thruster_axes_after { thruster_axes.new ≡ (Declared.map c.now v.now).thruster_axes }
 {
-    let prepared = actuators::prepare(actuators_of(c, v));
-    let fate = prepared.fate;
-    let map = prepared.map;
-    let ws = map.wheel_axes;
-    let ts = map.thruster_axes;
-    *wheel_axes = ws;
-    *thruster_axes = ts;
-    *place = place_of(fate);
-    number_of(fate)
+    match actuators::prepare(actuators_of(c, v)) {
+        Ok(map) => {
+            let ws = map.wheel_axes;
+            let ts = map.thruster_axes;
+            *wheel_axes = ws;
+            *thruster_axes = ts;
+            *place = 0;
+            0
+        }
+        Err(refusal) => {
+            *wheel_axes = [0.0; 24];
+            *thruster_axes = [0.0; 36];
+            *place = refusal.place;
+            refusal.number
+        }
+    }
 }
 
 // Controls in a row.
@@ -48,13 +53,18 @@ pub fn slew_control_dim(c: &[usize; 11], v: &[f64; 100]) -> usize
 // A pyramid's Jacobian by rows; zeros where an angle is outside.
 pub fn slew_pyramid_a(skew: f64, delta: &[f64; 4], out: &mut [f64; 12]) -> usize
     ensures value { result ≡ number (Answers.of_jacobian (Pyramid.pyramid_a skew delta.now)) }
-    ensures out_after { out.new ≡ (Pyramid.pyramid_a skew delta.now).a }
+    ensures out_after { out.new ≡ Pyramid.matrix_or_zeros (Pyramid.pyramid_a skew delta.now) }
 {
-    let made = actuators::pyramid::pyramid_a(skew, *delta);
-    let fate = made.fate;
-    let a = made.a;
-    *out = a;
-    number_of(fate)
+    match actuators::pyramid::pyramid_a(skew, *delta) {
+        Ok(a) => {
+            *out = a;
+            0
+        }
+        Err(refusal) => {
+            *out = [0.0; 12];
+            refusal.number
+        }
+    }
 }
 
 // The torque of a row u; zeros where it is refused.
@@ -72,11 +82,16 @@ pub fn slew_body_torque(
         result out.new }
 {
     let map = map_of(c, v);
-    let t = controls::body_torque(map, u, *omega, *h, *delta);
-    let fate = t.fate;
-    let tau = t.tau;
-    *out = tau;
-    number_of(fate)
+    match controls::body_torque(map, u, *omega, *h, *delta) {
+        Ok(tau) => {
+            *out = tau;
+            0
+        }
+        Err(refusal) => {
+            *out = [0.0; 3];
+            refusal.number
+        }
+    }
 }
 
 // A row held to its limits.
@@ -98,24 +113,30 @@ pub fn slew_allocate_body_torque(
     ensures { Rigs.RowTold (Declared.map c.now v.now) tau.now result place.new out.new }
 {
     let map = map_of(c, v);
-    let row = actuators::allocate_body_torque(map, *tau);
-    let fate = row.fate;
-    let u = row.u;
-    *out = u;
-    *place = place_of(fate);
-    number_of(fate)
+    match actuators::allocate_body_torque(map, *tau) {
+        Ok(u) => {
+            *out = u;
+            *place = 0;
+            0
+        }
+        Err(refusal) => {
+            *out = [0.0; 20];
+            *place = refusal.place;
+            refusal.number
+        }
+    }
 }
 
 // A refusal's number, or 0, and then the measure is put into `out`.
-fn put_measure(m: Measure, out: &mut f64) -> usize
+fn put_measure(m: Option<f64>, out: &mut f64) -> usize
     ensures { Answered (Answers.of_measure m) result out.old out.new }
 {
     match m {
-        Measure::Is(x) => {
+        Some(x) => {
             *out = x;
             0
         }
-        Measure::Outside => 11,
+        None => 11,
     }
 }
 

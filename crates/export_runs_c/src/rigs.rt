@@ -34,7 +34,7 @@ pub extern "C" fn slew_control_dim(c: &[usize; 11], v: &[f64; 100]) -> usize
 #[unsafe(no_mangle)]
 pub extern "C" fn slew_pyramid_a(skew: f64, delta: &[f64; 4], out: &mut [f64; 12]) -> usize
     ensures value { result ≡ number (Answers.of_jacobian (Pyramid.pyramid_a skew delta.now)) }
-    ensures out_after { out.new ≡ (Pyramid.pyramid_a skew delta.now).a }
+    ensures out_after { out.new ≡ Pyramid.matrix_or_zeros (Pyramid.pyramid_a skew delta.now) }
 {
     export_runs::rigs::slew_pyramid_a(skew, delta, out)
 }

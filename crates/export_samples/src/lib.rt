@@ -28,8 +28,7 @@ pub fn slew_sample_list(
     let made = sample_lists::sample_list(
         inertia, tolerance, duration, nodes, requested, alpha, out,
     );
-    let fate = made.fate;
     *rows = made.rows;
-    *place = place_of(fate);
-    number_of(fate)
+    *place = place_of(made.fate);
+    number_of(made.fate)
 }

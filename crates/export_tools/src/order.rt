@@ -1,16 +1,10 @@
 // tile_order: an order for the tiles of a mosaic. Answers 0, or 25; beside a refusal the order and what is told are zeros.
-ghost use Rattle.std.specs.Prelude.{◌≡◌, cond};
+ghost use Rattle.std.specs.Prelude.{◌≡◌};
 ghost use Rattle.tile_order.specs.Answers as Answers;
 ghost use Rattle.export_leaves.specs.Outcomes.{fate_number};
 ghost use Rattle.export_tools.specs.OrderEntries as OrderEntries;
 
 use export_leaves::pack::number_of;
-
-fn flag(b: bool) -> u64
-    ensures { result ≡ cond b 1 0 }
-{
-    if b { 1 } else { 0 }
-}
 
 // `order` gets the order, 0 in the places past the tiles; `told` its cost, the tiles placed, 1 where the budget was used up and 0 where not, the floor.
 pub fn slew_order(
@@ -25,11 +19,14 @@ pub fn slew_order(
     ensures told_after { told.new ≡ OrderEntries.told (Answers.answer tiles times.now budget).found }
 {
     let answer = tile_order::order(tiles, times, budget);
-    let fate = answer.fate;
     let found = answer.found;
     let places = found.order;
-    let exhausted = flag(found.exhausted);
     *order = places;
-    *told = [found.cost, found.placed, exhausted, found.floor];
-    number_of(fate)
+    *told = [
+        found.cost,
+        found.placed,
+        u64::from(found.exhausted),
+        found.floor,
+    ];
+    number_of(answer.fate)
 }

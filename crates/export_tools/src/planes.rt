@@ -5,16 +5,11 @@ ghost use Rattle.byte_planes.specs.Answers.{of_stored};
 ghost use Rattle.byte_planes.specs.Calls.{encoded, encoded_out, decoded, decoded_out};
 ghost use Rattle.export_leaves.specs.Outcomes.{number};
 
-use byte_planes::Stored;
-
 // A refusal's number, or 0.
-fn number_of(s: Stored) -> usize
-    ensures { result ≡ number (of_stored s) }
+fn number_of(written: Option<usize>) -> usize
+    ensures { result ≡ number (of_stored written) }
 {
-    match s {
-        Stored::Written(_) => 0,
-        Stored::Refused => 28,
-    }
+    if written.is_some() { 0 } else { 28 }
 }
 
 // The planes of a column into `out`, the top bytes first.

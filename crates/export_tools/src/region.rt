@@ -6,30 +6,23 @@ ghost use Rattle.reach_avoid.specs.Answers as Answers;
 ghost use Rattle.export_leaves.specs.Outcomes.{Answered};
 ghost use Rattle.export_tools.specs.Region as Region;
 
-use reach_avoid::{DraughtReply, StartOutcome};
+use reach_avoid::{OutOfRange, StartOutcome};
 
 // A refusal's number, or 0, and then the turns and the first choice are put into what is lent for them.
-fn put_start(s: StartOutcome, turns: &mut usize, choice: &mut i64) -> usize
+fn put_start(s: Result<StartOutcome, OutOfRange>, turns: &mut usize, choice: &mut i64) -> usize
     ensures { Region.StartTold (Answers.of_start s) result turns.old turns.new choice.old choice.new }
 {
-    match s {
-        StartOutcome::Home => {
-            *turns = 0;
-            *choice = 255;
-            0
-        }
-        StartOutcome::Forced(n, u) => {
-            *turns = n;
-            *choice = u;
-            0
-        }
-        StartOutcome::HeldOff => {
-            *turns = 255;
-            *choice = 255;
-            0
-        }
-        StartOutcome::Outside => 27,
-    }
+    let Ok(told) = s else {
+        return 27;
+    };
+    let (n, u) = match told {
+        StartOutcome::Home => (0, 255),
+        StartOutcome::Forced(n, u) => (n, u),
+        StartOutcome::HeldOff => (255, 255),
+    };
+    *turns = n;
+    *choice = u;
+    0
 }
 
 // The fewest turns in which the drive forces home, and its first choice.
@@ -41,20 +34,14 @@ pub fn slew_outcome(angle: i64, rate: i64, turns: &mut usize, choice: &mut i64) 
 }
 
 // A refusal's number, or 0, and then the reply is put into `out`.
-fn put_reply(d: DraughtReply, out: &mut i64) -> usize
-    ensures { Answered (Answers.of_reply d) result out.old out.new }
+fn put_reply(r: Result<Option<i64>, OutOfRange>, out: &mut i64) -> usize
+    ensures { Answered (Answers.of_reply r) result out.old out.new }
 {
-    match d {
-        DraughtReply::With(x) => {
-            *out = x;
-            0
-        }
-        DraughtReply::Without => {
-            *out = 255;
-            0
-        }
-        DraughtReply::Outside => 27,
-    }
+    let Ok(d) = r else {
+        return 27;
+    };
+    *out = d.unwrap_or(255);
+    0
 }
 
 // The draught's lowest reply that holds the drive off for the turns that are left, this one counted.

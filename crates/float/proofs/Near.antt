@@ -1,5 +1,5 @@
 -- The root of a number near 1: its pattern is halfway between that of 1 and the number's. Assumes nothing.
-use Rattle.std.proofs.Common.{◌≡◌, ℕ, ◌+◌, ◌-◌, ◌*◌, ◌/◌, ◌%◌, ◌^◌, ◌<◌, ◌≤◌, sym, ap, ◌∙◌, subst, add_assoc, mul_assoc, mul_comm, add-mul, mul-le-mul, add_comm, lt_of_not-le, mul-add, mul_left_comm, arith}
+use Rattle.std.proofs.Common.{◌≡◌, ℕ, ◌+◌, ◌-◌, ◌*◌, ◌/◌, ◌%◌, ◌^◌, ◌<◌, ◌≤◌, ap, ◌∙◌, subst, add_assoc, mul_assoc, mul_comm, add-mul, mul-le-mul, add_comm, lt_of_not-le, mul-add, mul_left_comm, arith}
 use native.Mathlib.Nat.{add_left_comm}
 use native.Mathlib.Decide.{dec_le}
 use lib.Ieee.{binary64, of_bits}

@@ -5,7 +5,7 @@ use lib.Count.{count_trailing_zeros, under}
 use lib.Ieee.{minus}
 use lib.Dec.{not_T}
 use lib.Arith.{lt→nleb}
-use lib.Ieee.{Float, nan, inf, fin, binary64, low, up, down, size, nearest, odd, units, of_fields, of_bits}
+use lib.Ieee.{Float, nan, inf, fin, binary64, up, down, size, nearest, odd, units, of_fields, of_bits}
 use lib.Ieee.Digits.{size-lt, size-le}
 use lib.Ieee.Fits.{down_pos}
 use lib.Ieee.Exact.{HasValue, odd_sign}

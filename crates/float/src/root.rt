@@ -1,5 +1,5 @@
 // The digits of IEEE 754's square root: a guess in floats, of which nothing is proved but its range, and a test in whole numbers that accepts or corrects it.
-ghost use Rattle.std.specs.Prelude.{◌≡◌, ℕ, ◌+◌, ◌-◌, ◌*◌, ◌/◌, ◌%◌, ◌^◌, ◌<◌, ◌≤◌, true, from_bits};
+ghost use Rattle.std.specs.Prelude.{◌≡◌, ℕ, ◌+◌, ◌-◌, ◌*◌, ◌/◌, ◌%◌, ◌^◌, ◌<◌, ◌≤◌, IfSome, from_bits};
 ghost use Rattle.std.specs.Float.{binary64};
 ghost use Rattle.float.specs.Sqrt as Sqrt;
 ghost use Rattle.float.specs.RootInner.{units_of, rounded, radicand};
@@ -28,17 +28,10 @@ fn argument(g: u64) -> u64
     (0x10_0000_0000_0000 + g % 0x10_0000_0000_0000) * (1 + (g >> 52))
 }
 
-// What a guess leaves: d is e * 2^52 + 3 * s - 3 less s * s, where that is near.
-#[derive(Clone, Copy)]
-struct Left {
-    near: bool,
-    d: u64,
-}
-
-// What the guess s at the root of e * 2^52 leaves: whether the root, rounded to the nearest, is s or a neighbour of it.
-fn rest(s: u64, e: u64) -> Left
+// What the guess s at the root of e * 2^52 leaves, e * 2^52 + 3 * s - 3 less s * s, where the root, rounded to the nearest, is s or a neighbour of it.
+fn rest(s: u64, e: u64) -> Option<u64>
     requires { (2 ^ 52 ≤ s) × (s < 2 ^ 54) × (e < 2 ^ 54) }
-    ensures { result.near ≡ true → (s * s + result.d + 3 ≡ e * 2 ^ 52 + 3 * s) × (result.d < 6 * s) }
+    ensures { IfSome result (λ d. (s * s + d + 3 ≡ e * 2 ^ 52 + 3 * s) × (d < 6 * s)) }
 {
     let n = raised(
         Wide {
@@ -50,13 +43,10 @@ fn rest(s: u64, e: u64) -> Left
     let p = product(s, s);
     let d = wrapping_sub_u64(n.lo, p.lo);
     let q = raised(p, d);
-    if q.hi == n.hi {
-        Left {
-            near: d < 6 * s,
-            d: d,
-        }
+    if q.hi == n.hi && d < 6 * s {
+        Some(d)
     } else {
-        Left { near: false, d: d }
+        None
     }
 }
 
@@ -89,11 +79,9 @@ pub fn root_digits(g: u64) -> u64
 {
     let s = guess(g);
     let e = argument(g);
-    let w = rest(s, e);
-    if w.near {
-        settled(s, w.d)
-    } else {
-        slow_root(e)
+    match rest(s, e) {
+        Some(d) => settled(s, d),
+        None => slow_root(e),
     }
 }
 

@@ -1,6 +1,6 @@
 -- A run part of the way, as the code keeps it, with its nodes in lent rows, and the rest of its steps. Assumes nothing.
 use Prim.Native.Nat.{ℕ, zero, suc, ◌+◌, ◌-◌, ◌≤◌, ◌<◌}
-use Rattle.std.specs.Prelude.{◌≡◌, true, List, T, length, get_or, set, Float}
+use Rattle.std.specs.Prelude.{◌≡◌, true, List, T, length, get_or, set, Float, Ok, Err}
 use Rattle.std.proofs.Math.Path.{refl, sym, ap}
 use Rattle.std.proofs.Common.{subst, ◌∙◌, suc-add, ext_get_or, get_or-set_same, get_or-set_other, below_more}
 use Rattle.std.proofs.Math.Nat.{zero-add}
@@ -11,8 +11,6 @@ use Rattle.std.specs.Float.Ieee.{of_bits}
 use Rattle.common.specs.Floats as Floats
 use Rattle.common.specs.Iter.{iter}
 use Rattle.common.specs.IterLaws.{iter_none, iter_next, iter_stays}
-use Rattle.common.specs.declared.Fate.{Fate}
-use Rattle.common.specs.declared.Fate.TheVariants.{Going, Refused}
 use Rattle.float.specs.Sqrt.{sqrt}
 use Rattle.geom.specs.Vec as Vec
 use Rattle.actuators.specs.Maps.{control_dim, is_sized}
@@ -22,7 +20,7 @@ use Rattle.controls.specs.Controls.{rig_under}
 use Rattle.problem.specs.declared.CheckedProblem.{CheckedProblem}
 use Rattle.forward.specs.Decisions.{step_time}
 use Rattle.forward.specs.DefectLaws.{upright}
-use Rattle.forward.specs.Steps.{Body}
+use Rattle.forward.specs.declared.Body.{Body}
 use Rattle.forward.specs.StepLaws.{AnglesOf, Made}
 use Rattle.forward.specs.Runs.{Rollout, advance, rollout_turn, start_rollout, rollout, onward, end_by_value, end_of, ended_run, run_from, refused_run, node_of, no_node, body_under}
 use Rattle.forward.specs.RunLaws.{going_rollout, turn_refused}
@@ -34,6 +32,7 @@ use Rattle.forward.specs.declared.Node.{Node}
 use Rattle.forward.specs.declared.Partway.{Partway}
 use Rattle.forward.specs.declared.Went.{Went}
 use Rattle.forward.specs.declared.Run.{Run}
+use Rattle.common.specs.Refusals.{Fate, refusal, going}
 
 -- the rollout that it stands for with the rows v: the largest defect is kept squared
 abbrev pub rollout_of : Partway → List (List Float) → Rollout
@@ -57,12 +56,12 @@ pub record Fits (law : WheelLaw) (p : CheckedProblem) (skew : Skew) (known : Lis
 -- x with the rows u is what steps k up to `end` make of c with the rows v
 pub record Reached (b : Body) (n : ℕ) (z : List Float) (k end : ℕ) (c : Partway) (v : List (List Float)) (x : Went) (u : List (List Float)) : Type 0 where
   pub fates : x.fate ≡ (onward b n z k (rollout_of c v) (end - k)).fate
-  pub goes : x.fate ≡ Going → rollout_of x.at u ≡ onward b n z k (rollout_of c v) (end - k)
-  pub sound : x.fate ≡ Going → Sound b.rig x.at
+  pub goes : x.fate ≡ going → rollout_of x.at u ≡ onward b n z k (rollout_of c v) (end - k)
+  pub sound : x.fate ≡ going → Sound b.rig x.at
   pub below : SameBelow k v u
   pub size : length u ≡ length v
 
-never : {A : Type 0} {u v : ℕ} → Refused u v ≡ Going → A
+never : {A : Type 0} {u v : ℕ} → Err (refusal u v) ≡ going → A
 never w = let t : ◌≡◌ {A = ℕ} 0 1 = cc in absurd (omega arith)
 
 -- of a problem and a decision
@@ -73,7 +72,7 @@ ReachedUnder law p z k end c v x u = Reached (body_under law p (step_time z)) (c
 module _ (b : Body) (n : ℕ) (z : List Float) (k end : ℕ) (c : Partway) (v : List (List Float)) where
   -- step i is refused
   pub reached_refused : (i : ℕ) (p : Rollout) {x : Went} {u : List (List Float)} {h j : ℕ} → k < i → i ≤ end → p ≡ iter (λ (d : ℕ). rollout_turn b n z (d + k)) (rollout_of c v) (i - k - 1)
-      → (rollout_turn b n z (i - 1) p).fate ≡ Refused h j → x.fate ≡ Refused h j → SameBelow k v u → length u ≡ length v → Reached b n z k end c v x u
+      → (rollout_turn b n z (i - 1) p).fate ≡ Err (refusal h j) → x.fate ≡ Err (refusal h j) → SameBelow k v u → length u ≡ length v → Reached b n z k end c v x u
   unfolding onward
   reached_refused i p {x} {u} {h} {j} l m e q f s t =
       let p2 : Rollout = rollout_turn b n z (i - 1) p in
@@ -90,7 +89,7 @@ module _ (b : Body) (n : ℕ) (z : List Float) (k end : ℕ) (c : Partway) (v : 
       }
 
   -- all of them went on
-  pub reached_going : {x : Went} {u : List (List Float)} → x.fate ≡ Going → rollout_of x.at u ≡ iter (λ (d : ℕ). rollout_turn b n z (d + k)) (rollout_of c v) (end - k) → Sound b.rig x.at
+  pub reached_going : {x : Went} {u : List (List Float)} → x.fate ≡ going → rollout_of x.at u ≡ iter (λ (d : ℕ). rollout_turn b n z (d + k)) (rollout_of c v) (end - k) → Sound b.rig x.at
       → SameBelow k v u → length u ≡ length v → Reached b n z k end c v x u
   unfolding onward
   reached_going {x} f e s o t = record { fates = f ∙ ap (λ (y : Rollout). y.fate) e; goes = λ g. e; sound = λ g. s; below = o; size = t }
@@ -98,9 +97,9 @@ module _ (b : Body) (n : ℕ) (z : List Float) (k end : ℕ) (c : Partway) (v : 
 -- ---- rollouts whose first nodes are the same: what stands in the others no step reads
 pub record Alike (k : ℕ) (x y : Rollout) : Type 0 where
   pub fates : x.fate ≡ y.fate
-  pub states : x.fate ≡ Going → x.s ≡ y.s
-  pub defects : x.fate ≡ Going → x.defect ≡ y.defect
-  pub nodes : x.fate ≡ Going → (i : ℕ) → i < k → get_or x.nodes i no_node ≡ get_or y.nodes i no_node
+  pub states : x.fate ≡ going → x.s ≡ y.s
+  pub defects : x.fate ≡ going → x.defect ≡ y.defect
+  pub nodes : x.fate ≡ going → (i : ℕ) → i < k → get_or x.nodes i no_node ≡ get_or y.nodes i no_node
   pub long : length x.nodes ≡ 17
   pub size : length y.nodes ≡ 17
 
@@ -114,7 +113,7 @@ nodes_more k l m a h o e =
 
 module _ (b : Body) (n : ℕ) (z : List Float) where
   -- one step more
-  alike_goes : (k : ℕ) (x y : Rollout) → x.fate ≡ Going → k < 17 → Alike k x y → Alike (k + 1) (rollout_turn b n z k x) (rollout_turn b n z k y)
+  alike_goes : (k : ℕ) (x y : Rollout) → x.fate ≡ going → k < 17 → Alike k x y → Alike (k + 1) (rollout_turn b n z k x) (rollout_turn b n z k y)
   unfolding rollout_turn advance
   alike_goes k x y e h o =
       rw (← o.fates, e, ← o.states e, ← o.defects e)
@@ -128,8 +127,8 @@ module _ (b : Body) (n : ℕ) (z : List Float) where
       })
 
   alike_by : (k : ℕ) (x y : Rollout) (f : Fate) → x.fate ≡ f → k < 17 → Alike k x y → Alike (k + 1) (rollout_turn b n z k x) (rollout_turn b n z k y)
-  alike_by k x y Going e h o = alike_goes k x y e h o
-  alike_by k x y (Refused i j) e h o =
+  alike_by k x y (Ok _) e h o = alike_goes k x y e h o
+  alike_by k x y (Err why) e h o =
       rw (turn_refused b n z k x e, turn_refused b n z k y (sym o.fates ∙ e))
       (record {
         fates = o.fates;
@@ -150,8 +149,8 @@ module _ (b : Body) (n : ℕ) (z : List Float) where
 
 -- ---- the whole run: that of x, which went through all steps, with the rows u
 abbrev told_by : Fate → Partway → List (List Float) → Run
-told_by Going c u = record { fate = Going; defect = sqrt binary64 c.square; nodes = nodes_from u }
-told_by (Refused i j) c u = refused_run i j
+told_by (Ok _) c u = record { fate = going; defect = sqrt binary64 c.square; nodes = nodes_from u }
+told_by (Err why) c u = refused_run why.number why.place
 
 unfoldable pub told : Went → List (List Float) → Run
 told x u = told_by x.fate x.at u
@@ -192,7 +191,7 @@ module _ (b : Body) (n : ℕ) (z : List Float) (from : BodyState) where
         let e : end - k + k ≡ end = omega arith in
         rw e at (rw (iter_on (rollout_turn b n z) (start_rollout from) k (end - k)) at (alike_on b n z k (rollout_of c v) (iter (rollout_turn b n z) (start_rollout from) k) (end - k) (omega arith) h))
 
-    pub stands_on : x.fate ≡ Going → Stands end x.at u
+    pub stands_on : x.fate ≡ going → Stands end x.at u
     stands_on g = rw (r.goes g) further
 
 -- two lists of 17 nodes with the same first 16, and the same last one set
@@ -202,16 +201,16 @@ last_same l m a h o e =
     (λ i b. nodes_more 16 l m a (omega arith) (omega arith) e i (omega (arith, length-set l 16 a)))
 
 abbrev ending : Float → List Node → Run
-ending d ns = record { fate = Going; defect = d; nodes = ns }
+ending d ns = record { fate = going; defect = d; nodes = ns }
 
-ended_run_alike : (b : Body) (x y : Rollout) → x.fate ≡ Going → Alike 16 x y → ended_run b x ≡ ended_run b y
+ended_run_alike : (b : Body) (x y : Rollout) → x.fate ≡ going → Alike 16 x y → ended_run b x ≡ ended_run b y
 ended_run_alike b x y e o =
     rw (← o.states e, ← o.defects e, ← o.nodes e 15 (omega arith))
     (ap (λ (ns : List Node). ending x.defect ns) (last_same x.nodes y.nodes _ o.long o.size (o.nodes e)))
 
 -- u is the rows v with the last node of the run x in its dt: it repeats the torque of the one before
 abbrev pub Lasts : Float → Went → List (List Float) → List (List Float) → Type 0
-Lasts dt x v u = x.fate ≡ Going → nodes_from u ≡ set (nodes_from v) 16 (node_of dt 16 x.at.s (get_or (nodes_from v) 15 no_node).tau)
+Lasts dt x v u = x.fate ≡ going → nodes_from u ≡ set (nodes_from v) 16 (node_of dt 16 x.at.s (get_or (nodes_from v) 15 no_node).tau)
 
 lasts_set : (dt : Float) (x : Went) (v : List (List Float)) (r : List Float) {tau : List Float} → 15 < length v → tau ≡ torque_in (row_at v 15) → node_from r ≡ node_of dt 16 x.at.s tau
     → Lasts dt x v (set v 16 r)
@@ -223,11 +222,11 @@ module _ (b : Body) (n : ℕ) (z : List Float) (from : BodyState) where
   module _ {k : ℕ} {c : Partway} {v u : List (List Float)} {x : Went} (h : Stands b n z from k c v) (l : k ≤ 16) (r : Reached b n z k 16 c v x u) where
     ended_run_by : (w : List (List Float)) (f : Fate) → x.fate ≡ f → Lasts b.frame.dt x u w → told x w ≡ end_of b (rollout b n z from)
     unfolding told end_of rollout
-    ended_run_by w Going e last =
+    ended_run_by w (Ok _) e last =
         let a = stands_on b n z from h l (omega arith) r e in
         let goes = ap (λ (g : Fate). end_by_value g b (iter (rollout_turn b n z) (start_rollout from) 16)) (sym a.fates) in
         rw (e, last e) (ended_run_alike b (rollout_of x.at u) (iter (rollout_turn b n z) (start_rollout from) 16) refl a ∙ sym goes)
-    ended_run_by w (Refused i j) e last =
+    ended_run_by w (Err why) e last =
         let a = further b n z from h l (omega arith) r in
         rw (e) (sym (ap (λ (g : Fate). end_by_value g b (iter (rollout_turn b n z) (start_rollout from) 16)) (sym a.fates ∙ (sym r.fates ∙ e))))
 
@@ -243,7 +242,7 @@ pub record Ran (b : Body) (n : ℕ) (z : List Float) (k : ℕ) (c : Partway) (v 
   pub size : length u ≡ length v
 
 module _ (b : Body) (n : ℕ) (z : List Float) (k : ℕ) (c : Partway) (v : List (List Float)) {x : Went} {u : List (List Float)} (few : k ≤ 16) (r : Reached b n z k 16 c v x u) where
-  pub ran_refused : {i j : ℕ} → x.fate ≡ Refused i j → Ran b n z k c v x u
+  pub ran_refused : {i j : ℕ} → x.fate ≡ Err (refusal i j) → Ran b n z k c v x u
   ran_refused e = record { whole = λ from h. ends_whole b n z from h few r u (λ g. never (sym e ∙ g)); below = r.below; size = r.size }
 
   -- with the last node in a row

@@ -1,11 +1,9 @@
 -- A forward run: one `reconstruct`, 16 steps and 17 nodes (SOLVER_NODES). Definitions only.
-use Rattle.std.specs.Prelude.{ℕ, ◌+◌, List, [], get_or, set, replicate, pos, Float}
+use Rattle.std.specs.Prelude.{ℕ, ◌+◌, List, [], get_or, set, replicate, pos, Float, Ok, Err}
 use Rattle.std.specs.Float.{nan, binary64}
 use Rattle.std.specs.Float.Ieee.{mul, of_int}
 use Rattle.common.specs.Floats as Floats
 use Rattle.common.specs.Iter.{iter}
-use Rattle.common.specs.declared.Fate.{Fate}
-use Rattle.common.specs.declared.Fate.TheVariants.{Going, Refused}
 use Rattle.float.specs.Ops.{max}
 use Rattle.geom.specs.Vec as Vec
 use Rattle.geom.specs.declared.Quat.{Quat}
@@ -16,12 +14,14 @@ use Rattle.control_rows.specs.declared.WheelLaw.{WheelLaw}
 use Rattle.control_rows.specs.declared.WheelLaw.TheVariants.{Once}
 use Rattle.problem.specs.declared.CheckedProblem.{CheckedProblem}
 use Rattle.forward.specs.Decisions.{row_of, step_time}
-use Rattle.forward.specs.Steps.{Body, body_with, step}
+use Rattle.forward.specs.Steps.{body_with, step}
+use Rattle.forward.specs.declared.Body.{Body}
 use Rattle.forward.specs.declared.Frame.{Frame}
 use Rattle.forward.specs.declared.BodyState.{BodyState}
 use Rattle.forward.specs.declared.Stepped.{Stepped}
 use Rattle.forward.specs.declared.Node.{Node}
 use Rattle.forward.specs.declared.Run.{Run}
+use Rattle.common.specs.Refusals.{Fate, refusal, going}
 
 -- The start of a run: at q0, at rest, n wheels with the momenta hw and the body momentum that they make, the gimbals at +0.
 unfoldable pub start : List Float → ℕ → Quat → List Float → BodyState
@@ -55,14 +55,14 @@ advance dt k c g = record { fate = g.fate; s = g.s; defect = max c.defect g.defe
 
 -- a rollout that was refused stays as it is
 abbrev pub rollout_by : Fate → Body → ℕ → List Float → ℕ → Rollout → Rollout
-rollout_by Going b n z k c = advance b.frame.dt k c (step b (row_of n z k) k c.s)
-rollout_by (Refused i j) b n z k c = c
+rollout_by (Ok _) b n z k c = advance b.frame.dt k c (step b (row_of n z k) k c.s)
+rollout_by (Err why) b n z k c = c
 
 unfoldable pub rollout_turn : Body → ℕ → List Float → ℕ → Rollout → Rollout
 rollout_turn b n z k c = rollout_by c.fate b n z k c
 
 abbrev pub start_rollout : BodyState → Rollout
-start_rollout s = record { fate = Going; s = s; defect = Floats.plus_zero; nodes = replicate 17 blank_node }
+start_rollout s = record { fate = going; s = s; defect = Floats.plus_zero; nodes = replicate 17 blank_node }
 
 -- the 16 steps, with n controls a row
 unfoldable pub rollout : Body → ℕ → List Float → BodyState → Rollout
@@ -70,15 +70,15 @@ rollout b n z s = iter (rollout_turn b n z) (start_rollout s) 16
 
 -- a refused run has no nodes: they are blank
 abbrev pub refused_run : ℕ → ℕ → Run
-refused_run n place = record { fate = Refused n place; defect = Floats.plus_zero; nodes = replicate 17 blank_node }
+refused_run n place = record { fate = Err (refusal n place); defect = Floats.plus_zero; nodes = replicate 17 blank_node }
 
 -- node 16 repeats node 15's torque
 abbrev pub ended_run : Body → Rollout → Run
-ended_run b c = record { fate = Going; defect = c.defect; nodes = set c.nodes 16 (node_of b.frame.dt 16 c.s (get_or c.nodes 15 no_node).tau) }
+ended_run b c = record { fate = going; defect = c.defect; nodes = set c.nodes 16 (node_of b.frame.dt 16 c.s (get_or c.nodes 15 no_node).tau) }
 
 abbrev pub end_by_value : Fate → Body → Rollout → Run
-end_by_value Going b c = ended_run b c
-end_by_value (Refused i j) b c = refused_run i j
+end_by_value (Ok _) b c = ended_run b c
+end_by_value (Err why) b c = refused_run why.number why.place
 
 unfoldable pub end_of : Body → Rollout → Run
 end_of b c = end_by_value c.fate b c

@@ -1,54 +1,40 @@
 -- The step law, as `reconstruct` of scvx.rs has it: one step in stages, each handed what the one before worked out. Definitions only.
-use Rattle.std.specs.Prelude.{ℕ, ◌+◌, List, [], ◌∷◌, Bool, true, false, cond, length, replicate, Float}
+use Rattle.std.specs.Prelude.{ℕ, ◌+◌, List, [], ◌∷◌, Bool, true, false, cond, length, replicate, Float, Option, Some, None, Result, Ok, Err}
 use Rattle.std.specs.Float.{binary64}
 use Rattle.std.specs.Float.Ieee.{add, mul, lt, of_bits}
 use Rattle.common.specs.Floats as Floats
 use Rattle.common.specs.Lists.{at, slice}
-use Rattle.common.specs.declared.Fate.{Fate}
-use Rattle.common.specs.declared.Fate.TheVariants.{Going, Refused}
 use Rattle.geom.specs.Vec as Vec
 use Rattle.geom.specs.Quats.{quat_mul, norm3, exp_so3, normalized}
 use Rattle.geom.specs.declared.Quat.{Quat}
-use Rattle.geom.specs.declared.Normal.{Normal}
-use Rattle.geom.specs.declared.Normal.TheVariants as Normal
-use Rattle.geom.specs.declared.Turned.{Turned}
-use Rattle.geom.specs.declared.Turned.TheVariants as Turned
-use Rattle.actuators.specs.Pyramid.{pyramid_a, singularity_of}
+use Rattle.actuators.specs.Pyramid.{Jacobian, pyramid_a, singularity_of}
 use Rattle.actuators.specs.declared.CmgPyramid.{CmgPyramid}
-use Rattle.actuators.specs.declared.Cmgs.{Cmgs}
-use Rattle.actuators.specs.declared.Cmgs.TheVariants.{Without, With}
-use Rattle.actuators.specs.declared.Jacobian.{Jacobian}
-use Rattle.actuators.specs.declared.Power.{Power}
 use Rattle.control_rows.specs.Parts as Parts
 use Rattle.control_rows.specs.Parts.{row_torque, momenta_next}
 use Rattle.control_limits.specs.Limits.{power_excess}
 use Rattle.control_rows.specs.declared.Rig.{Rig}
 use Rattle.forward.specs.declared.Frame.{Frame}
+use Rattle.forward.specs.declared.Body.{Body}
 use Rattle.forward.specs.declared.BodyState.{BodyState}
 use Rattle.forward.specs.declared.GimbalStep.{GimbalStep}
 use Rattle.forward.specs.declared.Stepped.{Stepped}
+use Rattle.common.specs.declared.Refusal.{Refusal}
+use Rattle.common.specs.Refusals.{Fate, refusal, going}
 
--- What no step of a run changes: the actuators' counts, pyramid, tables and the law of the wheels' torque, the inertia and its inverse, the norm tolerance, the time of a step.
-pub record Body : Type 0 where
-  pub rig : Rig
-  pub wheels : List Float
-  pub powers : List Power
-  pub thrusters : List Float
-  pub frame : Frame
-
-abbrev pub body_with : Rig → List Float → List Power → List Float → Frame → Body
+-- what no step of a run changes, by its parts
+abbrev pub body_with : Rig → List Float → List (Option Float) → List Float → Frame → Body
 body_with r wheels powers thrusters f = record { rig = r; wheels = wheels; powers = powers; thrusters = thrusters; frame = f }
 
 -- a step that ends the run: the state as it was, no torque
 abbrev pub stop : ℕ → ℕ → BodyState → Stepped
-stop n place s = record { fate = Refused n place; s = s; tau = Vec.zero3; defect = Floats.plus_zero }
+stop n place s = record { fate = Err (refusal n place); s = s; tau = Vec.zero3; defect = Floats.plus_zero }
 
 -- ---- what the stages work out
 
 -- the pyramid's matrix at the gimbal angles d; with no pyramid nothing reads it
-abbrev pub matrix_at : Cmgs → List Float → Jacobian
-matrix_at Without d = record { fate = Going; a = replicate 12 Floats.plus_zero }
-matrix_at (With p) d = pyramid_a p.skew_rad d
+abbrev pub matrix_at : Option CmgPyramid → List Float → Jacobian
+matrix_at None d = Ok (replicate 12 Floats.plus_zero)
+matrix_at (Some p) d = pyramid_a p.skew_rad d
 
 -- the rate's change by Euler's equations: J w' = tau - w × (J w + h)
 unfoldable pub rate_dot : List Float → List Float → List Float → List Float → List Float → List Float
@@ -87,18 +73,18 @@ unfoldable pub body_momentum : Body → List Float → List Float
 body_momentum b hw = Parts.body_momentum b.wheels b.rig.wheel_count hw
 
 -- ---- the gimbals after the step: 11 where an angle is over 1,024, 12 where the pyramid is singular there
-abbrev pub refuse_gimbals : ℕ → ℕ → GimbalStep
-refuse_gimbals n k = record { fate = Refused n k; delta = replicate 4 Floats.plus_zero; a = replicate 12 Floats.plus_zero }
+abbrev pub refuse_gimbals : ℕ → ℕ → Result GimbalStep Refusal
+refuse_gimbals n k = Err (refusal n k)
 
-abbrev pub gimbals_by : Fate → List Float → CmgPyramid → List Float → ℕ → GimbalStep
-gimbals_by (Refused n i) a p d k = refuse_gimbals 11 k
-gimbals_by Going a p d k = cond (lt (singularity_of a) p.singularity_eps) (refuse_gimbals 12 k) (record { fate = Going; delta = d; a = a })
+abbrev pub gimbals_by : Jacobian → CmgPyramid → List Float → ℕ → Result GimbalStep Refusal
+gimbals_by (Err why) p d k = refuse_gimbals 11 k
+gimbals_by (Ok a) p d k = cond (lt (singularity_of a) p.singularity_eps) (refuse_gimbals 12 k) (Ok (record { delta = d; a = a }))
 
-abbrev pub swing_by : Cmgs → List Float → List Float → Float → ℕ → GimbalStep
-swing_by Without u d dt k = record { fate = Going; delta = d; a = replicate 12 Floats.plus_zero }
-swing_by (With p) u d dt k = gimbals_by (pyramid_a p.skew_rad (gimbals_next u d dt)).fate (pyramid_a p.skew_rad (gimbals_next u d dt)).a p (gimbals_next u d dt) k
+abbrev pub swing_by : Option CmgPyramid → List Float → List Float → Float → ℕ → Result GimbalStep Refusal
+swing_by None u d dt k = Ok (record { delta = d; a = replicate 12 Floats.plus_zero })
+swing_by (Some p) u d dt k = gimbals_by (pyramid_a p.skew_rad (gimbals_next u d dt)) p (gimbals_next u d dt) k
 
-unfoldable pub step_gimbals : Cmgs → List Float → List Float → Float → ℕ → GimbalStep
+unfoldable pub step_gimbals : Option CmgPyramid → List Float → List Float → Float → ℕ → Result GimbalStep Refusal
 step_gimbals c u d dt k = swing_by c u d dt k
 
 -- ---- the stages, last first: power (13), singularity (11, 12), attitude (11, then 5 at place 2), torque (11)
@@ -118,24 +104,24 @@ slack = of_bits binary64 0x3e11_2e0b_e826_d695
 unfoldable pub powered : Body → List Float → ℕ → BodyState → List Float → Float → List Float → Quat → List Float → Stepped
 powered b u k s tau defect w2 q2 d =
     cond (lt slack (power_excess b.wheels b.powers b.rig.wheel_count (slice 0 b.rig.wheel_count u) s.w)) (stop 13 k s)
-    (record { fate = Going; s = state_next b u s w2 q2 d; tau = tau; defect = defect })
+    (record { fate = going; s = state_next b u s w2 q2 d; tau = tau; defect = defect })
 
-abbrev pub gimbals_step : Fate → List Float → Body → List Float → ℕ → BodyState → List Float → Float → List Float → Quat → Stepped
-gimbals_step (Refused n i) d b u k s tau defect w2 q2 = stop n i s
-gimbals_step Going d b u k s tau defect w2 q2 = powered b u k s tau defect w2 q2 d
+abbrev pub gimbals_step : Result GimbalStep Refusal → Body → List Float → ℕ → BodyState → List Float → Float → List Float → Quat → Stepped
+gimbals_step (Err why) b u k s tau defect w2 q2 = stop why.number why.place s
+gimbals_step (Ok g) b u k s tau defect w2 q2 = powered b u k s tau defect w2 q2 g.delta
 
 -- with the attitude q2 at the end
 unfoldable pub attitude_step : Body → List Float → ℕ → BodyState → List Float → Float → List Float → Quat → Stepped
 attitude_step b u k s tau defect w2 q2 =
-    gimbals_step (step_gimbals b.rig.cmgs (gimbal_row b.rig u) s.delta b.frame.dt k).fate (step_gimbals b.rig.cmgs (gimbal_row b.rig u) s.delta b.frame.dt k).delta b u k s tau defect w2 q2
+    gimbals_step (step_gimbals b.rig.cmgs (gimbal_row b.rig u) s.delta b.frame.dt k) b u k s tau defect w2 q2
 
-abbrev pub normed_step : Normal → Body → List Float → ℕ → BodyState → List Float → Float → List Float → Stepped
-normed_step Normal.Not b u k s tau defect w2 = stop 5 2 s
-normed_step (Normal.Is q2) b u k s tau defect w2 = attitude_step b u k s tau defect w2 q2
+abbrev pub normed_step : Option Quat → Body → List Float → ℕ → BodyState → List Float → Float → List Float → Stepped
+normed_step None b u k s tau defect w2 = stop 5 2 s
+normed_step (Some q2) b u k s tau defect w2 = attitude_step b u k s tau defect w2 q2
 
-abbrev pub turned_step : Turned → Body → List Float → ℕ → BodyState → List Float → Float → List Float → Stepped
-turned_step Turned.Outside b u k s tau defect w2 = stop 11 k s
-turned_step (Turned.Is e) b u k s tau defect w2 = normed_step (normalized b.frame.tolerance (quat_mul s.q e)) b u k s tau defect w2
+abbrev pub turned_step : Option Quat → Body → List Float → ℕ → BodyState → List Float → Float → List Float → Stepped
+turned_step None b u k s tau defect w2 = stop 11 k s
+turned_step (Some e) b u k s tau defect w2 = normed_step (normalized b.frame.tolerance (quat_mul s.q e)) b u k s tau defect w2
 
 -- with the torque tau and the rate's change wd
 unfoldable pub rated_step : Body → List Float → ℕ → BodyState → List Float → List Float → Stepped
@@ -146,10 +132,10 @@ rated_step b u k s tau wd =
 unfoldable pub torqued_step : Body → List Float → ℕ → BodyState → List Float → Stepped
 torqued_step b u k s tau = rated_step b u k s tau (rate_dot b.frame.j b.frame.jinv s.w s.h tau)
 
-abbrev pub matrix_step : Fate → List Float → Body → List Float → ℕ → BodyState → Stepped
-matrix_step (Refused n i) a b u k s = stop 11 k s
-matrix_step Going a b u k s = torqued_step b u k s (row_torque b.rig b.wheels b.thrusters u s.w s.h a)
+abbrev pub matrix_step : Jacobian → Body → List Float → ℕ → BodyState → Stepped
+matrix_step (Err why) b u k s = stop 11 k s
+matrix_step (Ok a) b u k s = torqued_step b u k s (row_torque b.rig b.wheels b.thrusters u s.w s.h a)
 
 -- step k with the control row u from the state s; torque from rate, momentum and gimbals at the step's start
 unfoldable pub step : Body → List Float → ℕ → BodyState → Stepped
-step b u k s = matrix_step (matrix_at b.rig.cmgs s.delta).fate (matrix_at b.rig.cmgs s.delta).a b u k s
+step b u k s = matrix_step (matrix_at b.rig.cmgs s.delta) b u k s

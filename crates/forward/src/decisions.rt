@@ -24,12 +24,10 @@ pub fn project_rows(map: ActuatorMap, n: usize, torque_limit: [f64; 3], z: Decis
     ensures { result ≡ iter (Decisions.project_turn map torque_limit) z 16 }
 {
     let mut out = z;
-    let mut k: usize = 0;
-    while k < STEPS {
+    for k in 0..STEPS {
         let at = 1 + k * n;
         let end = at + n;
         controls::project_controls(map, &mut out[at..end], torque_limit);
-        k += 1;
     }
     out
 }

@@ -6,8 +6,8 @@
 ghost use Rattle.std.specs.Prelude.{◌≡◌};
 ghost use Rattle.forward.specs.Reconstruct as Reconstruct;
 
-use common::{Decision, Fate, MAX_CONTROLS, SOLVER_NODES};
-use control_rows::WheelLaw;
+use common::{Decision, MAX_CONTROLS, Refusal, SOLVER_NODES};
+use control_rows::{Rig, WheelLaw};
 use geom::Quat;
 use problem::{Checked, Problem, check, refused};
 
@@ -35,10 +35,19 @@ pub struct Frame {
     pub dt: f64,
 }
 
-// The gimbals after a step, with the pyramid's matrix there; blank where the step is refused.
+// What no step of a run changes: the actuators' counts, pyramid and tables, the law of the wheels' torque, and the frame.
+#[derive(Clone, Copy)]
+pub struct Body {
+    pub rig: Rig,
+    pub wheels: [f64; 24],
+    pub powers: [Option<f64>; 8],
+    pub thrusters: [f64; 36],
+    pub frame: Frame,
+}
+
+// The gimbals after a step, with the pyramid's matrix there.
 #[derive(Clone, Copy)]
 pub struct GimbalStep {
-    pub fate: Fate,
     pub delta: [f64; 4],
     pub a: [f64; 12],
 }
@@ -46,7 +55,7 @@ pub struct GimbalStep {
 // One step: how it ended, the state after it, the torque over it, its defect.
 #[derive(Clone, Copy)]
 pub struct Stepped {
-    pub fate: Fate,
+    pub fate: Result<(), Refusal>,
     pub s: BodyState,
     pub tau: [f64; 3],
     pub defect: f64,
@@ -56,20 +65,12 @@ pub struct Stepped {
 // the state at its end (with any attitude), the pyramid's matrix there.
 #[derive(Clone, Copy)]
 pub struct Dynamics {
-    pub fate: Fate,
+    pub fate: Result<(), Refusal>,
     pub tau: [f64; 3],
     pub square: f64,
     pub turn: [f64; 3],
     pub s: BodyState,
     pub a: [f64; 12],
-}
-
-// The attitude at a step's end, or refusal 11, or refusal 5.
-#[derive(Clone, Copy)]
-pub enum Attitude {
-    Is(Quat),
-    Outside,
-    Off,
 }
 
 // The sine and the cosine of a pyramid's skew, made once a run; zeros with no pyramid.
@@ -79,10 +80,16 @@ pub struct Skew {
     pub cosine: f64,
 }
 
+// What is known of a pyramid's angles: the skew's sine and cosine, and a table of gimbal angles with theirs.
+#[derive(Clone, Copy)]
+pub struct Angles<'a> {
+    pub skew: Skew,
+    pub lut: &'a [f64],
+}
+
 // What a run makes once: the skew's sine and cosine, and the pyramid's matrix at the start.
 #[derive(Clone, Copy)]
 pub struct GimbalStart {
-    pub fate: Fate,
     pub skew: Skew,
     pub a: [f64; 12],
 }
@@ -101,7 +108,7 @@ pub struct Node {
 // A forward run: how it ended, the largest defect, the 17 nodes (blank where it was refused).
 #[derive(Clone, Copy)]
 pub struct Run {
-    pub fate: Fate,
+    pub fate: Result<(), Refusal>,
     pub defect: f64,
     pub nodes: [Node; SOLVER_NODES],
 }
@@ -117,7 +124,7 @@ pub struct Partway {
 // Some steps of a run: how they ended, and the run after them where they went on.
 #[derive(Clone, Copy)]
 pub struct Went {
-    pub fate: Fate,
+    pub fate: Result<(), Refusal>,
     pub at: Partway,
 }
 
@@ -155,11 +162,11 @@ pub fn reconstruct_under(law: WheelLaw, p: Problem, z: Decision) -> Reconstructe
     let checked = admit(p);
     let fate = checked.fate;
     match fate {
-        Fate::Refused(number, place) => Reconstructed {
+        Err(Refusal { number, place }) => Reconstructed {
             runs: 0,
             run: runs::refused_run(number, place),
         },
-        Fate::Going => {
+        Ok(()) => {
             let problem = checked.problem;
             Reconstructed {
                 runs: 1,

@@ -102,11 +102,8 @@ pub fn nodes_in(rows: &[[f64; 22]; SOLVER_NODES]) -> [Node; SOLVER_NODES]
 {
     let first = node_in(rows[0]);
     let mut nodes = [first; 17];
-    let mut k: usize = 1;
-    while k < SOLVER_NODES {
-        let node = node_in(rows[k]);
-        nodes[k] = node;
-        k += 1;
+    for k in 1..SOLVER_NODES {
+        nodes[k] = node_in(rows[k]);
     }
     nodes
 }

@@ -2,7 +2,6 @@
 // the wheels begin with the problem's momenta, the state is a local of one loop, which writes the nodes into lent rows, the largest defect is found by squares, and a refused run answers blank nodes.
 ghost use Rattle.std.specs.Prelude.{◌≡◌, ◌+◌, ◌*◌, ◌≤◌, ◌<◌, length, true, T};
 ghost use Rattle.actuators.specs.Maps.{gimbals, is_sized, control_dim};
-ghost use Rattle.actuators.specs.declared.Cmgs.TheVariants.{With};
 ghost use Rattle.control_rows.specs.Parts.{Sized};
 ghost use Rattle.std.specs.Float.{binary64};
 ghost use Rattle.float.specs.Ops as Ops;
@@ -17,11 +16,13 @@ ghost use Rattle.forward.specs.PartLaws as PartLaws;
 
 use super::rows::{node_row, nodes_in, torque_in};
 use super::steps::{attitude, dynamics, dynamics_from, join};
-use super::{BodyState, Dynamics, Frame, GimbalStart, Node, Partway, Run, Skew, Went};
-use actuators::{CmgPyramid, Cmgs, Power, control_dim};
-use angles::{Both, sin_cos};
-use common::{Decision, Fate, SOLVER_NODES, STEPS};
-use control_rows::{Rig, WheelLaw, body_momentum};
+use super::{
+    Angles, Body, BodyState, Dynamics, Frame, GimbalStart, Node, Partway, Run, Skew, Went,
+};
+use actuators::{CmgPyramid, control_dim};
+use angles::sin_cos;
+use common::{Decision, Refusal, SOLVER_NODES, STEPS};
+use control_rows::{WheelLaw, body_momentum};
 use controls::rig_under;
 use geom::Quat;
 use gimbal_angles::pyramid_known;
@@ -73,7 +74,7 @@ pub fn refused_run(number: usize, place: usize) -> Run
     let blank = blank_node();
     let nodes = [blank; SOLVER_NODES];
     Run {
-        fate: Fate::Refused(number, place),
+        fate: Err(Refusal { number, place }),
         defect: 0.0,
         nodes: nodes,
     }
@@ -89,40 +90,21 @@ pub fn larger_square(a: f64, x: f64) -> f64
 
 // The dynamics of step i from where l, those of the step before, end; from step `end` on there are none, and l stays.
 pub fn next_dynamics(
-    r: Rig,
-    wheels: &[f64; 24],
-    powers: [Power; 8],
-    thrusters: &[f64; 36],
-    f: Frame,
-    skew: Skew,
-    lut: &[f64],
+    b: &Body,
+    known: Angles,
     n: usize,
     z: &[f64],
     i: usize,
     end: usize,
     l: Dynamics,
 ) -> Dynamics
-    requires { (Sized r (gimbals r.cmgs) n) × (((n ≤ 12) × (length z.now ≡ 193)) × ((end ≤ 16) × AnglesOf r.cmgs skew lut.now)) }
-    ensures { StepPartInner.Next (Steps.body_with r wheels.now powers thrusters.now f) n z.now i end l result }
+    requires { (Sized b.now.rig (gimbals b.now.rig.cmgs) n) × (((n ≤ 12) × (length z.now ≡ 193)) × ((end ≤ 16) × AnglesOf b.now.rig.cmgs known.skew known.lut.now)) }
+    ensures { StepPartInner.Next b.now n z.now i end l result }
 {
     if i < end {
         let at = 1 + i * n;
         let past = at + n;
-        let s = l.s;
-        let a = l.a;
-        return dynamics(
-            r,
-            wheels,
-            powers,
-            thrusters,
-            f,
-            skew,
-            lut,
-            &z[at..past],
-            i,
-            s,
-            a,
-        );
+        return dynamics(b, known, &z[at..past], i, l.s, l.a);
     }
     l
 }
@@ -141,13 +123,8 @@ pub fn unbegun(from: BodyState, a: [f64; 12]) -> Partway
 // Steps k up to `end` of a run after k steps, n controls a row; their nodes go into the lent rows, of which no other is changed. A turn of the loop has the dynamics of step i, the sine and cosine of the step before, the length
 // of step i's turn, the attitude after the step before: in this order, since none waits for the one before it but the attitude for the sine and cosine.
 pub fn steps_on(
-    r: Rig,
-    wheels: &[f64; 24],
-    powers: [Power; 8],
-    thrusters: &[f64; 36],
-    f: Frame,
-    skew: Skew,
-    lut: &[f64],
+    b: &Body,
+    known: Angles,
     n: usize,
     z: &Decision,
     k: usize,
@@ -155,19 +132,17 @@ pub fn steps_on(
     c: Partway,
     nodes: &mut [[f64; 22]; SOLVER_NODES],
 ) -> Went
-    requires { (Sized r (gimbals r.cmgs) n) × ((n ≤ 12) × (AnglesOf r.cmgs skew lut.now × (PartLaws.Sound r c × ((k ≤ end) × (end ≤ 16))))) }
-    ensures { PartLaws.Reached (Steps.body_with r wheels.now powers thrusters.now f) n z.now k end c
-        nodes.old result nodes.new }
+    requires { (Sized b.now.rig (gimbals b.now.rig.cmgs) n) × ((n ≤ 12) × (AnglesOf b.now.rig.cmgs known.skew known.lut.now × (PartLaws.Sound b.now.rig c × ((k ≤ end) × (end ≤ 16))))) }
+    ensures { PartLaws.Reached b.now n z.now k end c nodes.old result nodes.new }
 {
-    let dt = f.dt;
+    let f = b.frame;
     let mut s = c.s;
     let a = c.a;
     let mut l = dynamics_from([0.0; 3], 0.0, [0.0; 3], s, a);
     let mut length = 0.0;
     let mut square = c.square;
-    let mut i: usize = k;
-    while i <= end {
-        let next = next_dynamics(r, wheels, powers, thrusters, f, skew, lut, n, z, i, end, l);
+    for i in k..end + 1 {
+        let next = next_dynamics(b, known, n, z, i, end, l);
         let turn = l.turn;
         let turned = geom::exp_at(turn, length);
         let next_turn = next.turn;
@@ -175,21 +150,20 @@ pub fn steps_on(
         if k < i {
             let j = i - 1;
             let q = s.q;
-            let g = join(attitude(q, turned, f.tolerance), j, l, s);
+            let g = join(attitude(q, turned, f.tolerance, j), l, s);
             let fate = g.fate;
             match fate {
-                Fate::Refused(_, _) => return Went { fate: fate, at: c },
-                Fate::Going => {}
+                Err(_) => return Went { fate: fate, at: c },
+                Ok(()) => {}
             }
             let s2 = g.s;
             let tau = g.tau;
-            let row = node_row(dt, j, s, tau);
+            let row = node_row(f.dt, j, s, tau);
             nodes[j] = row;
             square = larger_square(square, g.defect);
             s = s2;
         }
         l = next;
-        i += 1;
     }
     let a2 = l.a;
     let at = Partway {
@@ -198,59 +172,42 @@ pub fn steps_on(
         square: square,
     };
     Went {
-        fate: Fate::Going,
+        fate: Ok(()),
         at: at,
     }
 }
 
 // The skew's sine and cosine and the pyramid's matrix at the start, from the pyramid's skew.
-fn start_pyramid(p: CmgPyramid) -> GimbalStart
-    ensures { result ≡ GimbalStartInner.start_gimbals (With p) }
+fn start_pyramid(p: CmgPyramid) -> Result<GimbalStart, Refusal>
+    ensures { result ≡ GimbalStartInner.start_gimbals (Some p) }
 {
-    let pair = sin_cos(p.skew_rad);
-    match pair {
-        Both::Outside => {
-            let a = [0.0; 12];
-            GimbalStart {
-                fate: Fate::Refused(11, 0),
-                skew: Skew {
-                    sine: 0.0,
-                    cosine: 0.0,
-                },
-                a: a,
-            }
-        }
-        Both::Are(s, c) => {
-            let none = [0.0; 0];
-            let m = pyramid_known(s, c, [0.0; 4], &none, 0);
-            let a = m.a;
-            let fate = m.fate;
-            GimbalStart {
-                fate: fate,
-                skew: Skew { sine: s, cosine: c },
-                a: a,
-            }
-        }
-    }
+    let Some((sine, cosine)) = sin_cos(p.skew_rad) else {
+        return Err(Refusal {
+            number: 11,
+            place: 0,
+        });
+    };
+    let none = [0.0; 0];
+    let a = pyramid_known(sine, cosine, [0.0; 4], &none, 0)?;
+    Ok(GimbalStart {
+        skew: Skew { sine, cosine },
+        a,
+    })
 }
 
-// What a run makes once, before its steps.
-pub fn start_gimbals(c: Cmgs) -> GimbalStart
+// What a run makes once, before its steps; zeros with no pyramid.
+pub fn start_gimbals(c: Option<CmgPyramid>) -> Result<GimbalStart, Refusal>
     ensures { result ≡ GimbalStartInner.start_gimbals c }
 {
     match c {
-        Cmgs::Without => {
-            let a = [0.0; 12];
-            GimbalStart {
-                fate: Fate::Going,
-                skew: Skew {
-                    sine: 0.0,
-                    cosine: 0.0,
-                },
-                a: a,
-            }
-        }
-        Cmgs::With(p) => start_pyramid(p),
+        None => Ok(GimbalStart {
+            skew: Skew {
+                sine: 0.0,
+                cosine: 0.0,
+            },
+            a: [0.0; 12],
+        }),
+        Some(p) => start_pyramid(p),
     }
 }
 
@@ -261,38 +218,47 @@ pub fn frame_of(p: CheckedProblem, dt: f64) -> Frame
     let j = p.inertia;
     let jinv = p.inverse;
     Frame {
-        j: j,
-        jinv: jinv,
+        j,
+        jinv,
         tolerance: p.norm_tolerance,
-        dt: dt,
+        dt,
     }
 }
 
-// Steps k up to `end` of a checked problem's run with the decision z, after its first k steps; `lut` holds gimbal angles whose sines are known.
+// What no step of this problem's runs changes, with steps of dt.
+fn body_under(law: WheelLaw, p: CheckedProblem, dt: f64) -> Body
+    ensures { result ≡ Runs.body_under law p dt }
+{
+    let map = p.map;
+    let wheels = map.wheel_axes;
+    let powers = map.wheel_powers;
+    let thrusters = map.thruster_axes;
+    Body {
+        rig: rig_under(law, map),
+        wheels,
+        powers,
+        thrusters,
+        frame: frame_of(p, dt),
+    }
+}
+
+// Steps k up to `end` of a checked problem's run with the decision z, after its first k steps.
 pub fn steps_under(
     law: WheelLaw,
     p: CheckedProblem,
     z: &Decision,
-    skew: Skew,
-    lut: &[f64],
+    known: Angles,
     k: usize,
     end: usize,
     c: Partway,
     nodes: &mut [[f64; 22]; SOLVER_NODES],
 ) -> Went
-    requires { PartLaws.Fits law p skew lut.now c × ((k ≤ end) × (end ≤ 16)) }
+    requires { PartLaws.Fits law p known.skew known.lut.now c × ((k ≤ end) × (end ≤ 16)) }
     ensures { PartLaws.ReachedUnder law p z.now k end c nodes.old result nodes.new }
 {
-    let map = p.map;
-    let n = control_dim(map);
-    let rig = rig_under(law, map);
-    let wheels = map.wheel_axes;
-    let powers = map.wheel_powers;
-    let thrusters = map.thruster_axes;
-    let f = frame_of(p, z[0] / 16.0);
-    steps_on(
-        rig, &wheels, powers, &thrusters, f, skew, lut, n, z, k, end, c, nodes,
-    )
+    let n = control_dim(p.map);
+    let b = body_under(law, p, z[0] / 16.0);
+    steps_on(&b, known, n, z, k, end, c, nodes)
 }
 
 // The rest of a run after its first k steps, and its last node, which repeats the torque of the one before.
@@ -300,20 +266,19 @@ pub fn run_on(
     law: WheelLaw,
     p: CheckedProblem,
     z: &Decision,
-    skew: Skew,
-    lut: &[f64],
+    known: Angles,
     k: usize,
     c: Partway,
     nodes: &mut [[f64; 22]; SOLVER_NODES],
 ) -> Went
-    requires { PartLaws.Fits law p skew lut.now c × (k ≤ 16) }
+    requires { PartLaws.Fits law p known.skew known.lut.now c × (k ≤ 16) }
     ensures { PartLaws.RanUnder law p z.now k c nodes.old result nodes.new }
 {
-    let w = steps_under(law, p, z, skew, lut, k, 16, c, nodes);
+    let w = steps_under(law, p, z, known, k, 16, c, nodes);
     let fate = w.fate;
     match fate {
-        Fate::Refused(_, _) => return w,
-        Fate::Going => {}
+        Err(_) => return w,
+        Ok(()) => {}
     }
     let at = w.at;
     let s = at.s;
@@ -338,19 +303,21 @@ pub fn run_into(
     let wheels = map.wheel_axes;
     let momenta = p.momenta;
     let from = start(&wheels, map.wheel_count, p.q0, momenta);
-    let l = start_gimbals(cmgs);
-    let a = l.a;
-    let skew = l.skew;
-    let c = unbegun(from, a);
-    let fate = l.fate;
-    match fate {
-        Fate::Refused(_, _) => Went {
-            fate: Fate::Refused(11, 0),
-            at: c,
+    match start_gimbals(cmgs) {
+        Err(_) => Went {
+            fate: Err(Refusal {
+                number: 11,
+                place: 0,
+            }),
+            at: unbegun(from, [0.0; 12]),
         },
-        Fate::Going => {
+        Ok(l) => {
             let none = [0.0; 0];
-            run_on(law, p, z, skew, &none, 0, c, nodes)
+            let known = Angles {
+                skew: l.skew,
+                lut: &none,
+            };
+            run_on(law, p, z, known, 0, unbegun(from, l.a), nodes)
         }
     }
 }
@@ -373,12 +340,12 @@ pub fn run_under(law: WheelLaw, p: CheckedProblem, z: Decision) -> Run
     let w = run_into(law, p, &z, &mut rows);
     let fate = w.fate;
     match fate {
-        Fate::Refused(number, place) => refused_run(number, place),
-        Fate::Going => {
+        Err(refusal) => refused_run(refusal.number, refusal.place),
+        Ok(()) => {
             let at = w.at;
             let nodes = nodes_in(&rows);
             Run {
-                fate: Fate::Going,
+                fate: Ok(()),
                 defect: float::sqrt(at.square),
                 nodes: nodes,
             }

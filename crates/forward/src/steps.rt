@@ -5,7 +5,6 @@ ghost use Rattle.std.specs.Prelude.{◌≡◌, ◌+◌, ◌≤◌, length};
 ghost use Rattle.actuators.specs.Maps.{gimbals};
 ghost use Rattle.control_rows.specs.Parts.{Sized};
 ghost use Rattle.control_limits.specs.Limits.{power_excess};
-ghost use Rattle.actuators.specs.declared.Cmgs.TheVariants.{With};
 ghost use Rattle.forward.specs.Steps as Steps;
 ghost use Rattle.forward.specs.StepLaws.{AnglesOf, Made, rooted};
 ghost use Rattle.forward.specs.StepPartInner as StepPartInner;
@@ -13,11 +12,10 @@ ghost use Rattle.std.specs.Float.{binary64};
 ghost use Rattle.std.specs.Float.Ieee.{lt};
 ghost use Rattle.float.specs.Sqrt.{sqrt};
 
-use super::{Attitude, BodyState, Dynamics, Frame, GimbalStep, Skew, Stepped};
-use actuators::{CmgPyramid, Cmgs, Power};
-use common::Fate;
-use control_rows::Rig;
-use geom::{Normal, Quat, Turned};
+use super::{Angles, Body, BodyState, Dynamics, GimbalStep, Stepped};
+use actuators::CmgPyramid;
+use common::Refusal;
+use geom::Quat;
 
 // A step that ends the run.
 pub fn stop(number: usize, place: usize, s: BodyState) -> Stepped
@@ -25,7 +23,7 @@ pub fn stop(number: usize, place: usize, s: BodyState) -> Stepped
 {
     let tau = [0.0; 3];
     Stepped {
-        fate: Fate::Refused(number, place),
+        fate: Err(Refusal { number, place }),
         s: s,
         tau: tau,
         defect: 0.0,
@@ -75,86 +73,68 @@ pub fn gimbals_next(u: &[f64], d: [f64; 4], dt: f64) -> [f64; 4]
     ]
 }
 
-// Gimbals that refuse the step.
-pub fn refuse_gimbals(number: usize, k: usize) -> GimbalStep
-    ensures { result ≡ Steps.refuse_gimbals number k }
-{
-    let d = [0.0; 4];
-    let a = [0.0; 12];
-    GimbalStep {
-        fate: Fate::Refused(number, k),
-        delta: d,
-        a: a,
-    }
-}
-
-// The pyramid's gimbals after step k, its matrix there, and whether it is singular. Angles that stand in the table `lut` are looked up.
+// The pyramid's gimbals after step k, its matrix there, and whether it is singular. Angles that stand in the known table are looked up.
 pub fn step_pyramid(
     p: CmgPyramid,
-    skew: Skew,
-    lut: &[f64],
+    known: Angles,
     u: &[f64],
     d: [f64; 4],
     dt: f64,
     k: usize,
-) -> GimbalStep
-    requires { (4 ≤ length u.now) × AnglesOf (With p) skew lut.now }
-    ensures { result ≡ Steps.step_gimbals (With p) u.now d dt k }
+) -> Result<GimbalStep, Refusal>
+    requires { (4 ≤ length u.now) × AnglesOf (Some p) known.skew known.lut.now }
+    ensures { result ≡ Steps.step_gimbals (Some p) u.now d dt k }
 {
     let e = gimbals_next(u, d, dt);
-    let m = gimbal_angles::pyramid_known(skew.sine, skew.cosine, e, lut, k);
-    let fate = m.fate;
-    match fate {
-        Fate::Refused(_, _) => refuse_gimbals(11, k),
-        Fate::Going => {
-            let a = m.a;
+    let m = gimbal_angles::pyramid_known(known.skew.sine, known.skew.cosine, e, known.lut, k);
+    match m {
+        Err(_) => Err(Refusal {
+            number: 11,
+            place: k,
+        }),
+        Ok(a) => {
             if actuators::pyramid::singularity_of(a) < p.singularity_eps {
-                return refuse_gimbals(12, k);
+                return Err(Refusal {
+                    number: 12,
+                    place: k,
+                });
             }
-            GimbalStep {
-                fate: Fate::Going,
-                delta: e,
-                a: a,
-            }
+            Ok(GimbalStep { delta: e, a })
         }
     }
 }
 
 // The gimbals after step k; with no pyramid they stay.
 pub fn step_gimbals(
-    c: Cmgs,
-    skew: Skew,
-    lut: &[f64],
+    c: Option<CmgPyramid>,
+    known: Angles,
     u: &[f64],
     d: [f64; 4],
     dt: f64,
     k: usize,
-) -> GimbalStep
-    requires { (gimbals c ≤ length u.now) × AnglesOf c skew lut.now }
+) -> Result<GimbalStep, Refusal>
+    requires { (gimbals c ≤ length u.now) × AnglesOf c known.skew known.lut.now }
     ensures { result ≡ Steps.step_gimbals c u.now d dt k }
 {
     match c {
-        Cmgs::Without => {
-            let a = [0.0; 12];
-            GimbalStep {
-                fate: Fate::Going,
-                delta: d,
-                a: a,
-            }
-        }
-        Cmgs::With(p) => step_pyramid(p, skew, lut, u, d, dt, k),
+        None => Ok(GimbalStep {
+            delta: d,
+            a: [0.0; 12],
+        }),
+        Some(p) => step_pyramid(p, known, u, d, dt, k),
     }
 }
 
 // Whether a wheel's power is over its limit by more than 1e-9. Without wheels none is, and no limit is looked at.
-fn over_power(wheels: &[f64; 24], powers: [Power; 8], n: usize, u: &[f64], w: [f64; 3]) -> bool
-    requires { (n ≤ 8) × (n ≤ length u.now) }
-    ensures { result ≡ lt Steps.slack (power_excess wheels.now powers n u.now w) }
+fn over_power(b: &Body, u: &[f64], w: [f64; 3]) -> bool
+    requires { (b.now.rig.wheel_count ≤ 8) × (b.now.rig.wheel_count ≤ length u.now) }
+    ensures { result ≡ lt Steps.slack (power_excess b.now.wheels b.now.powers b.now.rig.wheel_count u.now w) }
 {
+    let n = b.rig.wheel_count;
     if n == 0 {
         return false;
     }
-    control_limits::power_excess(wheels, powers, n, u, w) > 1.0e-9
+    control_limits::power_excess(&b.wheels, b.powers, n, u, w) > 1.0e-9
 }
 
 // Dynamics whose gimbals or power refuse the step.
@@ -166,7 +146,7 @@ pub fn refuse_dynamics(number: usize, place: usize, l: Dynamics) -> Dynamics
     let s = l.s;
     let a = l.a;
     Dynamics {
-        fate: Fate::Refused(number, place),
+        fate: Err(Refusal { number, place }),
         tau: tau,
         square: l.square,
         turn: turn,
@@ -186,7 +166,7 @@ pub fn dynamics_from(
     ensures { result ≡ StepPartInner.dynamics_from tau square turn s a }
 {
     Dynamics {
-        fate: Fate::Going,
+        fate: Ok(()),
         tau: tau,
         square: square,
         turn: turn,
@@ -206,116 +186,78 @@ pub fn dynamics_at(
 ) -> Dynamics
     ensures { result ≡ StepPartInner.dynamics_at tau square w2 turn s a }
 {
-    let q = s.q;
-    let h = s.h;
-    let hw = s.hw;
-    let d = s.delta;
-    let s2 = BodyState {
-        q: q,
-        w: w2,
-        h: h,
-        hw: hw,
-        delta: d,
-    };
-    dynamics_from(tau, square, turn, s2, a)
+    dynamics_from(tau, square, turn, BodyState { w: w2, ..s }, a)
 }
 
 // The dynamics l, whose torque, defect, turn and rate are known, with momenta, gimbals and power: of the step from s.
 pub fn finish_dynamics(
-    r: Rig,
-    wheels: &[f64; 24],
-    powers: [Power; 8],
-    thrusters: &[f64; 36],
-    f: Frame,
-    skew: Skew,
-    lut: &[f64],
+    b: &Body,
+    known: Angles,
     u: &[f64],
     k: usize,
     s: BodyState,
     l: Dynamics,
 ) -> Dynamics
-    requires { (Sized r (gimbals r.cmgs) (length u.now)) × AnglesOf r.cmgs skew lut.now }
-    ensures { StepPartInner.Finished (Steps.body_with r wheels.now powers thrusters.now f) u.now k s l result }
+    requires { (Sized b.now.rig (gimbals b.now.rig.cmgs) (length u.now)) × AnglesOf b.now.rig.cmgs known.skew known.lut.now }
+    ensures { StepPartInner.Finished b.now u.now k s l result }
 {
-    let dt = f.dt;
-    let nw = r.wheel_count;
-    let at = nw + r.thruster_count;
-    let end = u.len();
-    let cmgs = r.cmgs;
-    let hw = s.hw;
-    let w = s.w;
-    let d = s.delta;
-    let g = step_gimbals(cmgs, skew, lut, &u[at..end], d, dt, k);
-    let fate = g.fate;
-    match fate {
-        Fate::Refused(number, place) => return refuse_dynamics(number, place, l),
-        Fate::Going => {}
-    }
-    if over_power(wheels, powers, nw, &u[0..nw], w) {
+    let dt = b.frame.dt;
+    let nw = b.rig.wheel_count;
+    let at = nw + b.rig.thruster_count;
+    let g = match step_gimbals(b.rig.cmgs, known, &u[at..], s.delta, dt, k) {
+        Err(Refusal { number, place }) => return refuse_dynamics(number, place, l),
+        Ok(g) => g,
+    };
+    if over_power(b, &u[0..nw], s.w) {
         return refuse_dynamics(13, k, l);
     }
-    let hw2 = control_rows::momenta_next(nw, hw, &u[0..nw], dt);
-    let h2 = control_rows::body_momentum(wheels, nw, &hw2);
-    let tau = l.tau;
-    let turn = l.turn;
+    let hw = control_rows::momenta_next(nw, s.hw, &u[0..nw], dt);
+    let h = control_rows::body_momentum(&b.wheels, nw, &hw);
+    let delta = g.delta;
     let e = l.s;
-    let q = e.q;
-    let w2 = e.w;
-    let d2 = g.delta;
-    let a2 = g.a;
-    let s2 = BodyState {
-        q: q,
-        w: w2,
-        h: h2,
-        hw: hw2,
-        delta: d2,
-    };
-    dynamics_from(tau, l.square, turn, s2, a2)
+    let s2 = BodyState { h, hw, delta, ..e };
+    dynamics_from(l.tau, l.square, l.turn, s2, g.a)
 }
 
 // The dynamics of step k with the control row u, from the state s, whatever its attitude, whose pyramid matrix is a.
 pub fn dynamics(
-    r: Rig,
-    wheels: &[f64; 24],
-    powers: [Power; 8],
-    thrusters: &[f64; 36],
-    f: Frame,
-    skew: Skew,
-    lut: &[f64],
+    b: &Body,
+    known: Angles,
     u: &[f64],
     k: usize,
     s: BodyState,
     a: [f64; 12],
 ) -> Dynamics
-    requires { (Sized r (gimbals r.cmgs) (length u.now)) × AnglesOf r.cmgs skew lut.now }
-    ensures { Made r.cmgs s.delta a → StepPartInner.DynamicsOf (Steps.body_with r wheels.now powers thrusters.now f)
-        u.now k s result }
+    requires { (Sized b.now.rig (gimbals b.now.rig.cmgs) (length u.now)) × AnglesOf b.now.rig.cmgs known.skew known.lut.now }
+    ensures { Made b.now.rig.cmgs s.delta a → StepPartInner.DynamicsOf b.now u.now k s result }
 {
     let w = s.w;
     let h = s.h;
-    let j = f.j;
-    let jinv = f.jinv;
-    let dt = f.dt;
-    let tau = control_rows::row_torque(r, wheels, thrusters, u, w, h, a);
-    let wd = rate_dot(j, jinv, w, h, tau);
+    let j = b.frame.j;
+    let dt = b.frame.dt;
+    let tau = control_rows::row_torque(b.rig, &b.wheels, &b.thrusters, u, w, h, a);
+    let wd = rate_dot(j, b.frame.jinv, w, h, tau);
     let w2 = rate_next(w, wd, dt);
     let square = defect_square(j, w, h, tau, wd);
     let turn = turn_of(w, w2, dt);
     let l = dynamics_at(tau, square, w2, turn, s, a);
-    finish_dynamics(r, wheels, powers, thrusters, f, skew, lut, u, k, s, l)
+    finish_dynamics(b, known, u, k, s, l)
 }
 
-// The attitude q after a turn, whose quaternion is made.
-pub fn attitude(q: Quat, turned: Turned, tolerance: f64) -> Attitude
-    ensures { result ≡ StepPartInner.turned_to turned tolerance q }
+// The attitude q after the turn of step k, whose quaternion is made: refusal 11 where there is none, 5 where the product has no unit length.
+pub fn attitude(q: Quat, turned: Option<Quat>, tolerance: f64, k: usize) -> Result<Quat, Refusal>
+    ensures { result ≡ StepPartInner.turned_to turned tolerance q k }
 {
-    let Turned::Is(e) = turned else {
-        return Attitude::Outside;
+    let Some(e) = turned else {
+        return Err(Refusal {
+            number: 11,
+            place: k,
+        });
     };
-    let Normal::Is(q2) = q.mul(e).normalized(tolerance) else {
-        return Attitude::Off;
-    };
-    Attitude::Is(q2)
+    q.mul(e).normalized(tolerance).ok_or(Refusal {
+        number: 5,
+        place: 2,
+    })
 }
 
 // The step from s that its dynamics and the attitude q2 give; its defect stays squared.
@@ -324,8 +266,8 @@ pub fn joined_at(q2: Quat, l: Dynamics, s: BodyState) -> Stepped
 {
     let fate = l.fate;
     match fate {
-        Fate::Refused(number, place) => stop(number, place, s),
-        Fate::Going => {
+        Err(Refusal { number, place }) => stop(number, place, s),
+        Ok(()) => {
             let tau = l.tau;
             let e = l.s;
             let w = e.w;
@@ -340,7 +282,7 @@ pub fn joined_at(q2: Quat, l: Dynamics, s: BodyState) -> Stepped
                 delta: delta,
             };
             Stepped {
-                fate: Fate::Going,
+                fate: Ok(()),
                 s: s2,
                 tau: tau,
                 defect: l.square,
@@ -349,13 +291,12 @@ pub fn joined_at(q2: Quat, l: Dynamics, s: BodyState) -> Stepped
     }
 }
 
-// Step k from s, of its dynamics and its attitude.
-pub fn join(t: Attitude, k: usize, l: Dynamics, s: BodyState) -> Stepped
-    ensures { rooted result ≡ StepPartInner.joined t k l s }
+// A step from s, of its dynamics and its attitude.
+pub fn join(t: Result<Quat, Refusal>, l: Dynamics, s: BodyState) -> Stepped
+    ensures { rooted result ≡ StepPartInner.joined t l s }
 {
     match t {
-        Attitude::Outside => stop(11, k, s),
-        Attitude::Off => stop(5, 2, s),
-        Attitude::Is(q2) => joined_at(q2, l, s),
+        Err(Refusal { number, place }) => stop(number, place, s),
+        Ok(q2) => joined_at(q2, l, s),
     }
 }

@@ -1,17 +1,13 @@
 -- What is worked out of the sine and the cosine of one argument, each by itself or both at once. Definitions only.
-use Rattle.std.specs.Prelude.{Float}
-use Rattle.angles.specs.declared.Angle.{Angle}
-use Rattle.angles.specs.declared.Angle.TheVariants as Angle
-use Rattle.angles.specs.declared.Both.{Both}
-use Rattle.angles.specs.declared.Both.TheVariants as Both
+use Rattle.std.specs.Prelude.{Float, Option, Some, None}
 
 -- f of a sine and a cosine, or o where one of them is outside
-abbrev pub on_both : {R : Type 0} → R → (Float → Float → R) → Angle → Angle → R
-on_both o f Angle.Outside c = o
-on_both o f (Angle.Is s) Angle.Outside = o
-on_both o f (Angle.Is s) (Angle.Is c) = f s c
+abbrev pub on_both : {R : Type 0} → R → (Float → Float → R) → Option Float → Option Float → R
+on_both o f None c = o
+on_both o f (Some s) None = o
+on_both o f (Some s) (Some c) = f s c
 
 -- the same of both at once
-abbrev pub at_once : {R : Type 0} → R → (Float → Float → R) → Both → R
-at_once o f Both.Outside = o
-at_once o f (Both.Are s c) = f s c
+abbrev pub at_once : {R : Type 0} → R → (Float → Float → R) → Option (Float × Float) → R
+at_once o f None = o
+at_once o f (Some (s, c)) = f s c

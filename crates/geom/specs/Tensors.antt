@@ -1,16 +1,16 @@
 -- Symmetric positive definite tensors and inverses, in the order of operations of geom.rs. Definitions only.
-use Rattle.std.specs.Prelude.{List, [], ◌∷◌, Bool, not, cond, ◌&&◌, ◌||◌, Float}
+use Rattle.std.specs.Prelude.{List, [], ◌∷◌, Bool, not, cond, ◌&&◌, ◌||◌, Float, Result, Ok, Err, replicate}
 use Rattle.std.specs.Float.{binary64}
 use Rattle.std.specs.Float.Ieee.{sub, div, lt, of_bits}
 use Rattle.std.specs.Float.Ieee.Scale.{finite}
 use Rattle.common.specs.Floats.{one, plus_zero}
 use Rattle.common.specs.Lists.{at}
 use Rattle.float.specs.Ops.{abs}
-use Rattle.common.specs.declared.Fate.{Fate}
-use Rattle.common.specs.declared.Fate.TheVariants as Fate
 use Rattle.geom.specs.Vec.{row, minor, scale3, det3, is_positive_value}
 use Rattle.geom.specs.Quats.{least}
-use Rattle.geom.specs.declared.Inverse.{Inverse}
+use Rattle.common.specs.declared.Refusal.{Refusal}
+use Rattle.common.specs.Refusals.{refusal}
+use Rattle.std.specs.Result.{result_unwrap_or}
 
 -- do two numbers differ by more than 1e-12
 abbrev pub apart : Float → Float → Bool
@@ -64,18 +64,22 @@ flatten j = flat (row j 0) (row j 1) (row j 2)
 unfoldable pub scaled_adjugate : List (List Float) → Float → List Float
 scaled_adjugate j s = flat (scale3 (adjugate0 j) s) (scale3 (adjugate1 j) s) (scale3 (adjugate2 j) s)
 
--- the answer without an inverse: refusal 6, nine times +0
-abbrev pub no_inverse : Inverse
-no_inverse = record { fate = Fate.Refused 6 0; m = plus_zero ∷ plus_zero ∷ plus_zero ∷ plus_zero ∷ plus_zero ∷ plus_zero ∷ plus_zero ∷ plus_zero ∷ plus_zero ∷ [] }
+-- the answer without an inverse: refusal 6
+abbrev pub no_inverse : Result (List Float) Refusal
+no_inverse = Err (refusal 6 0)
 
 -- the inverse of j, whose determinant is d; refused where d is not finite or below 1e-18 in size
-unfoldable pub inverse_by : List (List Float) → Float → Inverse
-inverse_by j d = cond (not (finite d) || lt (abs d) least) no_inverse (record { fate = Fate.Going; m = scaled_adjugate j (div binary64 one d) })
+unfoldable pub inverse_by : List (List Float) → Float → Result (List Float) Refusal
+inverse_by j d = cond (not (finite d) || lt (abs d) least) no_inverse (Ok (scaled_adjugate j (div binary64 one d)))
 
--- the inverse of j
-abbrev pub invert3 : List (List Float) → Inverse
+-- the inverse of j, as nine numbers
+abbrev pub invert3 : List (List Float) → Result (List Float) Refusal
 invert3 j = inverse_by j (det3 j)
 
 -- the inverse of an inertia tensor, which has to be symmetric and positive definite
-unfoldable pub invert_spd : List (List Float) → Inverse
+unfoldable pub invert_spd : List (List Float) → Result (List Float) Refusal
 invert_spd j = cond (is_spd j) (invert3 j) no_inverse
+
+-- an inverse, +0 where there is none
+abbrev pub inverse_or_zeros : Result (List Float) Refusal → List Float
+inverse_or_zeros i = result_unwrap_or i (replicate 9 plus_zero)

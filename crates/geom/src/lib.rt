@@ -1,5 +1,5 @@
-// Attitudes, vectors and inertia tensors. Carried over from quatopsy-plan/src/geom.rs (Apache-2.0), changed: refusals are enums, an answer that holds an
-// array stands beside its fate, the tolerance of `normalized` is an argument, the checks of a problem file stay behind.
+// Attitudes, vectors and inertia tensors. Carried over from quatopsy-plan/src/geom.rs (Apache-2.0), changed: a refusal is a number and a place, the tolerance
+// of `normalized` is an argument, the checks of a problem file stay behind.
 #![tactic(auto)]
 
 ghost use Rattle.std.specs.Prelude.{◌≡◌};
@@ -7,8 +7,7 @@ ghost use Rattle.geom.specs.Vec as Vec;
 ghost use Rattle.geom.specs.Quats as Quats;
 ghost use Rattle.geom.specs.Tensors as Tensors;
 
-use angles::{Angle, Both};
-use common::Fate;
+use common::Refusal;
 
 // Four numbers, the scalar part first.
 #[derive(Clone, Copy)]
@@ -17,41 +16,6 @@ pub struct Quat {
     pub x: f64,
     pub y: f64,
     pub z: f64,
-}
-
-// What `normalized` answers: a quaternion of length 1, or refusal 5.
-#[derive(Clone, Copy)]
-pub enum Normal {
-    Is(Quat),
-    Not,
-}
-
-// What `exp_so3` answers: a quaternion, or refusal 11.
-#[derive(Clone, Copy)]
-pub enum Turned {
-    Is(Quat),
-    Outside,
-}
-
-// What `log_so3` answers: a rotation vector, or refusal 11.
-#[derive(Clone, Copy)]
-pub enum Rotation {
-    By(f64, f64, f64),
-    Outside,
-}
-
-// What `unit3` answers: a unit vector, or refusal 3.
-#[derive(Clone, Copy)]
-pub enum Axis {
-    Is(f64, f64, f64),
-    Not,
-}
-
-// What `invert3` and `invert_spd` answer: the inverse by rows, or refusal 6 and nine zeros.
-#[derive(Clone, Copy)]
-pub struct Inverse {
-    pub fate: Fate,
-    pub m: [f64; 9],
 }
 
 impl Quat {
@@ -119,13 +83,13 @@ impl Quat {
         float::sqrt_near_one(self.dot(self))
     }
 
-    pub fn normalized(self, tolerance: f64) -> Normal
+    pub fn normalized(self, tolerance: f64) -> Option<Quat>
         ensures { result ≡ Quats.normalized tolerance self }
     {
         if self.is_finite() {
             normal_by(self, self.norm(), tolerance)
         } else {
-            Normal::Not
+            None
         }
     }
 }
@@ -219,16 +183,16 @@ pub fn body_euler_torque(
 }
 
 // q over its length n, where n is not zero, finite, and no further from 1 than the tolerance.
-fn normal_by(q: Quat, n: f64, tolerance: f64) -> Normal
+fn normal_by(q: Quat, n: f64, tolerance: f64) -> Option<Quat>
     ensures { result ≡ Quats.normal_by tolerance q n }
 {
     if (n == 0.0) | !float::is_finite(n) {
-        return Normal::Not;
+        return None;
     }
     if float::abs(n - 1.0) > tolerance {
-        Normal::Not
+        None
     } else {
-        Normal::Is(q.scale(1.0 / n))
+        Some(q.scale(1.0 / n))
     }
 }
 
@@ -238,23 +202,23 @@ pub fn norm3(v: [f64; 3]) -> f64
     float::sqrt(dot3(v, v))
 }
 
-pub fn unit3(v: [f64; 3]) -> Axis
+pub fn unit3(v: [f64; 3]) -> Option<(f64, f64, f64)>
     ensures { result ≡ Quats.unit3 v }
 {
     let n = norm3(v);
     if (n < 1.0e-18) | !float::is_finite(n) {
-        return Axis::Not;
+        return None;
     }
     let s = 1.0 / n;
-    Axis::Is(v[0] * s, v[1] * s, v[2] * s)
+    Some((v[0] * s, v[1] * s, v[2] * s))
 }
 
 // The turn by a rotation vector of length n.
-pub fn exp_at(phi: [f64; 3], n: f64) -> Turned
+pub fn exp_at(phi: [f64; 3], n: f64) -> Option<Quat>
     ensures { result ≡ Quats.exp_at phi n }
 {
     if n < 1.0e-16 {
-        return Turned::Is(Quat {
+        return Some(Quat {
             w: 1.0,
             x: 0.5 * phi[0],
             y: 0.5 * phi[1],
@@ -263,45 +227,45 @@ pub fn exp_at(phi: [f64; 3], n: f64) -> Turned
     }
     let turn = angles::sin_cos(0.5 * n);
     match turn {
-        Both::Are(sine, cosine) => {
+        Some((sine, cosine)) => {
             let s = sine / n;
-            Turned::Is(Quat {
+            Some(Quat {
                 w: cosine,
                 x: phi[0] * s,
                 y: phi[1] * s,
                 z: phi[2] * s,
             })
         }
-        Both::Outside => Turned::Outside,
+        None => None,
     }
 }
 
-pub fn exp_so3(phi: [f64; 3]) -> Turned
+pub fn exp_so3(phi: [f64; 3]) -> Option<Quat>
     ensures { result ≡ Quats.exp_so3 phi }
 {
     exp_at(phi, norm3(phi))
 }
 
 // The rotation vector of a quaternion whose scalar part is not below 0.
-fn log_up(q: Quat) -> Rotation
+fn log_up(q: Quat) -> Option<(f64, f64, f64)>
     ensures { result ≡ Quats.log_up q }
 {
     let v = [q.x, q.y, q.z];
     let n = norm3(v);
     if n < 1.0e-16 {
-        return Rotation::By(2.0 * q.x, 2.0 * q.y, 2.0 * q.z);
+        return Some((2.0 * q.x, 2.0 * q.y, 2.0 * q.z));
     }
     let half = angles::acos(float::clamp(q.w, -1.0, 1.0));
     match half {
-        Angle::Is(a) => {
+        Some(a) => {
             let s = 2.0 * a / n;
-            Rotation::By(q.x * s, q.y * s, q.z * s)
+            Some((q.x * s, q.y * s, q.z * s))
         }
-        Angle::Outside => Rotation::Outside,
+        None => None,
     }
 }
 
-pub fn log_so3(q: Quat) -> Rotation
+pub fn log_so3(q: Quat) -> Option<(f64, f64, f64)>
     ensures { result ≡ Quats.log_so3 q }
 {
     if q.w < 0.0 {
@@ -312,7 +276,7 @@ pub fn log_so3(q: Quat) -> Rotation
 }
 
 // The turn that takes the attitude q to r, as a rotation vector.
-pub fn rotation_between(q: Quat, r: Quat) -> Rotation
+pub fn rotation_between(q: Quat, r: Quat) -> Option<(f64, f64, f64)>
     ensures { result ≡ Quats.rotation_between q r }
 {
     log_so3(q.conjugate().mul(r))
@@ -424,33 +388,30 @@ fn scaled_adjugate(j: [[f64; 3]; 3], s: f64) -> [f64; 9]
     )
 }
 
-fn no_inverse() -> Inverse
-    ensures { result ≡ Tensors.no_inverse }
-{
-    let m = [0.0; 9];
-    Inverse {
-        fate: Fate::Refused(6, 0),
-        m: m,
-    }
-}
+// There is no inverse.
+const NO_INVERSE: Refusal = Refusal {
+    number: 6,
+    place: 0,
+};
 
-pub fn invert3(j: [[f64; 3]; 3]) -> Inverse
+// The inverse of a tensor, by rows.
+pub fn invert3(j: [[f64; 3]; 3]) -> Result<[f64; 9], Refusal>
     ensures { result ≡ Tensors.invert3 j }
 {
     let det = det3(j);
     if !float::is_finite(det) | (float::abs(det) < 1.0e-18) {
-        return no_inverse();
+        return Err(NO_INVERSE);
     }
-    let m = scaled_adjugate(j, 1.0 / det);
-    Inverse {
-        fate: Fate::Going,
-        m: m,
-    }
+    Ok(scaled_adjugate(j, 1.0 / det))
 }
 
-// The inverse of an inertia tensor.
-pub fn invert_spd(j: [[f64; 3]; 3]) -> Inverse
+// The inverse of an inertia tensor, by rows.
+pub fn invert_spd(j: [[f64; 3]; 3]) -> Result<[f64; 9], Refusal>
     ensures { result ≡ Tensors.invert_spd j }
 {
-    if is_spd(j) { invert3(j) } else { no_inverse() }
+    if is_spd(j) {
+        invert3(j)
+    } else {
+        Err(NO_INVERSE)
+    }
 }

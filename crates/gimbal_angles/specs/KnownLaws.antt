@@ -1,5 +1,5 @@
 -- An empty table is right, and one more angle keeps a table so. Assumes nothing.
-use Rattle.std.specs.Prelude.{ℕ, ◌+◌, ◌*◌, ◌≤◌, ◌<◌, ◌≡◌, refl, List, [], length, set, Float}
+use Rattle.std.specs.Prelude.{ℕ, ◌+◌, ◌*◌, ◌≤◌, ◌<◌, ◌≡◌, refl, List, [], length, set, Float, Option, Some, None}
 use Rattle.std.proofs.Common.{sym, ◌∙◌, arith, length-set, get_or-set_same, get_or-set_other, below_more}
 use Rattle.std.specs.Float.Ieee as Ieee
 use Rattle.std.specs.Float.{nan}
@@ -7,23 +7,21 @@ use Rattle.common.specs.Floats.{plus_zero, one}
 use Rattle.common.specs.Lists.{at}
 use Rattle.angles.specs.Angles as Angles
 use Rattle.angles.specs.Both.{both_of}
-use Rattle.angles.specs.declared.Both.TheVariants as Both
-use Rattle.actuators.specs.declared.Cmgs.{Cmgs}
-use Rattle.actuators.specs.declared.Cmgs.TheVariants.{Without, With}
 use Rattle.gimbal_angles.specs.Known.{RightAt, Right, KnownOf, Filled, placed}
+use Rattle.actuators.specs.declared.CmgPyramid.{CmgPyramid}
 
 -- a table with no place
-pub none_known : (c : Cmgs) → KnownOf c []
-none_known Without = tt
-none_known (With p) = λ i h. absurd (omega (arith, h))
+pub none_known : (c : Option CmgPyramid) → KnownOf c []
+none_known None = tt
+none_known (Some p) = λ i h. absurd (omega (arith, h))
 
 -- the angle 0
-pub zero_pair : both_of plus_zero ≡ Both.Are plus_zero one
+pub zero_pair : both_of plus_zero ≡ Some (plus_zero, one)
 unfolding both_of Angles.sin_of Angles.cos_of Angles.region_of Angles.in_range Angles.tiny Ieee.of_bits Ieee.le Ieee.lt Ieee.neg
 zero_pair = refl
 
 -- x is the angle of gimbal g after step k
-pub looked_up : (t : List Float) (k g : ℕ) (x : Float) → Right t → length t ≡ 192 → k < 16 → g < 4 → x ≡ at t (12 * k + 3 * g) → Both.Are (at t (12 * k + 3 * g + 1)) (at t (12 * k + 3 * g + 2)) ≡ both_of x
+pub looked_up : (t : List Float) (k g : ℕ) (x : Float) → Right t → length t ≡ 192 → k < 16 → g < 4 → x ≡ at t (12 * k + 3 * g) → Some (at t (12 * k + 3 * g + 1), at t (12 * k + 3 * g + 2)) ≡ both_of x
 looked_up t k g x r n a b e =
     let i : 3 * (4 * k + g) ≡ 12 * k + 3 * g = omega arith in
     rw e (sym (rw i at (r (4 * k + g) (omega arith))))
@@ -52,7 +50,7 @@ module _ (t : List Float) (i : ℕ) (x s c : Float) where
         (omega (arith, length-set (set t (3 * i) x) (3 * i + 1) s, length-set t (3 * i) x))
 
   -- an angle with its sine and cosine is right there, and the places before it stay
-  pub filled_more : i < 64 → both_of x ≡ Both.Are s c → Filled i t → Filled (i + 1) (placed t i x s c)
+  pub filled_more : i < 64 → both_of x ≡ Some (s, c) → Filled i t → Filled (i + 1) (placed t i x s c)
   filled_more m e f =
       let fits : 3 * i + 3 ≤ length t = omega (arith, m, f.long) in
       record {

@@ -7,10 +7,9 @@ ghost use Rattle.angles.specs.Both.{both_of};
 ghost use Rattle.actuators.specs.Pyramid as Pyramid;
 ghost use Rattle.gimbal_angles.specs.Known as Known;
 
-use actuators::Jacobian;
 use actuators::pyramid::pyramid_by;
-use angles::{Both, sin_cos};
-use common::STEPS;
+use angles::sin_cos;
+use common::{Refusal, STEPS};
 use float_bits::same_bits;
 
 // The lookup table, `lut` below: for each step and each of the four gimbals the angle after the step, its sine and its cosine.
@@ -19,14 +18,14 @@ pub const KNOWN_NUMBERS: usize = STEPS * 4 * 3;
 pub type KnownAngles = [f64; KNOWN_NUMBERS];
 
 // The sine and cosine of x: looked up where x is, bit for bit, the angle of gimbal g after step k in the table. An empty table knows none.
-fn sin_cos_known(x: f64, lut: &[f64], k: usize, g: usize) -> Both
+fn sin_cos_known(x: f64, lut: &[f64], k: usize, g: usize) -> Option<(f64, f64)>
     requires { (g < 4) × Known.Right lut.now }
     ensures { result ≡ both_of x }
 {
     if (lut.len() == KNOWN_NUMBERS) & (k < STEPS) {
         let i = 12 * k + 3 * g;
         if same_bits(x, lut[i]) {
-            return Both::Are(lut[i + 1], lut[i + 2]);
+            return Some((lut[i + 1], lut[i + 2]));
         }
     }
     sin_cos(x)
@@ -39,7 +38,7 @@ pub fn pyramid_known(
     delta: [f64; 4],
     lut: &[f64],
     k: usize,
-) -> Jacobian
+) -> Result<[f64; 12], Refusal>
     requires { Known.Right lut.now }
     ensures { result ≡ Pyramid.pyramid_from sin_skew cos_skew delta }
 {
@@ -65,10 +64,9 @@ fn put_angle(lut: &mut KnownAngles, i: usize, x: f64)
     requires { (i < 64) × Known.Filled i lut.old }
     ensures { Known.Filled (i + 1) lut.new }
 {
-    let pair = sin_cos(x);
-    match pair {
-        Both::Are(sine, cosine) => put_place(lut, i, x, sine, cosine),
-        Both::Outside => put_place(lut, i, 0.0, 0.0, 1.0),
+    match sin_cos(x) {
+        Some((sine, cosine)) => put_place(lut, i, x, sine, cosine),
+        None => put_place(lut, i, 0.0, 0.0, 1.0),
     }
 }
 
@@ -77,8 +75,7 @@ pub fn put_angles(lut: &mut KnownAngles, k: usize, delta: [f64; 4])
     requires { (k < 16) × Known.Filled (4 * k) lut.old }
     ensures { Known.Filled (4 * k + 4) lut.new }
 {
-    put_angle(lut, 4 * k, delta[0]);
-    put_angle(lut, 4 * k + 1, delta[1]);
-    put_angle(lut, 4 * k + 2, delta[2]);
-    put_angle(lut, 4 * k + 3, delta[3]);
+    for g in 0..4 {
+        put_angle(lut, 4 * k + g, delta[g]);
+    }
 }

@@ -1,8 +1,8 @@
 -- Laws of the counts: what stands at each place, 0 past a row's controls, and at most 16. Assumes nothing.
 use Prim.Native.Nat.{ℕ, zero, suc, ◌+◌, ◌<◌, ◌≤◌}
-use Rattle.std.specs.Prelude.{◌≡◌, Bool, List, ltb, length, replicate, set, Float}
+use Rattle.std.specs.Prelude.{◌≡◌, Bool, List, ltb, length, Float}
 use Rattle.std.proofs.Math.Path.{refl}
-use Rattle.std.proofs.Common.{sym, ap, subst, ◌∙◌, arith, ltb-true, ltb-false}
+use Rattle.std.proofs.Common.{subst, ◌∙◌, arith, ltb-true, ltb-false}
 use Rattle.std.proofs.Math.Bool.{true, false, cond}
 use Rattle.std.proofs.Math.ListN.{length-set, length-replicate, get_or-replicate}
 use Rattle.std.proofs.Math.Seq.{get_or-set_same, get_or-set_other}
@@ -13,7 +13,7 @@ use Rattle.actuators.specs.declared.ActuatorMap.{ActuatorMap}
 use Rattle.control_limits.specs.Limits.{changed}
 use Rattle.control_rows.specs.Parts.{bare}
 use Rattle.controls.specs.Controls.{rig_of}
-use Rattle.held_counts.specs.Counts.{limit_in, control, counted, count_turn, held_at, place_turn, held_counts, none_held, count_at_value}
+use Rattle.held_counts.specs.Counts.{limit_in, control, count_turn, held_at, place_turn, held_counts, none_held, count_at_value}
 
 -- ---- a map with a control at place i
 module _ (m : ActuatorMap) (i : ℕ) where

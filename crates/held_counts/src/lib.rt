@@ -58,10 +58,8 @@ fn held_at(limit: f64, n: usize, z: &Decision, i: usize) -> usize
     ensures { result ≡ Counts.held_at limit n z.now i }
 {
     let mut count: usize = 0;
-    let mut k: usize = 0;
-    while k < STEPS {
+    for k in 0..STEPS {
         count = counted(limit, z[1 + k * n + i], count);
-        k += 1;
     }
     count
 }
@@ -73,10 +71,8 @@ pub fn held_counts(map: ActuatorMap, torque_limit: [f64; 3], z: &Decision) -> [u
 {
     let n = control_dim(map);
     let mut out: [usize; 12] = [0; 12];
-    let mut i: usize = 0;
-    while i < n {
+    for i in 0..n {
         out[i] = held_at(limit_in(map, torque_limit, i), n, z, i);
-        i += 1;
     }
     out
 }

@@ -1,5 +1,5 @@
 -- The rows left out are +0.0 in the residuals of every decision: no term is written there. Assumes nothing.
-use Rattle.std.specs.Prelude.{ℕ, ◌+◌, ◌*◌, ◌≤◌, ◌≡◌, Bool, true, false, cond, List, [], ◌∷◌, set, replicate, Float}
+use Rattle.std.specs.Prelude.{ℕ, ◌+◌, ◌*◌, ◌≤◌, ◌≡◌, Bool, true, false, cond, List, [], ◌∷◌, set, replicate, Float, Option, Some, None, Ok, Err}
 use Rattle.std.proofs.Common.{arith, sym, subst, ◌∙◌, true≢false, get_or-set_other}
 use Rattle.std.proofs.lemmas.List.{get_or-replicate}
 use Rattle.std.specs.Float.{nan}
@@ -7,12 +7,8 @@ use Rattle.std.specs.Float.Ieee.{lt}
 use Rattle.common.specs.Floats as Floats
 use Rattle.float_laws.specs.Below.{below_turns}
 use Rattle.common.specs.Lists.{at}
-use Rattle.common.specs.declared.Fate.{Fate}
-use Rattle.common.specs.declared.Fate.TheVariants.{Going, Refused}
 use Rattle.geom.specs.Vec as Vec
 use Rattle.geom.specs.declared.Quat.{Quat}
-use Rattle.geom.specs.declared.Rotation.{Rotation}
-use Rattle.geom.specs.declared.Rotation.TheVariants as Rotation
 use Rattle.problem.specs.declared.CheckedProblem.{CheckedProblem}
 use Rattle.forward.specs.Runs.{run_of}
 use Rattle.forward.specs.declared.Node.{Node}
@@ -22,6 +18,7 @@ use Rattle.residuals.specs.declared.Target.{Target}
 use Rattle.residuals.specs.declared.ResidualVector.{ResidualVector}
 use Rattle.kept_rows.specs.Kept.{left_out, Zeros}
 use Rattle.kept_rows.specs.ZeroLaws.{first_kept, point_kept, last_kept, last_short_kept}
+use Rattle.common.specs.Refusals.{Fate}
 
 -- a number written into a kept row
 set_zeros : {m : ℕ} {r : List Float} (j : ℕ) (x : Float) → left_out m j ≡ false → Zeros m r → Zeros m (set r j x)
@@ -51,16 +48,16 @@ closing_zeros t z ns i k h =
     (set_zeros (i + 3) _ (k (i + 3) (omega arith))
     (set_zeros (i + 2) _ (k (i + 2) (omega arith)) (set_zeros (i + 1) _ (k (i + 1) (omega arith)) (set_zeros i _ (k i (omega arith)) h))))
 
-point_zeros : (x : Rotation) (scale : Float) (k : ℕ) {r : List Float} → Zeros 79 r → Zeros 79 (Residuals.point_by x scale k r).r
-point_zeros Rotation.Outside scale k h = none_zeros (omega arith)
-point_zeros (Rotation.By x y z) scale k h =
+point_zeros : (x : Option (Float × Float × Float)) (scale : Float) (k : ℕ) {r : List Float} → Zeros 79 r → Zeros 79 (Residuals.point_by x scale k r).r
+point_zeros None scale k h = none_zeros (omega arith)
+point_zeros (Some (x, y, z)) scale k h =
     put3_zeros (7 + 4 * k) (Vec.scale3 (x ∷ y ∷ z ∷ []) scale)
     (point_kept k (7 + 4 * k) (omega arith) (omega arith)) (point_kept k (7 + 4 * k + 1) (omega arith) (omega arith)) (point_kept k (7 + 4 * k + 2) (omega arith) (omega arith)) h
 
 module _ (scale : Float) (ns : List Node) (qf : Quat) where
   turn_by : (f : Fate) (k : ℕ) (e : ResidualVector) → Zeros 79 e.r → Zeros 79 (Residuals.point_turn_by f scale ns qf k e).r
-  turn_by (Refused n place) k e h = h
-  turn_by Going k e h = point_zeros (Residuals.error_of (node_at ns k).q qf) scale k h
+  turn_by (Err why) k e h = h
+  turn_by (Ok _) k e h = point_zeros (Residuals.error_of (node_at ns k).q qf) scale k h
 
   pointed_zeros : (r : List Float) → Zeros 79 r → Zeros 79 (Residuals.pointed scale ns qf r).r
   unfolding Residuals.pointed Residuals.point_turn
@@ -68,8 +65,8 @@ module _ (scale : Float) (ns : List Node) (qf : Quat) where
 
 module _ (t : Target) (z : List Float) (ns : List Node) where
   close_by_law : (f : Fate) (e : ResidualVector) → Zeros 79 e.r → Zeros 79 (Residuals.close_by f t z ns e).r
-  close_by_law (Refused n place) e h = h
-  close_by_law Going e h = closing_zeros t z ns 74 last_kept h
+  close_by_law (Err why) e h = h
+  close_by_law (Ok _) e h = closing_zeros t z ns 74 last_kept h
 
   with_zeros : (r : List Float) → Zeros 79 r → Zeros 79 (Residuals.with_pointing t z ns r).r
   unfolding Residuals.with_pointing
@@ -91,14 +88,14 @@ module _ (t : Target) (z : List Float) (ns : List Node) where
   refused_zeros true n place = none_zeros (omega arith)
   refused_zeros false n place = none_zeros (omega arith)
 
-  error_zeros : (x : Rotation) → Zeros count (Residuals.error_by x t z ns).r
-  error_zeros Rotation.Outside = refused_zeros (lt Floats.plus_zero t.weights.pointing) 11 0
-  error_zeros (Rotation.By a b c) = either (lt Floats.plus_zero t.weights.pointing) (a ∷ b ∷ c ∷ []) (node_at ns 16).w
+  error_zeros : (x : Option (Float × Float × Float)) → Zeros count (Residuals.error_by x t z ns).r
+  error_zeros None = refused_zeros (lt Floats.plus_zero t.weights.pointing) 11 0
+  error_zeros (Some (a, b, c)) = either (lt Floats.plus_zero t.weights.pointing) (a ∷ b ∷ c ∷ []) (node_at ns 16).w
 
   run_zeros : (f : Fate) → Zeros count (Residuals.of_run_by f t z ns).r
   unfolding Residuals.of_nodes
-  run_zeros (Refused n place) = refused_zeros (lt Floats.plus_zero t.weights.pointing) n place
-  run_zeros Going = error_zeros (Residuals.error_of (node_at ns 16).q t.qf)
+  run_zeros (Err why) = refused_zeros (lt Floats.plus_zero t.weights.pointing) why.number why.place
+  run_zeros (Ok _) = error_zeros (Residuals.error_of (node_at ns 16).q t.qf)
 
 -- of every decision
 pub residuals_zeros : (p : CheckedProblem) (z : List Float) → Zeros (cond (lt Floats.plus_zero p.weights.pointing) 79 28) (Residuals.residuals_of p z).r

@@ -19,10 +19,8 @@ fn move_rows(r: &mut [f64], row: usize, place: usize, n: usize)
     requires { (place ≤ row) × (row + n ≤ length r.old) }
     ensures { r.new ≡ iter (move_turn row place) r.old n }
 {
-    let mut i: usize = 0;
-    while i < n {
+    for i in 0..n {
         r[place + i] = r[row + i];
-        i += 1;
     }
 }
 
@@ -31,10 +29,8 @@ fn gather_nodes(r: &mut [f64])
     requires { 79 ≤ length r.old }
     ensures { Upto 79 74 r.old r.new }
 {
-    let mut k: usize = 0;
-    while k < 17 {
+    for k in 0..17 {
         move_rows(r, 7 + 4 * k, 6 + 3 * k, 3);
-        k += 1;
     }
 }
 

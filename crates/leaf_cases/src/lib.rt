@@ -6,6 +6,7 @@ mod leaves;
 mod shapes;
 
 // Whether the port gives what is stored, for functions below 100.
+// A stored function's number is matched where the function is called: an enum between would list the same arms twice, and be no plainer.
 pub fn holds(number: u64, v: &[u64; 1024]) -> bool {
     if number < 50 {
         return leaves::holds(number, v);

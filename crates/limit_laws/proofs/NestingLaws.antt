@@ -1,5 +1,5 @@
 -- A row held to one row of limits and then to another: a lab's limits nested inside ours. Over `project_controls`, and of every row, as in RowLaws. Assumes nothing.
-use Rattle.std.specs.Prelude.{ℕ, zero, suc, ◌+◌, ◌-◌, ◌<◌, ◌≡◌, refl, Bool, true, false, cond, List, [], ◌∷◌, ltb, length, Float}
+use Rattle.std.specs.Prelude.{ℕ, zero, suc, ◌+◌, ◌-◌, ◌<◌, ◌≡◌, refl, Bool, true, false, cond, List, [], ◌∷◌, ltb, length, Float, Option, Some, None}
 use Rattle.std.proofs.Common.{sym, ap, ◌∙◌, arith}
 use Rattle.std.specs.Float.{nan, inf, fin}
 use Rattle.std.specs.Float.Ieee.{lt, of_bits, is_nan}
@@ -7,8 +7,6 @@ use Rattle.common.specs.Lists.{at}
 use Rattle.float.specs.Ops as Ops
 use Rattle.actuators.specs.Maps.{gimbals, no_cmgs}
 use Rattle.actuators.specs.declared.ActuatorMap.{ActuatorMap}
-use Rattle.actuators.specs.declared.Cmgs.{Cmgs}
-use Rattle.actuators.specs.declared.Cmgs.TheVariants.{Without, With}
 use Rattle.control_rows.specs.Parts.{bare, width}
 use Rattle.control_limits.specs.Limits.{hold, gimbal_rate, part_limit_value, limit_of}
 use Rattle.controls.specs.Controls.{rig_of, row_fits_value, project_controls}
@@ -16,13 +14,14 @@ use Rattle.control_rows.specs.declared.WheelLaw.TheVariants.{Once}
 use Rattle.limit_laws.specs.Holds.{hold_nested}
 use Rattle.limit_laws.specs.Rows.{row_limit, held_of, Limited, Numbers, Alike, smaller, slower, nested}
 use Rattle.limit_laws.specs.RowLaws.{project_then}
+use Rattle.actuators.specs.declared.CmgPyramid.{CmgPyramid}
 
 -- ---- maps of the same actuators hold as many controls
-gimbals_alike : (c d : Cmgs) → no_cmgs c ≡ no_cmgs d → gimbals c ≡ gimbals d
-gimbals_alike Without Without e = refl
-gimbals_alike Without (With q) e = let z : ◌≡◌ {A = ℕ} 0 1 = cc in absurd (omega arith)
-gimbals_alike (With p) Without e = let z : ◌≡◌ {A = ℕ} 0 1 = cc in absurd (omega arith)
-gimbals_alike (With p) (With q) e = refl
+gimbals_alike : (c d : Option CmgPyramid) → no_cmgs c ≡ no_cmgs d → gimbals c ≡ gimbals d
+gimbals_alike None None e = refl
+gimbals_alike None (Some q) e = let z : ◌≡◌ {A = ℕ} 0 1 = cc in absurd (omega arith)
+gimbals_alike (Some p) None e = let z : ◌≡◌ {A = ℕ} 0 1 = cc in absurd (omega arith)
+gimbals_alike (Some p) (Some q) e = refl
 
 held_alike : (m k : ActuatorMap) → Alike m k → (n : ℕ) → held_of k n ≡ held_of m n
 unfolding row_fits_value width
@@ -56,17 +55,17 @@ smaller_at (x ∷ a) [] i = sym (nan_min (at (x ∷ a) i))
 smaller_at (x ∷ a) (y ∷ b) zero = refl
 smaller_at (x ∷ a) (y ∷ b) (suc i) = smaller_at a b i
 
-slower_rate : (c d : Cmgs) → no_cmgs d ≡ no_cmgs c → gimbal_rate (slower c d) ≡ Ops.min (gimbal_rate c) (gimbal_rate d)
+slower_rate : (c d : Option CmgPyramid) → no_cmgs d ≡ no_cmgs c → gimbal_rate (slower c d) ≡ Ops.min (gimbal_rate c) (gimbal_rate d)
 unfolding Ops.min lt is_nan of_bits
-slower_rate Without Without e = refl
-slower_rate Without (With q) e = let z : ◌≡◌ {A = ℕ} 0 1 = cc in absurd (omega arith)
-slower_rate (With p) Without e = let z : ◌≡◌ {A = ℕ} 0 1 = cc in absurd (omega arith)
-slower_rate (With p) (With q) e = refl
+slower_rate None None e = refl
+slower_rate None (Some q) e = let z : ◌≡◌ {A = ℕ} 0 1 = cc in absurd (omega arith)
+slower_rate (Some p) None e = let z : ◌≡◌ {A = ℕ} 0 1 = cc in absurd (omega arith)
+slower_rate (Some p) (Some q) e = refl
 
-slower_none : (c d : Cmgs) → no_cmgs (slower c d) ≡ no_cmgs c
-slower_none Without d = refl
-slower_none (With p) Without = refl
-slower_none (With p) (With q) = refl
+slower_none : (c d : Option CmgPyramid) → no_cmgs (slower c d) ≡ no_cmgs c
+slower_none None d = refl
+slower_none (Some p) None = refl
+slower_none (Some p) (Some q) = refl
 
 nested_alike : (m k : ActuatorMap) → Alike m (nested m k)
 nested_alike m k = record { wheels = refl; thrusters = refl; pyramid = slower_none m.cmgs k.cmgs }
@@ -76,7 +75,7 @@ unfolding limit_of
 nested_limit m k A box lab i = rw (slower_none m.cmgs k.cmgs, A.wheels, A.thrusters, A.pyramid) (go (bare (rig_of m)))
   where
     -- control j's limit in a row of parts
-    limit : List Float → List Float → Cmgs → ℕ → Float
+    limit : List Float → List Float → Option CmgPyramid → ℕ → Float
     limit wheels thrusters c j = part_limit_value (record { wheel_count = m.wheel_count; thruster_count = m.thruster_count; cmgs = c; law = Once }) wheels thrusters j
 
     W : List Float

@@ -1,15 +1,14 @@
 -- What the laws of whole rows speak of: each control's limit, how many controls are held, and the map whose limits are the smaller ones of two maps. Definitions only.
-use Rattle.std.specs.Prelude.{ℕ, ◌<◌, ◌≡◌, cond, List, [], ◌∷◌, length, Float}
+use Rattle.std.specs.Prelude.{ℕ, ◌<◌, ◌≡◌, cond, List, [], ◌∷◌, length, Float, Option, Some, None}
 use Rattle.common.specs.Lists.{at}
 use Rattle.float.specs.Ops as Ops
 use Rattle.actuators.specs.Maps.{gimbals, no_cmgs}
 use Rattle.actuators.specs.declared.ActuatorMap.{ActuatorMap}
-use Rattle.actuators.specs.declared.Cmgs.{Cmgs}
-use Rattle.actuators.specs.declared.Cmgs.TheVariants.{Without, With}
 use Rattle.control_rows.specs.Parts.{width}
 use Rattle.control_limits.specs.Limits.{limit_of, fewer}
 use Rattle.controls.specs.Controls.{rig_of, row_fits_value}
 use Rattle.limit_laws.specs.Holds.{Limit, Number}
+use Rattle.actuators.specs.declared.CmgPyramid.{CmgPyramid}
 
 -- control i's limit in a row of the map m; with no actuators it is the box's, axis by axis
 abbrev pub row_limit : ActuatorMap → List Float → ℕ → Float
@@ -42,10 +41,10 @@ smaller (x ∷ a) [] = x ∷ a
 smaller (x ∷ a) (y ∷ b) = Ops.min x y ∷ smaller a b
 
 -- the first pyramid with the smaller rate
-abbrev pub slower : Cmgs → Cmgs → Cmgs
-slower Without d = Without
-slower (With p) Without = With p
-slower (With p) (With q) = With (record {
+abbrev pub slower : Option CmgPyramid → Option CmgPyramid → Option CmgPyramid
+slower None d = None
+slower (Some p) None = Some p
+slower (Some p) (Some q) = Some (record {
   skew_rad = p.skew_rad;
   wheel_momentum_nms = p.wheel_momentum_nms;
   max_gimbal_rate_rad_s = Ops.min p.max_gimbal_rate_rad_s q.max_gimbal_rate_rad_s;

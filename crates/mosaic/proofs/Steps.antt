@@ -1,4 +1,5 @@
 -- A mosaic's turns, in the code's steps. Assumes nothing.
+use Rattle.std.specs.Prelude.{Ok, Err}
 use Prim.Native.Nat.{ℕ, ◌<◌, ◌≤◌}
 use mathlib.Core.Path.{◌≡◌, refl, sym, ap, ◌∙◌}
 use mathlib.Core.Bool.{Bool, true, false, ◌||◌}
@@ -8,8 +9,6 @@ use borrow.Author.Tests.{lt-ltb, le-ltb, ltb-false}
 use lib.Dec.{ltb}
 use lib.ListN.{length}
 use lib.Ieee.{Float}
-use Rattle.common.specs.declared.Fate.{Fate}
-use Rattle.common.specs.declared.Fate.TheVariants.{Going, Refused}
 use Rattle.geom.specs.declared.Quat.{Quat}
 use Rattle.problem.specs.declared.Problem.{Problem}
 use Rattle.planner.specs.Plans as Plans
@@ -22,15 +21,17 @@ use Rattle.mosaic.specs.Ways.{planner_by, AnswersBy}
 use Rattle.mosaic.specs.declared.Advanced.{Advanced}
 use Rattle.mosaic.specs.declared.Cursor.{Cursor}
 use Rattle.mosaic.specs.declared.ways.Way.{Way}
+use Rattle.common.specs.Refusals.{Fate, refusal, going}
+use Rattle.common.specs.declared.Refusal.{Refusal}
 
 -- ---- 23
-pub count_few : (n : ℕ) → n < 2 → Refused 23 0 ≡ count_fate n
+pub count_few : (n : ℕ) → n < 2 → Err (refusal 23 0) ≡ count_fate n
 count_few n h = rw (lt-ltb n 2 h) refl
 
-pub count_many : (n : ℕ) → 2 ≤ n → 64 < n → Refused 23 0 ≡ count_fate n
+pub count_many : (n : ℕ) → 2 ≤ n → 64 < n → Err (refusal 23 0) ≡ count_fate n
 count_many n h k = rw (le-ltb n 2 h, lt-ltb 64 n k) refl
 
-pub count_fits : (n : ℕ) → 2 ≤ n → n ≤ 64 → Going ≡ count_fate n
+pub count_fits : (n : ℕ) → 2 ≤ n → n ≤ 64 → going ≡ count_fate n
 count_fits n h k = rw (le-ltb n 2 h, le-ltb 64 n k) refl
 
 -- ---- whether there is a further leg
@@ -59,7 +60,7 @@ module _ {way : Way} {p : Problem} {c : Cursor} {from to : Quat} {ws : List Floa
       record { planned = s; cursor = h ∙ ap (moved c) s; left = g; answers = rw e at a }
 
   -- there is none
-  pub turned_full : (plan : Planner) {b : Bool} {r : Planned} {d : Cursor} → b ≡ is_full c → b ≡ true → d ≡ halted c 23 0 0 → r ≡ Plans.refused 23 0 0 → Turned (opened plan p c from to) way p c from to ws (record { cursor = d; planned = r }) ws
+  pub turned_full : (plan : Planner) {b : Bool} {r : Planned} {d : Cursor} → b ≡ is_full c → b ≡ true → d ≡ halted c (refusal 23 0) 0 → r ≡ Plans.refused (refusal 23 0) 0 → Turned (opened plan p c from to) way p c from to ws (record { cursor = d; planned = r }) ws
   unfolding opened moved
   turned_full plan e f g h =
       let t : is_full c ≡ true = sym e ∙ f in
@@ -67,7 +68,7 @@ module _ {way : Way} {p : Problem} {c : Cursor} {from to : Quat} {ws : List Floa
         planned = rw t h;
         cursor = rw t g;
         left = rw h (leaves_none ws);
-        answers = rw h (refused_answers way (length ws) (leg_problem p from to c.momenta) 23 0);
+        answers = rw h (refused_answers way (length ws) (leg_problem p from to c.momenta) (refusal 23 0));
       }
 
   -- there is one
@@ -76,7 +77,7 @@ module _ {way : Way} {p : Problem} {c : Cursor} {from to : Quat} {ws : List Floa
   turned_open plan e f t = let g : is_full c ≡ false = sym e ∙ f in rw g t
 
   -- `next`, where the mosaic goes on
-  pub advances : {r : Advanced} {exit : List Float} → c.fate ≡ Going → Turned (opened (planner_by way (length ws)) p c from to) way p c from to ws r exit → Advances way p c from to ws r exit
+  pub advances : {r : Advanced} {exit : List Float} → c.fate ≡ going → Turned (opened (planner_by way (length ws)) p c from to) way p c from to ws r exit → Advances way p c from to ws r exit
   advances e t = record {
     cursor = t.cursor ∙ sym (ap (λ (f : Fate). next_by f c (planned_by f (planner_by way (length ws)) p c from to)) e);
     planned = t.planned ∙ sym (ap (λ (f : Fate). planned_by f (planner_by way (length ws)) p c from to) e);
@@ -85,10 +86,10 @@ module _ {way : Way} {p : Problem} {c : Cursor} {from to : Quat} {ws : List Floa
   }
 
   -- and where it has ended
-  pub advances_not : {r : Planned} {n k : ℕ} → c.fate ≡ Refused n k → r ≡ Plans.refused n k 0 → Advances way p c from to ws (record { cursor = c; planned = r }) ws
-  advances_not {r} {n} {k} e h = record {
+  pub advances_not : {r : Planned} {why : Refusal} → c.fate ≡ Err why → r ≡ Plans.refused why 0 → Advances way p c from to ws (record { cursor = c; planned = r }) ws
+  advances_not {r} {why} e h = record {
     cursor = rw e refl;
     planned = rw e h;
     left = rw h (leaves_none ws);
-    answers = rw h (refused_answers way (length ws) (leg_problem p from to c.momenta) n k);
+    answers = rw h (refused_answers way (length ws) (leg_problem p from to c.momenta) why);
   }

@@ -1,6 +1,6 @@
 -- A whole mosaic: a leg from each attitude to the next, every leg a slew whose wheels start with the momenta that the leg before it ended with. Over any planner of
 -- one slew. Definitions only.
-use Rattle.std.specs.Prelude.{ℕ, zero, suc, ◌+◌, ◌-◌, Bool, cond, ◌||◌, List, [], ◌∷◌, ◌++◌, ltb, get_or, Float}
+use Rattle.std.specs.Prelude.{ℕ, zero, suc, ◌+◌, ◌-◌, Bool, cond, ◌||◌, List, [], ◌∷◌, ◌++◌, ltb, get_or, Float, Ok, Err}
 use Rattle.std.proofs.Math.Option.{Option, some, none}
 use Rattle.std.proofs.Math.ListN.{get_elem?}
 use Rattle.std.specs.Float.{binary64}
@@ -8,8 +8,6 @@ use Rattle.std.specs.Float.Ieee.{add}
 use Rattle.common.specs.Floats.{plus_zero}
 use Rattle.common.specs.Iter.{iter}
 use Rattle.common.specs.Lists.{at}
-use Rattle.common.specs.declared.Fate.{Fate}
-use Rattle.common.specs.declared.Fate.TheVariants.{Going, Refused}
 use Rattle.geom.specs.declared.Quat.{Quat}
 use Rattle.problem.specs.declared.Momenta.{Momenta}
 use Rattle.problem.specs.declared.Problem.{Problem}
@@ -17,6 +15,8 @@ use Rattle.planner.specs.Plans.{refused}
 use Rattle.planner.specs.declared.Planned.{Planned}
 use Rattle.wheel_momenta.specs.Successive.{last_momenta, with_momenta}
 use Rattle.mosaic.specs.declared.Cursor.{Cursor}
+use Rattle.common.specs.Refusals.{Fate, refusal, going}
+use Rattle.common.specs.declared.Refusal.{Refusal}
 
 -- any planner of one slew: what it answers for a problem. `Ways.planner_by` has ours, on a workspace of a given size.
 abbrev pub Planner : Type 0
@@ -47,7 +47,7 @@ leg_problem p from to m = with_momenta (with_ends p from to) m
 
 -- before the first leg, whose wheels start with the momenta m
 abbrev pub start : Momenta → Cursor
-start m = record { index = 0; momenta = m; duration = plus_zero; runs = 0; fate = Going; refused_runs = 0 }
+start m = record { index = 0; momenta = m; duration = plus_zero; runs = 0; fate = going; refused_runs = 0 }
 
 -- a leg was answered: it alone is added to the sums, and the next one starts with the momenta that it ended with
 abbrev pub took : Cursor → Planned → Cursor
@@ -56,24 +56,24 @@ took c leg = record {
   momenta = last_momenta leg.path;
   duration = add binary64 c.duration leg.path.duration;
   runs = c.runs + leg.runs;
-  fate = Going;
+  fate = going;
   refused_runs = 0;
 }
 
 -- a leg was refused: the legs before it stand, and the sums are theirs
-abbrev pub halted : Cursor → ℕ → ℕ → ℕ → Cursor
-halted c number place runs = record {
+abbrev pub halted : Cursor → Refusal → ℕ → Cursor
+halted c why runs = record {
   index = c.index;
   momenta = c.momenta;
   duration = c.duration;
   runs = c.runs;
-  fate = Refused number place;
+  fate = Err why;
   refused_runs = runs;
 }
 
 abbrev pub moved_by : Fate → Cursor → Planned → Cursor
-moved_by Going c leg = took c leg
-moved_by (Refused number place) c leg = halted c number place leg.runs
+moved_by (Ok _) c leg = took c leg
+moved_by (Err why) c leg = halted c why leg.runs
 
 -- after the planner's answer for the next leg
 unfoldable pub moved : Cursor → Planned → Cursor
@@ -95,20 +95,20 @@ is_full c = ltb 62 c.index || ltb full_runs_value c.runs
 
 -- what is answered for the leg where the mosaic goes on: 23, or the planner's answer
 unfoldable pub opened : Planner → Problem → Cursor → Quat → Quat → Planned
-opened plan p c from to = cond (is_full c) (refused 23 0 0) (plan (leg_problem p from to c.momenta))
+opened plan p c from to = cond (is_full c) (refused (refusal 23 0) 0) (plan (leg_problem p from to c.momenta))
 
 -- after a refusal nothing is planned: its number and place, and no run
 abbrev pub planned_by : Fate → Planner → Problem → Cursor → Quat → Quat → Planned
-planned_by Going plan p c from to = opened plan p c from to
-planned_by (Refused number place) plan p c from to = refused number place 0
+planned_by (Ok _) plan p c from to = opened plan p c from to
+planned_by (Err why) plan p c from to = refused why 0
 
 abbrev pub planned : Planner → Problem → Cursor → Quat → Quat → Planned
 planned plan p c from to = planned_by c.fate plan p c from to
 
 -- and the cursor stays
 abbrev pub next_by : Fate → Cursor → Planned → Cursor
-next_by Going c leg = moved c leg
-next_by (Refused number place) c leg = c
+next_by (Ok _) c leg = moved c leg
+next_by (Err why) c leg = c
 
 abbrev pub next : Planner → Problem → Cursor → Quat → Quat → Cursor
 next plan p c from to = next_by c.fate c (planned plan p c from to)
@@ -119,12 +119,12 @@ pub record Flight : Type 0 where
   pub legs : List Planned
 
 abbrev pub added_by : Fate → List Planned → Planned → List Planned
-added_by Going legs leg = legs ++ leg ∷ []
-added_by (Refused number place) legs leg = legs
+added_by (Ok _) legs leg = legs ++ leg ∷ []
+added_by (Err why) legs leg = legs
 
 abbrev pub flew_by : Fate → Flight → Planned → Flight
-flew_by Going f leg = record { cursor = moved f.cursor leg; legs = added_by leg.fate f.legs leg }
-flew_by (Refused number place) f leg = f
+flew_by (Ok _) f leg = record { cursor = moved f.cursor leg; legs = added_by leg.fate f.legs leg }
+flew_by (Err why) f leg = f
 
 -- what the planner answers for the leg from tile i to the next one, from the momenta m
 abbrev pub leg_from : Planner → Problem → (ℕ → Quat) → ℕ → Momenta → Planned
@@ -149,15 +149,15 @@ momenta_at m legs (suc i) = last_or m (get_elem? legs i)
 
 -- 23: fewer than 2 attitudes, or more than 64
 abbrev pub count_fate : ℕ → Fate
-count_fate count = cond (ltb count 2) (Refused 23 0) (cond (ltb 64 count) (Refused 23 0) Going)
+count_fate count = cond (ltb count 2) (Err (refusal 23 0)) (cond (ltb 64 count) (Err (refusal 23 0)) going)
 
 -- no legs, the sums 0
-abbrev pub nothing : Momenta → ℕ → ℕ → Flight
-nothing m number place = record { cursor = halted (start m) number place 0; legs = [] }
+abbrev pub nothing : Momenta → Refusal → Flight
+nothing m why = record { cursor = halted (start m) why 0; legs = [] }
 
 abbrev pub whole_by_value : Fate → Planner → Problem → (ℕ → Quat) → Momenta → ℕ → Flight
-whole_by_value Going plan p tile m count = flown plan p tile m (count - 1)
-whole_by_value (Refused number place) plan p tile m count = nothing m number place
+whole_by_value (Ok _) plan p tile m count = flown plan p tile m (count - 1)
+whole_by_value (Err why) plan p tile m count = nothing m why
 
 -- the whole mosaic of `count` tiles
 unfoldable pub whole : Planner → Problem → (ℕ → Quat) → Momenta → ℕ → Flight

@@ -1,7 +1,6 @@
 -- By either way: how many runs a leg can have, and that its planner's contract gives the promises of its answer. Assumes nothing.
 use Rattle.std.specs.Prelude.{ℕ, ◌≤◌, ◌≡◌, refl}
 use Rattle.std.proofs.Common.{arith}
-use Rattle.common.specs.declared.Fate.TheVariants.{Going, Refused}
 use Rattle.problem.specs.Problems.{check}
 use Rattle.problem.specs.declared.Problem.{Problem}
 use Rattle.forward.specs.StepLaws.{refused_going}
@@ -14,6 +13,8 @@ use Rattle.eigenaxis_seed.specs.declared.Shape.{Shape}
 use Rattle.eigenaxis.specs.Bounds.{runs_bound}
 use Rattle.eigenaxis.specs.Keeps as Keeps
 use Rattle.eigenaxis.specs.Ladders.{plan_eigenaxis, counted}
+use Rattle.common.specs.Refusals.{refusal}
+use Rattle.common.specs.declared.Refusal.{Refusal}
 use Rattle.mosaic.specs.Mosaics.{most_runs}
 use Rattle.mosaic.specs.Ways.{planner_by, AnswersBy}
 use Rattle.mosaic.specs.declared.ways.Way.{Way}
@@ -26,10 +27,10 @@ runs_most Search size p = omega (arith, plan_most p size)
 runs_most (Eigenaxis shape) size p = runs_bound p shape size
 
 -- a refusal that no run led to
-pub refused_answers : (way : Way) (size : ℕ) (p : Problem) (n k : ℕ) → AnswersBy way size p (Plans.refused n k 0)
-refused_answers way size p n k = record {
+pub refused_answers : (way : Way) (size : ℕ) (p : Problem) (why : Refusal) → AnswersBy way size p (Plans.refused why 0)
+refused_answers way size p why = record {
   given = λ g. absurd (refused_going g);
-  refused = λ a b e. let x : n ≡ a = cc in let y : k ≡ b = cc in rw (x, y) refl;
+  refused = λ a b e. let x : why.number ≡ a = cc in let y : why.place ≡ b = cc in rw (← x, ← y) refl;
 }
 
 -- ---- what `plan_by` answers by each way
@@ -55,6 +56,6 @@ module _ (size : ℕ) (p : Problem) {r : Planned} where
         rw e (record {
           given = λ g. a.given t.planned.path (rw g refl);
           refused = λ n k g.
-              let h : t.planned ≡ Plans.refused n k t.planned.runs = a.refused n k t.planned.runs (rw g refl) in
+              let h : t.planned ≡ Plans.refused (refusal n k) t.planned.runs = a.refused n k t.planned.runs (rw g refl) in
               λ i. record { fate = (h i).fate; runs = t.runs; path = (h i).path };
         })

@@ -1,6 +1,5 @@
 -- The ways in which a leg is planned, by the search or about one axis: the planner of each, and what it promises of its answer. Definitions only.
-use Rattle.std.specs.Prelude.{ℕ, ◌≡◌}
-use Rattle.common.specs.declared.Fate.TheVariants.{Going, Refused}
+use Rattle.std.specs.Prelude.{ℕ, ◌≡◌, Err}
 use Rattle.problem.specs.Problems.{check}
 use Rattle.problem.specs.declared.Problem.{Problem}
 use Rattle.planner.specs.Plans as Plans
@@ -11,6 +10,7 @@ use Rattle.eigenaxis.specs.Ladders.{unweighted, plan_eigenaxis, counted}
 use Rattle.mosaic.specs.Mosaics.{Planner}
 use Rattle.mosaic.specs.declared.ways.Way.{Way}
 use Rattle.mosaic.specs.declared.ways.Way.TheVariants.{Search, Eigenaxis}
+use Rattle.common.specs.Refusals.{refusal, going}
 
 -- THE PLANNER of a way, `size` numbers being lent: `plan`, or the eigenaxis plan, whose runs are those of every try
 unfoldable pub planner_by : Way → ℕ → Planner
@@ -26,5 +26,5 @@ PromisedBy (Eigenaxis shape) size p r =
 
 -- what an answer r says: a path of which demand 3 holds, or a refusal beside which the path is blank
 pub record AnswersBy (way : Way) (size : ℕ) (p : Problem) (r : Planned) : Type 0 where
-  pub given : r.fate ≡ Going → PromisedBy way size p r
-  pub refused : (number place : ℕ) → r.fate ≡ Refused number place → r ≡ Plans.refused number place r.runs
+  pub given : r.fate ≡ going → PromisedBy way size p r
+  pub refused : (number place : ℕ) → r.fate ≡ Err (refusal number place) → r ≡ Plans.refused (refusal number place) r.runs

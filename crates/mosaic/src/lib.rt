@@ -7,7 +7,7 @@ ghost use Rattle.mosaic.specs.Mosaics as Mosaics;
 ghost use Rattle.mosaic.specs.Turns as Turns;
 ghost use Rattle.mosaic.specs.Ways as Ways;
 
-use common::Fate;
+use common::Refusal;
 use geom::Quat;
 use planner::{Planned, refused};
 use problem::{Momenta, Problem};
@@ -25,7 +25,7 @@ pub struct Cursor {
     pub momenta: Momenta,
     pub duration: f64,
     pub runs: usize,
-    pub fate: Fate,
+    pub fate: Result<(), Refusal>,
     pub refused_runs: usize,
 }
 
@@ -47,16 +47,22 @@ pub fn leg_problem(p: Problem, from: Quat, to: Quat, m: Momenta) -> Problem
 }
 
 // 23: fewer than 2 attitudes, or more than 64.
-pub fn check_count(tiles: usize) -> Fate
+pub fn check_count(tiles: usize) -> Result<(), Refusal>
     ensures { result ≡ Mosaics.count_fate tiles }
 {
     if tiles < 2 {
-        return Fate::Refused(23, 0);
+        return Err(Refusal {
+            number: 23,
+            place: 0,
+        });
     }
     if tiles > 64 {
-        return Fate::Refused(23, 0);
+        return Err(Refusal {
+            number: 23,
+            place: 0,
+        });
     }
-    Fate::Going
+    Ok(())
 }
 
 // The cursor before the first leg, whose wheels start with the momenta m.
@@ -68,23 +74,19 @@ pub fn start(m: Momenta) -> Cursor
         momenta: m,
         duration: 0.0,
         runs: 0,
-        fate: Fate::Going,
+        fate: Ok(()),
         refused_runs: 0,
     }
 }
 
 // A leg was refused: the legs before it stand, and the sums are theirs.
-pub fn halted(c: Cursor, number: usize, place: usize, runs: usize) -> Cursor
-    ensures { result ≡ Mosaics.halted c number place runs }
+pub fn halted(c: Cursor, why: Refusal, runs: usize) -> Cursor
+    ensures { result ≡ Mosaics.halted c why runs }
 {
-    let momenta = c.momenta;
     Cursor {
-        index: c.index,
-        momenta: momenta,
-        duration: c.duration,
-        runs: c.runs,
-        fate: Fate::Refused(number, place),
+        fate: Err(why),
         refused_runs: runs,
+        ..c
     }
 }
 
@@ -99,7 +101,7 @@ fn took(c: Cursor, leg: Planned) -> Cursor
         momenta: last_momenta(path),
         duration: c.duration + path.duration,
         runs: c.runs + leg.runs,
-        fate: Fate::Going,
+        fate: Ok(()),
         refused_runs: 0,
     }
 }
@@ -109,10 +111,9 @@ fn moved(c: Cursor, leg: Planned) -> Cursor
     requires { (Turns.Open c) × (leg.runs ≤ Mosaics.most_runs) }
     ensures { result ≡ Mosaics.moved c leg }
 {
-    let fate = leg.fate;
-    match fate {
-        Fate::Refused(number, place) => halted(c, number, place, leg.runs),
-        Fate::Going => took(c, leg),
+    match leg.fate {
+        Err(why) => halted(c, why, leg.runs),
+        Ok(()) => took(c, leg),
     }
 }
 
@@ -146,9 +147,13 @@ fn advance_open(p: Problem, way: Way, c: Cursor, from: Quat, to: Quat, ws: &mut 
         ws.new }
 {
     if is_full(c) {
+        let why = Refusal {
+            number: 23,
+            place: 0,
+        };
         return Advanced {
-            cursor: halted(c, 23, 0, 0),
-            planned: refused(23, 0, 0),
+            cursor: halted(c, why, 0),
+            planned: refused(why, 0),
         };
     }
     advance(p, way, c, from, to, ws)
@@ -158,12 +163,11 @@ fn advance_open(p: Problem, way: Way, c: Cursor, from: Quat, to: Quat, ws: &mut 
 pub fn next(p: Problem, way: Way, c: Cursor, from: Quat, to: Quat, ws: &mut [f64]) -> Advanced
     ensures { Turns.Advances way p c from to ws.old result ws.new }
 {
-    let fate = c.fate;
-    match fate {
-        Fate::Refused(number, place) => Advanced {
+    match c.fate {
+        Err(why) => Advanced {
             cursor: c,
-            planned: refused(number, place, 0),
+            planned: refused(why, 0),
         },
-        Fate::Going => advance_open(p, way, c, from, to, ws),
+        Ok(()) => advance_open(p, way, c, from, to, ws),
     }
 }

@@ -1,12 +1,10 @@
 -- What is written of a leg, in the code's steps, and of the whole. Assumes nothing.
-use Rattle.std.specs.Prelude.{ℕ, ◌+◌, ◌≤◌, length, Float}
+use Rattle.std.specs.Prelude.{ℕ, ◌+◌, ◌≤◌, length, Float, Ok, Err}
 use Rattle.std.proofs.Common.{arith}
 use Rattle.std.proofs.Math.Path.{◌≡◌, refl}
 use Rattle.std.proofs.Math.Bool.{true}
 use mathlib.Core.List.{List, []}
 use Rattle.common.specs.IterLaws.{iter_none, iter_next, iter_stays}
-use Rattle.common.specs.declared.Fate.{Fate}
-use Rattle.common.specs.declared.Fate.TheVariants.{Going, Refused}
 use Rattle.geom.specs.declared.Quat.{Quat}
 use Rattle.text_writer.specs.Puts.{Puts}
 use Rattle.text_writer.specs.Texts as Texts
@@ -24,6 +22,7 @@ use Rattle.mosaic_text.specs.TileLines.{tile_at}
 use Rattle.mosaic_text.specs.declared.ReadMosaic.{ReadMosaic}
 use Rattle.mosaic_answer.specs.LegLines.{heading}
 use Rattle.mosaic_answer.specs.MosaicAnswers.{counted, after, leg_text, cursor_at, is_refused, leg_by, leg_at, legs_text, answer, slew_mosaic, Writes}
+use Rattle.common.specs.Refusals.{Fate, refusal, going}
 
 -- a leg that was planned, and its three texts
 module _ (way : Way) (m : ReadMosaic) (c : Cursor) where
@@ -58,8 +57,8 @@ module _ (plan : Planner) (m : ReadMosaic) where
   cursor_next k e f = iter_next _ _ k e f
 
   stays : (c : Cursor) (e : Fate) → c.fate ≡ e → is_refused e ≡ true → after plan m c ≡ c
-  stays c (Refused number place) f h = rw f
-  stays c Going f h = let z : ◌≡◌ {A = ℕ} 0 1 = cc in absurd (omega arith)
+  stays c (Err why) f h = rw f
+  stays c (Ok _) f h = let z : ◌≡◌ {A = ℕ} 0 1 = cc in absurd (omega arith)
 
   -- after a refused leg nothing changes
   pub cursor_stays : (k n : ℕ) {c : Cursor} → k ≤ n → c ≡ cursor_at plan m k → is_refused c.fate ≡ true → c ≡ cursor_at plan m n
@@ -72,15 +71,15 @@ module _ (plan : Planner) (m : ReadMosaic) where
   none_after k h = go (cursor_at plan m k).fate h
     where
       go : (e : Fate) → is_refused e ≡ true → leg_by e (leg_text plan m (cursor_at plan m k)) ≡ []
-      go (Refused number place) f = refl
-      go Going f = let z : ◌≡◌ {A = ℕ} 0 1 = cc in absurd (omega arith)
+      go (Err why) f = refl
+      go (Ok _) f = let z : ◌≡◌ {A = ℕ} 0 1 = cc in absurd (omega arith)
 
 -- ---- the whole: a refusal of the text alone, or the legs in turn and the sums
 module _ (way : Way) (text : List ℕ) where
-  pub slew_refused : {n k : ℕ} → (counted text).fate ≡ Refused n k → slew_mosaic way text ≡ Texts.refused n k 0
+  pub slew_refused : {n k : ℕ} → (counted text).fate ≡ Err (refusal n k) → slew_mosaic way text ≡ Texts.refused n k 0
   unfolding answer
   slew_refused e = rw e
 
-  pub slew_legs : (counted text).fate ≡ Going → slew_mosaic way text ≡ legs_text (planner_by way 8000) (counted text)
+  pub slew_legs : (counted text).fate ≡ going → slew_mosaic way text ≡ legs_text (planner_by way 8000) (counted text)
   unfolding answer
   slew_legs e = rw e

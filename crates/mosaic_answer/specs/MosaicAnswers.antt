@@ -1,8 +1,6 @@
 -- What is printed of a mosaic's text, byte for byte, over any planner of one slew: a leg at a time, and whole. Definitions only.
-use Rattle.std.specs.Prelude.{ℕ, ◌+◌, ◌-◌, ◌≡◌, Bool, true, false, List, [], ◌++◌, Float}
+use Rattle.std.specs.Prelude.{ℕ, ◌+◌, ◌-◌, ◌≡◌, Bool, true, false, List, [], ◌++◌, Float, Ok, Err}
 use Rattle.common.specs.Iter.{iter}
-use Rattle.common.specs.declared.Fate.{Fate}
-use Rattle.common.specs.declared.Fate.TheVariants.{Going, Refused}
 use Rattle.planner.specs.Plans as Plans
 use Rattle.planner.specs.declared.Planned.{Planned}
 use Rattle.text_writer.specs.Puts.{Puts}
@@ -19,6 +17,7 @@ use Rattle.mosaic_text.specs.MosaicTexts.{read_mosaic}
 use Rattle.mosaic_text.specs.declared.ReadMosaic.{ReadMosaic}
 use Rattle.mosaic_answer.specs.LegLines.{heading, total}
 use Rattle.mosaic_answer.specs.declared.Leg.{Leg}
+use Rattle.common.specs.Refusals.{Fate}
 
 -- ---- the mosaic of a text: 21 first, then 23
 
@@ -26,8 +25,8 @@ abbrev pub with_fate : ReadMosaic → Fate → ReadMosaic
 with_fate m fate = record { fate = fate; problem = m.problem; count = m.count; tiles = m.tiles }
 
 abbrev pub counted_by : Fate → ReadMosaic → ReadMosaic
-counted_by (Refused number line) m = m
-counted_by Going m = with_fate m (Mosaics.count_fate m.count)
+counted_by (Err why) m = m
+counted_by (Ok _) m = with_fate m (Mosaics.count_fate m.count)
 
 unfoldable pub counted : List ℕ → ReadMosaic
 counted text = counted_by (read_mosaic text).fate (read_mosaic text)
@@ -55,13 +54,13 @@ unfoldable pub cursor_at : Planner → ReadMosaic → ℕ → Cursor
 cursor_at plan m k = iter (λ _ c. after plan m c) (Mosaics.start m.problem.momenta) k
 
 abbrev pub is_refused : Fate → Bool
-is_refused (Refused number place) = true
-is_refused Going = false
+is_refused (Err why) = true
+is_refused (Ok _) = false
 
 -- leg k, where none before it was refused
 abbrev pub leg_by : Fate → List ℕ → List ℕ
-leg_by (Refused number place) text = []
-leg_by Going text = text
+leg_by (Err why) text = []
+leg_by (Ok _) text = text
 
 unfoldable pub leg_at : Planner → ReadMosaic → ℕ → List ℕ
 leg_at plan m k = leg_by (cursor_at plan m k).fate (leg_text plan m (cursor_at plan m k))
@@ -72,8 +71,8 @@ legs_text plan m = Texts.times (leg_at plan m) (m.count - 1) ++ total_text (curs
 
 -- a text that is refused, with 21 or 23, is answered as `slew` answers one
 abbrev pub answer_by : Fate → Planner → ReadMosaic → List ℕ
-answer_by (Refused number place) plan m = Texts.refused number place 0
-answer_by Going plan m = legs_text plan m
+answer_by (Err why) plan m = Texts.refused why.number why.place 0
+answer_by (Ok _) plan m = legs_text plan m
 
 unfoldable pub answer : Planner → List ℕ → List ℕ
 answer plan text = answer_by (counted text).fate plan (counted text)

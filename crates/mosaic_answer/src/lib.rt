@@ -7,7 +7,7 @@ ghost use Rattle.mosaic.specs.Ways as Ways;
 ghost use Rattle.mosaic_answer.specs.MosaicAnswers as MosaicAnswers;
 ghost use Rattle.mosaic_answer.specs.MosaicAnswers.{Writes};
 
-use common::Fate;
+use common::Refusal;
 use mosaic::ways::Way;
 use mosaic::{Cursor, check_count, next};
 use mosaic_text::{ReadMosaic, read_mosaic};
@@ -28,7 +28,7 @@ pub struct Leg {
 }
 
 // A mosaic with another fate.
-fn with_fate(m: ReadMosaic, fate: Fate) -> ReadMosaic
+fn with_fate(m: ReadMosaic, fate: Result<(), Refusal>) -> ReadMosaic
     ensures { result ≡ MosaicAnswers.with_fate m fate }
 {
     let problem = m.problem;
@@ -48,8 +48,8 @@ pub fn read_counted(text: &[u8]) -> ReadMosaic
     let m = read_mosaic(text);
     let fate = m.fate;
     match fate {
-        Fate::Refused(_, _) => m,
-        Fate::Going => with_fate(m, check_count(m.count)),
+        Err(_) => m,
+        Ok(()) => with_fate(m, check_count(m.count)),
     }
 }
 

@@ -1,14 +1,12 @@
 -- A mosaic cut at a tile, which then belongs to both halves: the legs, the refusal, the sums. Over any planner of one slew. Assumes nothing.
 use Prim.Native.Nat.{ℕ, zero, suc, ◌+◌}
-use Rattle.std.specs.Prelude.{◌≡◌, Float}
+use Rattle.std.specs.Prelude.{◌≡◌, Float, Ok, Err}
 use Rattle.std.proofs.Math.Path.{refl, ap}
 use Rattle.std.proofs.Common.{sym, ◌∙◌, zero-add, add-zero, suc-add, add_assoc, add_comm, arith}
 use mathlib.Core.List.{List, [], ◌∷◌, ◌++◌, append_assoc, append-nil}
 use Rattle.std.specs.Float.{binary64}
 use Rattle.std.specs.Float.Ieee.{add}
 use Rattle.common.specs.Iter.{iter}
-use Rattle.common.specs.declared.Fate.{Fate}
-use Rattle.common.specs.declared.Fate.TheVariants.{Going, Refused}
 use Rattle.geom.specs.declared.Quat.{Quat}
 use Rattle.problem.specs.declared.Momenta.{Momenta}
 use Rattle.problem.specs.declared.Problem.{Problem}
@@ -16,6 +14,7 @@ use Rattle.planner.specs.declared.Planned.{Planned}
 use Rattle.mosaic.specs.Mosaics.{Planner, Flight, start, moved_by, moved, added_by, flew_by, leg_problem, leg_from, fly, flown}
 use Rattle.mosaic.specs.declared.Cursor.{Cursor}
 use Rattle.mosaic_laws.specs.Legs.{durations_onto, durations_more, legal, going_index, stays}
+use Rattle.common.specs.Refusals.{Fate, refusal, going}
 
 -- d turns after c turns
 turns_add : {X : Type 0} (g : X → X) (a : X) (c d : ℕ) → iter (λ _. g) a (d + c) ≡ iter (λ _. g) (iter (λ _. g) a c) d
@@ -44,23 +43,23 @@ joined f s = record {
 
 answered_joined : (f s : Flight) (leg : Planned) (e : Fate)
     → ◌≡◌ {A = Flight} (record { cursor = moved_by e (joined f s).cursor leg; legs = added_by e (joined f s).legs leg }) (joined f (record { cursor = moved_by e s.cursor leg; legs = added_by e s.legs leg }))
-answered_joined f s leg Going = simp (add_assoc, append_assoc, durations_more)
-answered_joined f s leg (Refused n k) = refl
+answered_joined f s leg (Ok _) = simp (add_assoc, append_assoc, durations_more)
+answered_joined f s leg (Err why) = refl
 
 module _ (plan : Planner) (p : Problem) where
   fly_joined_by : (tile : ℕ → Quat) (f s : Flight) (e : Fate)
       → flew_by e (joined f s) (leg_from plan p tile (f.cursor.index + s.cursor.index) s.cursor.momenta) ≡ joined f (flew_by e s (leg_from plan p (from tile f.cursor.index) s.cursor.index s.cursor.momenta))
   unfolding moved
-  fly_joined_by tile f s Going =
+  fly_joined_by tile f s (Ok _) =
       let leg = leg_from plan p (from tile f.cursor.index) s.cursor.index s.cursor.momenta in
-      ap (λ (k : ℕ). flew_by Going (joined f s) (plan (leg_problem p (tile (f.cursor.index + s.cursor.index)) (tile k) s.cursor.momenta))) (add_assoc f.cursor.index s.cursor.index 1) ∙ answered_joined f s leg leg.fate
-  fly_joined_by tile f s (Refused n k) = refl
+      ap (λ (k : ℕ). flew_by going (joined f s) (plan (leg_problem p (tile (f.cursor.index + s.cursor.index)) (tile k) s.cursor.momenta))) (add_assoc f.cursor.index s.cursor.index 1) ∙ answered_joined f s leg leg.fate
+  fly_joined_by tile f s (Err why) = refl
 
   fly_joined : (tile : ℕ → Quat) (f s : Flight) → fly plan p tile (joined f s) ≡ joined f (fly plan p (from tile f.cursor.index) s)
   unfolding fly
   fly_joined tile f s = fly_joined_by tile f s s.cursor.fate
 
-  start_joined : (f : Flight) → f.cursor.fate ≡ Going → f.cursor.refused_runs ≡ 0 → f ≡ joined f (record { cursor = start f.cursor.momenta; legs = [] })
+  start_joined : (f : Flight) → f.cursor.fate ≡ going → f.cursor.refused_runs ≡ 0 → f ≡ joined f (record { cursor = start f.cursor.momenta; legs = [] })
   start_joined f e z = λ i. record {
     cursor = record {
       index = sym (add-zero f.cursor.index) i;
@@ -73,7 +72,7 @@ module _ (plan : Planner) (p : Problem) where
     legs = sym (append-nil f.legs) i;
   }
 
-  turns_joined : (tile : ℕ → Quat) (f : Flight) → f.cursor.fate ≡ Going → f.cursor.refused_runs ≡ 0 → (d : ℕ)
+  turns_joined : (tile : ℕ → Quat) (f : Flight) → f.cursor.fate ≡ going → f.cursor.refused_runs ≡ 0 → (d : ℕ)
       → iter (λ _. fly plan p tile) f d ≡ joined f (flown plan p (from tile f.cursor.index) f.cursor.momenta d)
   unfolding iter flown
   turns_joined tile f e z zero = start_joined f e z
@@ -89,7 +88,7 @@ module _ (plan : Planner) (p : Problem) where
     second = flown plan p (from tile c) first.cursor.momenta d
 
     -- THE CUT at tile c of a mosaic of c + d legs, where the first half is answered: the whole is the first half joined with the second
-    pub cut : first.cursor.fate ≡ Going → flown plan p tile m (c + d) ≡ joined first second
+    pub cut : first.cursor.fate ≡ going → flown plan p tile m (c + d) ≡ joined first second
     unfolding flown
     cut e =
         ap (flown plan p tile m) (add_comm c d)
@@ -109,7 +108,7 @@ module _ (plan : Planner) (p : Problem) where
       -- the second half's durations, added in order to the first half's total
       pub duration : w.cursor.duration ≡ durations_onto first.cursor.duration second.legs
 
-    pub cut_parts : first.cursor.fate ≡ Going → Cut (flown plan p tile m (c + d))
+    pub cut_parts : first.cursor.fate ≡ going → Cut (flown plan p tile m (c + d))
     cut_parts e =
         let q = cut e in
         record {
@@ -123,13 +122,13 @@ module _ (plan : Planner) (p : Problem) where
         }
 
     -- THE CUT where the first half is refused: the whole is the first half, with all its sums
-    pub cut_refused : (number place : ℕ) → first.cursor.fate ≡ Refused number place → flown plan p tile m (c + d) ≡ first
+    pub cut_refused : (number place : ℕ) → first.cursor.fate ≡ Err (refusal number place) → flown plan p tile m (c + d) ≡ first
     cut_refused number place e = stays plan p tile m c (c + d) number place (omega arith) e
 
     -- UP TO THE FIRST REFUSED LEG: the first half's legs are the first of the whole's, whichever way it stands
     cut_first_by : (x : Fate) → first.cursor.fate ≡ x → (rest : List Planned) × ((flown plan p tile m (c + d)).legs ≡ first.legs ++ rest)
-    cut_first_by Going e = (second.legs, (cut_parts e).legs)
-    cut_first_by (Refused a b) e = ([], ap (λ (w : Flight). w.legs) (cut_refused a b e) ∙ sym (append-nil first.legs))
+    cut_first_by (Ok _) e = (second.legs, (cut_parts e).legs)
+    cut_first_by (Err why) e = ([], ap (λ (w : Flight). w.legs) (cut_refused why.number why.place e) ∙ sym (append-nil first.legs))
 
     pub cut_first : (rest : List Planned) × ((flown plan p tile m (c + d)).legs ≡ first.legs ++ rest)
     cut_first = cut_first_by first.cursor.fate refl

@@ -1,7 +1,7 @@
 -- What the legs of a mosaic are, what its sums are, and where it stops, over any planner of one slew. Assumes nothing.
 use Prim.Native.Nat.{ℕ, zero, suc, ◌+◌, ◌<◌, ◌≤◌}
 use Rattle.std.proofs.Math.Path.{◌≡◌, refl, sym, ap}
-use Rattle.std.proofs.Common.{◌∙◌, add-one, arith, length-append}
+use Rattle.std.proofs.Common.{◌∙◌, add-one, arith, length-append, Ok, Err}
 use mathlib.Core.List.{List, [], ◌∷◌, ◌++◌}
 use Rattle.std.proofs.Math.Option.{some}
 use Rattle.std.specs.Prelude.{length, Float}
@@ -11,8 +11,6 @@ use Rattle.std.specs.Float.Ieee.{add}
 use Rattle.common.specs.Floats.{plus_zero}
 use Rattle.common.specs.Iter.{iter}
 use Rattle.common.specs.IterLaws.{iter_next, iter_stays}
-use Rattle.common.specs.declared.Fate.{Fate}
-use Rattle.common.specs.declared.Fate.TheVariants.{Going, Refused}
 use Rattle.geom.specs.declared.Quat.{Quat}
 use Rattle.problem.specs.declared.Momenta.{Momenta}
 use Rattle.problem.specs.declared.Problem.{Problem}
@@ -20,6 +18,8 @@ use Rattle.planner.specs.declared.Planned.{Planned}
 use Rattle.wheel_momenta.specs.Successive.{last_momenta}
 use Rattle.mosaic.specs.Mosaics.{Planner, Flight, start, took, halted, moved_by, moved, added_by, flew_by, leg_from, fly, flown, last_or, momenta_at}
 use Rattle.mosaic.specs.declared.Cursor.{Cursor}
+use Rattle.common.specs.Refusals.{Fate, refusal, going}
+use Rattle.common.specs.declared.Refusal.{Refusal}
 
 -- ---- sums in order: durations and runs of legs added, one by one, to a total
 abbrev pub durations_onto : Float → List Planned → Float
@@ -90,10 +90,10 @@ momenta_next_law m legs i leg e = rw add-one (rw e refl)
 -- ---- what the planner gives and refuses for a leg alone
 pub record Gives (plan : Planner) (p : Problem) (tile : ℕ → Quat) (i : ℕ) (m : Momenta) (leg : Planned) : Type 0 where
   pub is : leg ≡ leg_from plan p tile i m
-  pub goes : leg.fate ≡ Going
+  pub goes : leg.fate ≡ going
 
 pub record Refuses (plan : Planner) (p : Problem) (tile : ℕ → Quat) (i : ℕ) (m : Momenta) (number place begun : ℕ) : Type 0 where
-  pub fate : (leg_from plan p tile i m).fate ≡ Refused number place
+  pub fate : (leg_from plan p tile i m).fate ≡ Err (refusal number place)
   pub runs : (leg_from plan p tile i m).runs ≡ begun
 
 module _ (plan : Planner) (p : Problem) (tile : ℕ → Quat) (m : Momenta) where
@@ -105,18 +105,18 @@ module _ (plan : Planner) (p : Problem) (tile : ℕ → Quat) (m : Momenta) wher
     -- the momenta held are those that the last leg ended with, or the caller's
     pub held : f.cursor.momenta ≡ momenta_at m f.legs f.cursor.index
     -- where it stopped, the planner refuses the leg at the index, from its momenta, with that number and place and those runs
-    pub refusal : (number place : ℕ) → f.cursor.fate ≡ Refused number place → Refuses plan p tile f.cursor.index (momenta_at m f.legs f.cursor.index) number place f.cursor.refused_runs
+    pub refusal : (number place : ℕ) → f.cursor.fate ≡ Err (refusal number place) → Refuses plan p tile f.cursor.index (momenta_at m f.legs f.cursor.index) number place f.cursor.refused_runs
     -- the sums are those of the answered legs, in order, from +0 and 0
     pub duration : f.cursor.duration ≡ durations_onto plus_zero f.legs
     pub runs : f.cursor.runs ≡ runs_onto 0 f.legs
     -- while no leg is refused, no runs of a refused one are told
-    pub none : f.cursor.fate ≡ Going → f.cursor.refused_runs ≡ 0
+    pub none : f.cursor.fate ≡ going → f.cursor.refused_runs ≡ 0
 
   module _ (f : Flight) (h : Legal f) where
     next : Planned
     next = leg_from plan p tile f.cursor.index f.cursor.momenta
 
-    took_leg : (leg : Planned) → leg ≡ leg_from plan p tile f.cursor.index f.cursor.momenta → leg.fate ≡ Going
+    took_leg : (leg : Planned) → leg ≡ leg_from plan p tile f.cursor.index f.cursor.momenta → leg.fate ≡ going
         → (i : ℕ) (x : Planned) → get_elem? (f.legs ++ (leg ∷ [])) i ≡ some x → Gives plan p tile i (momenta_at m (f.legs ++ (leg ∷ [])) i) x
     took_leg leg e g = each_more m (Gives plan p tile) f.legs leg h.leg (rw (← h.count, ← h.held) (record { is = e; goes = g }))
 
@@ -127,7 +127,7 @@ module _ (plan : Planner) (p : Problem) (tile : ℕ → Quat) (m : Momenta) wher
     unfolding next
     is = refl
 
-    took_legal : next.fate ≡ Going → Legal (record { cursor = took f.cursor next; legs = f.legs ++ (next ∷ []) })
+    took_legal : next.fate ≡ going → Legal (record { cursor = took f.cursor next; legs = f.legs ++ (next ∷ []) })
     took_legal g = record {
       count = rw (length-append, h.count) refl;
       leg = took_leg next is g;
@@ -138,26 +138,26 @@ module _ (plan : Planner) (p : Problem) (tile : ℕ → Quat) (m : Momenta) wher
       none = λ e. refl;
     }
 
-    halted_legal : (n k : ℕ) → next.fate ≡ Refused n k → Legal (record { cursor = halted f.cursor n k next.runs; legs = f.legs })
+    halted_legal : (why : Refusal) → next.fate ≡ Err why → Legal (record { cursor = halted f.cursor why next.runs; legs = f.legs })
     unfolding next
-    halted_legal n k g = record {
+    halted_legal why g = record {
       count = h.count;
       leg = h.leg;
       held = h.held;
-      refusal = λ a b e. let x : n ≡ a = cc in let y : k ≡ b = cc in rw (← h.held, ← x, ← y) (record { fate = g; runs = refl });
+      refusal = λ a b e. let x : why.number ≡ a = cc in let y : why.place ≡ b = cc in rw (← h.held, ← x, ← y) (record { fate = g; runs = refl });
       duration = h.duration;
       runs = h.runs;
       none = λ e. let z : ◌≡◌ {A = ℕ} 0 1 = cc in absurd (omega arith);
     }
 
     answered_legal : (e : Fate) → next.fate ≡ e → Legal (record { cursor = moved_by e f.cursor next; legs = added_by e f.legs next })
-    answered_legal Going g = took_legal g
-    answered_legal (Refused n k) g = halted_legal n k g
+    answered_legal (Ok _) g = took_legal g
+    answered_legal (Err why) g = halted_legal why g
 
     fly_legal_by : (e : Fate) → Legal (flew_by e f next)
     unfolding moved
-    fly_legal_by Going = answered_legal next.fate refl
-    fly_legal_by (Refused n k) = h
+    fly_legal_by (Ok _) = answered_legal next.fate refl
+    fly_legal_by (Err why) = h
 
     fly_legal : Legal (fly plan p tile f)
     unfolding fly next
@@ -182,12 +182,12 @@ module _ (plan : Planner) (p : Problem) (tile : ℕ → Quat) (m : Momenta) wher
 
   -- ---- where it stands: all n legs, or fewer and a refusal
   pub data Reached (n : ℕ) (f : Flight) : Type 0 where
-    all : f.cursor.fate ≡ Going → f.cursor.index ≡ n → Reached n f
-    stopped : (number place : ℕ) → f.cursor.fate ≡ Refused number place → f.cursor.index < n → Reached n f
+    all : f.cursor.fate ≡ going → f.cursor.index ≡ n → Reached n f
+    stopped : (number place : ℕ) → f.cursor.fate ≡ Err (refusal number place) → f.cursor.index < n → Reached n f
 
   answered_reached : (f : Flight) (leg : Planned) (n : ℕ) (e : Fate) → f.cursor.index ≡ n → Reached (suc n) (record { cursor = moved_by e f.cursor leg; legs = added_by e f.legs leg })
-  answered_reached f leg n Going h = all refl (omega arith)
-  answered_reached f leg n (Refused a b) h = stopped a b refl (omega arith)
+  answered_reached f leg n (Ok _) h = all refl (omega arith)
+  answered_reached f leg n (Err why) h = stopped why.number why.place refl (omega arith)
 
   pub fly_as : (f : Flight) (e : Fate) → f.cursor.fate ≡ e → fly plan p tile f ≡ flew_by e f (leg_from plan p tile f.cursor.index f.cursor.momenta)
   unfolding fly
@@ -195,20 +195,20 @@ module _ (plan : Planner) (p : Problem) (tile : ℕ → Quat) (m : Momenta) wher
 
   fly_reached : (f : Flight) (n : ℕ) → Reached n f → Reached (suc n) (fly plan p tile f)
   unfolding moved
-  fly_reached f n (all e h) = let leg = leg_from plan p tile f.cursor.index f.cursor.momenta in rw (fly_as f Going e) (answered_reached f leg n leg.fate h)
-  fly_reached f n (stopped a b e h) = rw (fly_as f (Refused a b) e) (stopped a b e (omega arith))
+  fly_reached f n (all e h) = let leg = leg_from plan p tile f.cursor.index f.cursor.momenta in rw (fly_as f going e) (answered_reached f leg n leg.fate h)
+  fly_reached f n (stopped a b e h) = rw (fly_as f (Err (refusal a b)) e) (stopped a b e (omega arith))
 
   pub reached : (n : ℕ) → Reached n (flown plan p tile m n)
   unfolding flown iter
   reached zero = all refl refl
   reached (suc n) = fly_reached (flown plan p tile m n) n (reached n)
 
-  index_of : (n : ℕ) (f : Flight) → Reached n f → f.cursor.fate ≡ Going → f.cursor.index ≡ n
+  index_of : (n : ℕ) (f : Flight) → Reached n f → f.cursor.fate ≡ going → f.cursor.index ≡ n
   index_of n f (all e h) g = h
   index_of n f (stopped a b e h) g = let z : ◌≡◌ {A = ℕ} 0 1 = cc in absurd (omega arith)
 
   -- where no leg was refused there are n legs
-  pub going_index : (n : ℕ) → (flown plan p tile m n).cursor.fate ≡ Going → (flown plan p tile m n).cursor.index ≡ n
+  pub going_index : (n : ℕ) → (flown plan p tile m n).cursor.fate ≡ going → (flown plan p tile m n).cursor.index ≡ n
   going_index n g = index_of n (flown plan p tile m n) (reached n) g
 
   index_most : (n : ℕ) (f : Flight) → Reached n f → f.cursor.index ≤ n
@@ -219,14 +219,14 @@ module _ (plan : Planner) (p : Problem) (tile : ℕ → Quat) (m : Momenta) wher
   index_le n = index_most n (flown plan p tile m n) (reached n)
 
   -- ---- EARLIER LEGS STAND: after a refusal nothing changes
-  pub stays : (k n number place : ℕ) → k ≤ n → (flown plan p tile m k).cursor.fate ≡ Refused number place → flown plan p tile m n ≡ flown plan p tile m k
+  pub stays : (k n number place : ℕ) → k ≤ n → (flown plan p tile m k).cursor.fate ≡ Err (refusal number place) → flown plan p tile m n ≡ flown plan p tile m k
   unfolding flown
-  stays k n a b h e = sym (iter_stays (λ _. fly plan p tile) (record { cursor = start m; legs = [] }) k n h refl (λ j. fly_as (flown plan p tile m k) (Refused a b) e))
+  stays k n a b h e = sym (iter_stays (λ _. fly plan p tile) (record { cursor = start m; legs = [] }) k n h refl (λ j. fly_as (flown plan p tile m k) (Err (refusal a b)) e))
 
   -- ---- where it goes on, the next leg is the planner's
-  pub flown_next : (n : ℕ) → (flown plan p tile m n).cursor.fate ≡ Going → flown plan p tile m (n + 1) ≡ flew_by Going (flown plan p tile m n) (leg_from plan p tile n (flown plan p tile m n).cursor.momenta)
+  pub flown_next : (n : ℕ) → (flown plan p tile m n).cursor.fate ≡ going → flown plan p tile m (n + 1) ≡ flew_by going (flown plan p tile m n) (leg_from plan p tile n (flown plan p tile m n).cursor.momenta)
   unfolding flown
   flown_next n e =
       let f = flown plan p tile m n in
-      let leg = ap (λ (k : ℕ). flew_by Going f (leg_from plan p tile k f.cursor.momenta)) (going_index n e) in
-      sym (iter_next (λ _. fly plan p tile) (record { cursor = start m; legs = [] }) n refl (sym (fly_as f Going e ∙ leg)))
+      let leg = ap (λ (k : ℕ). flew_by going f (leg_from plan p tile k f.cursor.momenta)) (going_index n e) in
+      sym (iter_next (λ _. fly plan p tile) (record { cursor = start m; legs = [] }) n refl (sym (fly_as f going e ∙ leg)))

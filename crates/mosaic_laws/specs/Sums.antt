@@ -4,15 +4,15 @@ use Rattle.std.proofs.Common.{subst}
 use Rattle.std.specs.Float.{binary64}
 use Rattle.std.specs.Float.Ieee.{add, eq, of_bits}
 use Rattle.common.specs.Floats.{plus_zero}
-use Rattle.common.specs.declared.Fate.TheVariants.{Going}
 use Rattle.planner.specs.Plans.{blank_path}
 use Rattle.planner.specs.declared.Planned.{Planned}
 use Rattle.mosaic_laws.specs.Legs.{durations_onto}
+use Rattle.common.specs.Refusals.{going}
 
 -- a leg that takes d seconds
 abbrev pub lasting : Float → Planned
 lasting d = record {
-  fate = Going;
+  fate = going;
   runs = 1;
   path = record { duration = d; controls = 0; wheels = 0; iterations = 0; max_defect = plus_zero; z = blank_path.z; nodes = blank_path.nodes; held = blank_path.held };
 }

@@ -1,12 +1,10 @@
 -- The mosaic of 2 to 64 tiles, and its cut at an inner tile. Over any planner of one slew. Assumes nothing.
 use Prim.Native.Nat.{ℕ, zero, suc, ◌+◌, ◌-◌, ◌<◌, ◌≤◌}
-use Rattle.std.specs.Prelude.{◌≡◌, Bool, true, false, cond, List, [], ltb, take, drop, Float}
+use Rattle.std.specs.Prelude.{◌≡◌, Bool, true, false, cond, List, [], ltb, take, drop, Float, Ok, Err}
 use Rattle.std.proofs.Math.Path.{refl, ap, ap₂}
 use Rattle.std.proofs.Common.{◌∙◌, arith, get_or-take, get_or-drop}
 use borrow.Author.Tests.{lt-ltb, le-ltb, ltb-false}
 use Rattle.common.specs.Iter.{iter}
-use Rattle.common.specs.declared.Fate.{Fate}
-use Rattle.common.specs.declared.Fate.TheVariants.{Going, Refused}
 use Rattle.geom.specs.declared.Quat.{Quat}
 use Rattle.problem.specs.declared.Momenta.{Momenta}
 use Rattle.problem.specs.declared.Problem.{Problem}
@@ -14,22 +12,23 @@ use Rattle.forward.specs.StepLaws.{refused_going}
 use Rattle.mosaic.specs.Mosaics.{Planner, Flight, flew_by, leg_problem, fly, flown, count_fate, nothing, whole_by_value, whole, quat_of, tile_of}
 use Rattle.mosaic_laws.specs.Legs.{index_le}
 use Rattle.mosaic_laws.specs.Cuts.{from, joined, cut, cut_refused}
+use Rattle.common.specs.Refusals.{Fate, refusal, going}
 
 -- where the count is right there are two tiles
-pub count_least : (count : ℕ) → count_fate count ≡ Going → 2 ≤ count
+pub count_least : (count : ℕ) → count_fate count ≡ going → 2 ≤ count
 count_least count e = by (ltb count 2) refl e
   where
-    by : (b : Bool) → ltb count 2 ≡ b → cond b (Refused 23 0) (cond (ltb 64 count) (Refused 23 0) Going) ≡ Going → 2 ≤ count
+    by : (b : Bool) → ltb count 2 ≡ b → cond b (Err (refusal 23 0)) (cond (ltb 64 count) (Err (refusal 23 0)) going) ≡ going → 2 ≤ count
     by true f g = absurd (refused_going g)
     by false f g = ltb-false _ _ f
 
 module _ (plan : Planner) (p : Problem) where
   -- ---- the count, before all else
-  pub too_few : (tile : ℕ → Quat) (m : Momenta) (count : ℕ) → count < 2 → whole plan p tile m count ≡ nothing m 23 0
+  pub too_few : (tile : ℕ → Quat) (m : Momenta) (count : ℕ) → count < 2 → whole plan p tile m count ≡ nothing m (refusal 23 0)
   unfolding whole
   too_few tile m count h = rw (lt-ltb count 2 h) refl
 
-  pub too_many : (tile : ℕ → Quat) (m : Momenta) (count : ℕ) → 64 < count → whole plan p tile m count ≡ nothing m 23 0
+  pub too_many : (tile : ℕ → Quat) (m : Momenta) (count : ℕ) → 64 < count → whole plan p tile m count ≡ nothing m (refusal 23 0)
   unfolding whole
   too_many tile m count h = rw (le-ltb count 2 (omega arith), lt-ltb 64 count h) refl
 
@@ -51,8 +50,8 @@ module _ (plan : Planner) (p : Problem) where
       ap (fly plan p t) (flown_ext t u m n (λ i l. h i (omega arith))) ∙ fly_ext t u f (h f.cursor.index (omega arith)) (h (f.cursor.index + 1) (omega arith))
 
   whole_ext_by : (e : Fate) (t u : ℕ → Quat) (m : Momenta) (count : ℕ) → count_fate count ≡ e → ((i : ℕ) → i < count → t i ≡ u i) → whole_by_value e plan p t m count ≡ whole_by_value e plan p u m count
-  whole_ext_by Going t u m count e h = let two : 2 ≤ count = count_least count e in flown_ext t u m (count - 1) (λ i l. h i (omega arith))
-  whole_ext_by (Refused a b) t u m count e h = refl
+  whole_ext_by (Ok _) t u m count e h = let two : 2 ≤ count = count_least count e in flown_ext t u m (count - 1) (λ i l. h i (omega arith))
+  whole_ext_by (Err why) t u m count e h = refl
 
   -- a mosaic reads its own tiles alone
   pub whole_ext : (t u : ℕ → Quat) (m : Momenta) (count : ℕ) → ((i : ℕ) → i < count → t i ≡ u i) → whole plan p t m count ≡ whole plan p u m count
@@ -77,10 +76,10 @@ module _ (plan : Planner) (p : Problem) where
     all_is : whole plan p tile m count ≡ flown plan p tile m (c + (count - c - 1))
     all_is = let e : count - 1 ≡ c + (count - c - 1) = omega arith in counted tile m count (omega arith) most ∙ ap (flown plan p tile m) e
 
-    pub whole_cut : one.cursor.fate ≡ Going → whole plan p tile m count ≡ joined one two
+    pub whole_cut : one.cursor.fate ≡ going → whole plan p tile m count ≡ joined one two
     whole_cut e = rw (two_is one.cursor.momenta, one_is, all_is) (cut plan p tile m c (count - c - 1) (rw one_is at e))
 
-    pub whole_cut_refused : (number place : ℕ) → one.cursor.fate ≡ Refused number place → whole plan p tile m count ≡ one
+    pub whole_cut_refused : (number place : ℕ) → one.cursor.fate ≡ Err (refusal number place) → whole plan p tile m count ≡ one
     whole_cut_refused number place e = rw (one_is, all_is) (cut_refused plan p tile m c (count - c - 1) number place (rw one_is at e))
 
   -- ---- the same of tiles as rows of four numbers: the first half has the rows up to c, the second those from c on

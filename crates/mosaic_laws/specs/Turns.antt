@@ -1,11 +1,9 @@
 -- Legs one by one: a cursor that a caller holds goes the way of the whole mosaic. Over any planner of one slew. Assumes nothing.
-use Rattle.std.specs.Prelude.{ℕ, zero, suc, ◌+◌, ◌*◌, ◌≤◌, ◌≡◌, false, List, [], ◌∷◌, length}
+use Rattle.std.specs.Prelude.{ℕ, zero, suc, ◌+◌, ◌*◌, ◌≤◌, ◌≡◌, false, List, [], ◌∷◌, length, Ok, Err}
 use Rattle.std.proofs.Math.Path.{refl, ap}
 use Rattle.std.proofs.Common.{sym, ◌∙◌, suc-mul, arith, le-ltb}
 use Rattle.std.proofs.Math.Option.{some}
 use Rattle.std.proofs.Math.ListN.{get_elem?}
-use Rattle.common.specs.declared.Fate.{Fate}
-use Rattle.common.specs.declared.Fate.TheVariants.{Going, Refused}
 use Rattle.geom.specs.declared.Quat.{Quat}
 use Rattle.problem.specs.declared.Momenta.{Momenta}
 use Rattle.problem.specs.declared.Problem.{Problem}
@@ -16,9 +14,10 @@ use Rattle.mosaic.specs.Ways.{planner_by}
 use Rattle.mosaic.specs.declared.Cursor.{Cursor}
 use Rattle.mosaic.specs.declared.ways.Way.{Way}
 use Rattle.mosaic_laws.specs.Legs.{runs_onto, legal, going_index, flown_next, stays, index_le}
+use Rattle.common.specs.Refusals.{Fate, going}
 
 -- ---- a cursor that goes on and is not full plans the leg
-module _ (plan : Planner) (p : Problem) (c : Cursor) (from to : Quat) (goes : c.fate ≡ Going) (index : c.index ≤ 62) (runs : c.runs ≤ full_runs_value) where
+module _ (plan : Planner) (p : Problem) (c : Cursor) (from to : Quat) (goes : c.fate ≡ going) (index : c.index ≤ 62) (runs : c.runs ≤ full_runs_value) where
   not_full : is_full c ≡ false
   not_full = rw (le-ltb 62 c.index index, le-ltb full_runs_value c.runs runs) refl
 
@@ -43,9 +42,9 @@ module _ (plan : Planner) (p : Problem) (tile : ℕ → Quat) (m : Momenta) (n :
   abbrev flight : Flight
   flight = flown plan p tile m n
 
-  going : flight.cursor.fate ≡ Going → ((i : ℕ) (leg : Planned) → get_elem? flight.legs i ≡ some leg → leg.runs ≤ most_runs)
+  goes_on : flight.cursor.fate ≡ going → ((i : ℕ) (leg : Planned) → get_elem? flight.legs i ≡ some leg → leg.runs ≤ most_runs)
       → next plan p flight.cursor (tile flight.cursor.index) (tile (flight.cursor.index + 1)) ≡ (flown plan p tile m (n + 1)).cursor
-  going e few =
+  goes_on e few =
       let i : flight.cursor.index ≡ n = going_index plan p tile m n e in
       let r : flight.cursor.runs ≤ length flight.legs * most_runs = rw (legal plan p tile m n).runs (omega (arith, runs_bound flight.legs 0 few)) in
       let s : flight.cursor.runs ≤ full_runs_value = omega (arith, (legal plan p tile m n).count) in
@@ -55,10 +54,10 @@ module _ (plan : Planner) (p : Problem) (tile : ℕ → Quat) (m : Momenta) (n :
 
   by : (f : Fate) → flight.cursor.fate ≡ f → ((i : ℕ) (leg : Planned) → get_elem? flight.legs i ≡ some leg → leg.runs ≤ most_runs)
       → next plan p flight.cursor (tile flight.cursor.index) (tile (flight.cursor.index + 1)) ≡ (flown plan p tile m (n + 1)).cursor
-  by Going e few = going e few
-  by (Refused a b) e few =
+  by (Ok _) e few = goes_on e few
+  by (Err why) e few =
       ap (λ (f : Fate). next_by f flight.cursor (planned plan p flight.cursor (tile flight.cursor.index) (tile (flight.cursor.index + 1)))) e
-      ∙ sym (ap (λ (f : Flight). f.cursor) (stays plan p tile m n (n + 1) a b (omega arith) e))
+      ∙ sym (ap (λ (f : Flight). f.cursor) (stays plan p tile m n (n + 1) why.number why.place (omega arith) e))
 
   pub one_by_one : ((i : ℕ) (leg : Planned) → get_elem? flight.legs i ≡ some leg → leg.runs ≤ most_runs)
       → next plan p flight.cursor (tile flight.cursor.index) (tile (flight.cursor.index + 1)) ≡ (flown plan p tile m (n + 1)).cursor

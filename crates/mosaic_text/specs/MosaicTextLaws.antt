@@ -1,7 +1,7 @@
 -- Facts of the definitions of a mosaic's text, in the code's steps. Assumes nothing.
 use Prim.Native.Nat.{ℕ, zero, suc, ◌+◌, ◌-◌, ◌≤◌, ◌<◌}
 use native.Mathlib.Omega.{arith}
-use Rattle.std.specs.Prelude.{◌≡◌, refl, Bool, true, false, cond, List, leb, eqb, length, set, Float}
+use Rattle.std.specs.Prelude.{◌≡◌, Bool, true, false, cond, List, leb, eqb, length, Float, Option, Some, None}
 use Rattle.std.specs.Float.Ieee.{eq, ne}
 use Rattle.std.proofs.lemmas.Bool.{not-true, not-false}
 use Rattle.common.specs.Iter.{iter}
@@ -10,10 +10,12 @@ use Rattle.geom.specs.declared.Quat.{Quat}
 use Rattle.text.specs.Bytes.{bytes}
 use Rattle.text.specs.Forms.{loose}
 use Rattle.text.specs.Lines.{is_at, line_at}
-use Rattle.problem_text.specs.Reader.{quat_of}
 use Rattle.text.specs.declared.lines.Row.{Row}
 use Rattle.mosaic_text.specs.MosaicTexts.{end_from, line_turn, same_attitude}
-use Rattle.mosaic_text.specs.TileLines.{pick, closed, turn, begun, tile_form, with_tile, wrong_line, next_line, tiles_at}
+use Rattle.mosaic_text.specs.TileLines.{closed, turn, begun, ended, tile_form, tile_by, next_line, tiles_at}
+use Rattle.mosaic_text.specs.declared.tiles.Reading.{Reading}
+use Rattle.mosaic_text.specs.declared.tiles.Reading.TheVariants.{More, Closed, Wrong}
+use Rattle.std.proofs.Math.Path.{ap}
 use Rattle.mosaic_text.specs.declared.tiles.Tiles.{Tiles}
 
 -- ---- where the problem's text ends
@@ -66,27 +68,35 @@ unfolding same_attitude
 last_decides a b e f g = rw (e, f, g)
 
 -- ---- the loop over the tiles
-pub turn_goes : (s : List ℕ) (k : ℕ) (c d : Tiles) → c.more ≡ true → d ≡ next_line s c → d ≡ turn s k c
-turn_goes s k c d h e = simp h e
+
+pub turn_goes : (s : List ℕ) (k at : ℕ) (t : Tiles) (d : Reading) → d ≡ next_line s at t → d ≡ turn s k (More at t)
+turn_goes s k at t d e = e
 
 -- a line has one tile at most
-pub tiles_low : (s : List ℕ) (c : Tiles) (k : ℕ) → c.count ≤ k → (next_line s c).count ≤ k + 1
-unfolding next_line with_tile
-tiles_low s c k h = go (is_at s c.at (bytes ")\n")) (line_at loose s c.at tile_form)
-  where
-    by : (r : Row) (q : Bool) → (pick q (record { more = true; right = false; at = r.at; count = c.count + 1; tiles = set c.tiles c.count (quat_of r) }) (wrong_line c)).count ≤ k + 1
-    by r true = omega arith
-    by r false = omega arith
+abbrev pub AtMost : ℕ → Reading → Type 0
+AtMost k (More at t) = t.count ≤ k
+AtMost k (Closed t) = t.count ≤ k
+AtMost k (Wrong at) = Unit {0}
 
-    go : (p : Bool) (r : Row) → (pick p (closed s c (c.at + 2)) (with_tile c r)).count ≤ k + 1
-    go true r = omega arith
-    go false r = by r r.ok
+module _ (s : List ℕ) (at : ℕ) (t : Tiles) where
+  pub next_low : (k : ℕ) → t.count ≤ k → AtMost (k + 1) (next_line s at t)
+  unfolding next_line closed
+  next_low k h = go (is_at s at (bytes ")\n")) (leb (length s) (at + 2)) (line_at loose s at tile_form)
+    where
+      go : (p q : Bool) (r : Option Row) → AtMost (k + 1) (cond p (cond q (Closed t) (Wrong (at + 2))) (tile_by at t r))
+      go true true r = omega arith
+      go true false r = tt
+      go false q (Some r) = omega arith
+      go false q None = tt
 
-module _ (s : List ℕ) (at : ℕ) (c : Tiles) (k : ℕ) (e : c ≡ iter (turn s) (begun at) k) where
-  pub tiles_early : k ≤ length s → c.more ≡ false → c ≡ tiles_at s at
+  pub tiles_low : (k next : ℕ) (more : Tiles) → t.count ≤ k → next_line s at t ≡ More next more → more.count ≤ k + 1
+  tiles_low k next more h e = rw e at (next_low k h)
+
+module _ (s : List ℕ) (first : ℕ) (c : Reading) (k : ℕ) (e : c ≡ iter (turn s) (begun first) k) where
+  pub tiles_early : k ≤ length s → ((j : ℕ) → turn s j c ≡ c) → ended c ≡ tiles_at s first
   unfolding tiles_at
-  tiles_early l h = iter_stays (turn s) (begun at) k (length s) l e (λ j. simp h)
+  tiles_early l h = ap ended (iter_stays (turn s) (begun first) k (length s) l e h)
 
-  pub tiles_whole : k ≡ length s → c ≡ tiles_at s at
+  pub tiles_whole : k ≡ length s → ended c ≡ tiles_at s first
   unfolding tiles_at
-  tiles_whole l = rw (← l) e
+  tiles_whole l = rw (← l) (ap ended e)

@@ -1,10 +1,8 @@
 -- What every list of bytes means as a mosaic's text, or the first line, from 1, that is wrong or missing. Definitions only.
 -- Where a text is right its problem stands in it as in a file of its own, from the second line on, so that line k of the problem is line k + 1 of the whole.
-use Rattle.std.specs.Prelude.{ℕ, zero, suc, ◌+◌, ◌-◌, ◌≤◌, ◌≡◌, Bool, true, false, cond, ◌&&◌, ◌||◌, List, [], ltb, leb, eqb, length, get_or, take, drop, replicate}
+use Rattle.std.specs.Prelude.{ℕ, zero, suc, ◌+◌, ◌-◌, ◌≤◌, ◌≡◌, Bool, true, false, cond, ◌&&◌, List, [], ltb, leb, eqb, length, get_or, take, drop, replicate, Result, Ok, Err}
 use Rattle.std.specs.Float.Ieee.{eq}
 use Rattle.common.specs.Iter.{iter}
-use Rattle.common.specs.declared.Fate.{Fate}
-use Rattle.common.specs.declared.Fate.TheVariants.{Going, Refused}
 use Rattle.geom.specs.declared.Quat.{Quat}
 use Rattle.problem.specs.declared.Problem.{Problem}
 use Rattle.text.specs.Bytes.{bytes}
@@ -14,10 +12,11 @@ use Rattle.problem_text.specs.declared.Read.{Read}
 use Rattle.mosaic_text.specs.TileLines.{no_tile, tile_at, tiles_at}
 use Rattle.mosaic_text.specs.declared.ReadMosaic.{ReadMosaic}
 use Rattle.mosaic_text.specs.declared.tiles.Tiles.{Tiles}
+use Rattle.common.specs.Refusals.{Fate, refusal, going}
 
 -- beside a refusal stands what the problem's reader gives for no text at all
 abbrev pub wrong : ℕ → ReadMosaic
-wrong line = record { fate = Refused 21 line; problem = (read_problem []).problem; count = 0; tiles = replicate 64 no_tile }
+wrong line = record { fate = Err (refusal 21 line); problem = (read_problem []).problem; count = 0; tiles = replicate 64 no_tile }
 
 abbrev pub pick_read : Bool → ReadMosaic → ReadMosaic → ReadMosaic
 pick_read true a b = a
@@ -60,27 +59,28 @@ same_attitude a b = eq a.w b.w && (eq a.x b.x && (eq a.y b.y && eq a.z b.z))
 -- line 3 holds q0, line 4 qf; another count of tiles than 2 to 64 is refused as such, and not judged here
 unfoldable pub judge_ends : Quat → Quat → ℕ → List Quat → Fate
 judge_ends q0 qf count tiles =
-    cond (ltb count 2) Going
-    (cond (ltb 64 count) Going
+    cond (ltb count 2) going
+    (cond (ltb 64 count) going
     (cond (same_attitude q0 (tile_at tiles 0))
-    (cond (same_attitude qf (tile_at tiles (count - 1))) Going (Refused 21 4))
-    (Refused 21 3)))
+    (cond (same_attitude qf (tile_at tiles (count - 1))) going (Err (refusal 21 4)))
+    (Err (refusal 21 3))))
 
 -- ---- the whole text
 
 abbrev pub ended_by_value : Fate → Problem → Tiles → ReadMosaic
-ended_by_value (Refused number line) p t = wrong line
-ended_by_value Going p t = record { fate = Going; problem = p; count = t.count; tiles = t.tiles }
+ended_by_value (Err why) p t = wrong why.place
+ended_by_value (Ok _) p t = record { fate = going; problem = p; count = t.count; tiles = t.tiles }
 
-unfoldable pub with_tiles : List ℕ → Problem → Tiles → ReadMosaic
-with_tiles s p t = pick_read t.right (ended_by_value (judge_ends p.q0 p.qf t.count t.tiles) p t) (wrong (line_of s t.at))
+unfoldable pub with_tiles : List ℕ → Problem → Result Tiles ℕ → ReadMosaic
+with_tiles s p (Ok t) = ended_by_value (judge_ends p.q0 p.qf t.count t.tiles) p t
+with_tiles s p (Err at) = wrong (line_of s at)
 
-abbrev pub read_by : Fate → List ℕ → Problem → Tiles → ReadMosaic
-read_by (Refused number line) s p t = wrong (placed line)
-read_by Going s p t = with_tiles s p t
+abbrev pub read_by : Fate → List ℕ → Problem → Result Tiles ℕ → ReadMosaic
+read_by (Err why) s p t = wrong (placed why.place)
+read_by (Ok _) s p t = with_tiles s p t
 
 -- the problem's text is judged first
-unfoldable pub mosaic_of : List ℕ → Read → Tiles → ReadMosaic
+unfoldable pub mosaic_of : List ℕ → Read → Result Tiles ℕ → ReadMosaic
 mosaic_of s r t = read_by r.fate s r.problem t
 
 unfoldable pub read_parts : List ℕ → ReadMosaic

@@ -1,5 +1,5 @@
 -- The tiles of a mosaic's text: a line for each, then the line that closes the mosaic, and nothing after it. Definitions only.
-use Rattle.std.specs.Prelude.{ℕ, ◌+◌, Bool, true, false, List, leb, length, get_or, set, replicate}
+use Rattle.std.specs.Prelude.{ℕ, ◌+◌, cond, List, leb, length, get_or, set, replicate, Option, Some, None, Result, Ok, Err}
 use Rattle.std.specs.Float.{nan}
 use Rattle.common.specs.Floats.{plus_zero}
 use Rattle.common.specs.Iter.{iter}
@@ -11,6 +11,8 @@ use Rattle.problem_text.specs.Reader.{quat_of}
 use Rattle.text.specs.declared.lines.Row.{Row}
 use Rattle.text.specs.declared.lines.Words.TheVariants.{Floats}
 use Rattle.mosaic_text.specs.declared.tiles.Tiles.{Tiles}
+use Rattle.mosaic_text.specs.declared.tiles.Reading.{Reading}
+use Rattle.mosaic_text.specs.declared.tiles.Reading.TheVariants.{More, Closed, Wrong}
 
 -- what stands past the tiles
 abbrev pub no_tile : Quat
@@ -24,36 +26,41 @@ tile_at tiles k = get_or tiles k (record { w = nan; x = nan; y = nan; z = nan })
 abbrev pub tile_form : LineForm
 tile_form = form (bytes " (tile") (Floats 4) (bytes ")\n")
 
-abbrev pub pick : Bool → Tiles → Tiles → Tiles
-pick true a b = a
-pick false a b = b
-
 -- ---- one line
 
--- neither a tile nor the end
-abbrev pub wrong_line : Tiles → Tiles
-wrong_line c = record { more = false; right = false; at = c.at; count = c.count; tiles = c.tiles }
-
 -- past the sixty-fourth a tile is counted only
-unfoldable pub with_tile : Tiles → Row → Tiles
-with_tile c r = pick r.ok (record { more = true; right = false; at = r.at; count = c.count + 1; tiles = set c.tiles c.count (quat_of r) }) (wrong_line c)
+abbrev pub with_tile : Tiles → Row → Tiles
+with_tile t r = record { count = t.count + 1; tiles = set t.tiles t.count (quat_of r) }
+
+-- a line that is neither a tile nor the end is wrong
+abbrev pub tile_by : ℕ → Tiles → Option Row → Reading
+tile_by at t (Some r) = More r.at (with_tile t r)
+tile_by at t None = Wrong at
 
 -- the text ends where the mosaic is closed; what stands after it is wrong
-abbrev pub closed : List ℕ → Tiles → ℕ → Tiles
-closed s c at = record { more = false; right = leb (length s) at; at = at; count = c.count; tiles = c.tiles }
+unfoldable pub closed : List ℕ → Tiles → ℕ → Reading
+closed s t at = cond (leb (length s) at) (Closed t) (Wrong at)
 
-unfoldable pub next_line : List ℕ → Tiles → Tiles
-next_line s c = pick (is_at s c.at (bytes ")\n")) (closed s c (c.at + 2)) (with_tile c (line_at loose s c.at tile_form))
+unfoldable pub next_line : List ℕ → ℕ → Tiles → Reading
+next_line s at t = cond (is_at s at (bytes ")\n")) (closed s t (at + 2)) (tile_by at t (line_at loose s at tile_form))
 
 -- ---- all of them
 
-abbrev pub begun : ℕ → Tiles
-begun at = record { more = true; right = false; at = at; count = 0; tiles = replicate 64 no_tile }
+abbrev pub begun : ℕ → Reading
+begun at = More at (record { count = 0; tiles = replicate 64 no_tile })
 
 -- tiles that are closed, or a wrong line, stay as they are
-abbrev pub turn : List ℕ → ℕ → Tiles → Tiles
-turn s k c = pick c.more (next_line s c) c
+abbrev pub turn : List ℕ → ℕ → Reading → Reading
+turn s k (More at t) = next_line s at t
+turn s k (Closed t) = Closed t
+turn s k (Wrong at) = Wrong at
+
+-- the tiles, or where the first wrong line stands: where the text ends before the mosaic is closed, that is there
+abbrev pub ended : Reading → Result Tiles ℕ
+ended (More at t) = Err at
+ended (Closed t) = Ok t
+ended (Wrong at) = Err at
 
 -- no text has more lines than bytes
-unfoldable pub tiles_at : List ℕ → ℕ → Tiles
-tiles_at s at = iter (turn s) (begun at) (length s)
+unfoldable pub tiles_at : List ℕ → ℕ → Result Tiles ℕ
+tiles_at s at = ended (iter (turn s) (begun at) (length s))

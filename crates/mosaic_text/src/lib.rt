@@ -6,7 +6,7 @@ ghost use Rattle.std.specs.Prelude.{◌≡◌, ◌≤◌, length};
 ghost use Rattle.mosaic_text.specs.MosaicTexts as MosaicTexts;
 ghost use Rattle.mosaic_text.specs.MosaicTexts.{EndIs};
 
-use common::Fate;
+use common::Refusal;
 use geom::Quat;
 use problem::Problem;
 use problem_text::Read;
@@ -19,7 +19,7 @@ use tiles::{Tiles, no_tile, tiles_at};
 // What a mosaic's text gives: the problem, how many tiles there are, and the first 64 of them; or refusal 21 with the line, a blank problem and no tiles.
 #[derive(Clone, Copy)]
 pub struct ReadMosaic {
-    pub fate: Fate,
+    pub fate: Result<(), Refusal>,
     pub problem: Problem,
     pub count: usize,
     pub tiles: [Quat; 64],
@@ -30,14 +30,14 @@ fn wrong(line: usize) -> ReadMosaic
     ensures { result ≡ MosaicTexts.wrong line }
 {
     let none = text_reader::read(b"");
-    let blank = none.problem;
-    let tile = no_tile();
-    let tiles = [tile; 64];
     ReadMosaic {
-        fate: Fate::Refused(21, line),
-        problem: blank,
+        fate: Err(Refusal {
+            number: 21,
+            place: line,
+        }),
+        problem: none.problem,
         count: 0,
-        tiles: tiles,
+        tiles: [no_tile(); 64],
     }
 }
 
@@ -46,20 +46,19 @@ fn problem_end(s: &[u8]) -> usize
     requires { (8 ≤ length s.now) × (length s.now ≤ 16384) }
     ensures { EndIs s.now result }
 {
-    let mut i: usize = 8;
-    while i < s.len() {
+    for i in 8..s.len() {
         if is_at(s, i, b"))\n") {
             return i + 3;
         }
         if is_at(s, i, b"\n (tile") {
             return i + 1;
         }
-        i += 1;
     }
-    i
+    s.len()
 }
 
 // A line's number in the whole text, from its number in the problem's: the mosaic has one line before it. A text that is too long has line 0.
+#[tactic(auto, unfolding(crate::specs::MosaicTexts::placed))]
 fn placed(line: usize) -> usize
     ensures { result ≡ MosaicTexts.placed line }
 {
@@ -78,99 +77,80 @@ fn line_of(s: &[u8], at: usize) -> usize
     ensures { result ≡ MosaicTexts.line_of s.now at }
 {
     let mut line: usize = 1;
-    let mut k: usize = 0;
-    while k < s.len() {
-        line = line_turn(line, at, k, s[k]);
-        k += 1;
+    for (k, b) in s.iter().enumerate() {
+        if k < at && *b == b'\n' {
+            line += 1;
+        }
     }
     line
 }
 
-// One byte more, at position k.
-fn line_turn(line: usize, at: usize, k: usize, byte: u8) -> usize
-    requires { line ≤ 16384 }
-    ensures { result ≡ MosaicTexts.line_turn line at k byte }
-{
-    if k >= at {
-        return line;
-    }
-    if byte == b'\n' { line + 1 } else { line }
-}
-
 // Whether two attitudes are equal, number by number.
+#[tactic(auto, using(crate::specs::MosaicTextLaws::last_decides), unfolding(crate::specs::MosaicTexts::same_attitude))]
 fn same_attitude(a: Quat, b: Quat) -> bool
     ensures { result ≡ MosaicTexts.same_attitude a b }
 {
-    if a.w != b.w {
-        return false;
-    }
-    if a.x != b.x {
-        return false;
-    }
-    if a.y != b.y {
-        return false;
-    }
-    a.z == b.z
+    a.w == b.w && a.x == b.x && a.y == b.y && a.z == b.z
 }
 
 // The problem's own attitudes are those of the first tile and of the last. Another count of tiles than 2 to 64 is not judged here: it is refused as such.
-fn judge_ends(q0: Quat, qf: Quat, count: usize, tiles: [Quat; 64]) -> Fate
+#[tactic(auto, unfolding(crate::specs::MosaicTexts::judge_ends))]
+fn judge_ends(q0: Quat, qf: Quat, count: usize, tiles: [Quat; 64]) -> Result<(), Refusal>
     ensures { result ≡ MosaicTexts.judge_ends q0 qf count tiles }
 {
-    if count < 2 {
-        return Fate::Going;
+    if count < 2 || count > 64 {
+        return Ok(());
     }
-    if count > 64 {
-        return Fate::Going;
+    if !same_attitude(q0, tiles[0]) {
+        return Err(Refusal {
+            number: 21,
+            place: 3,
+        });
     }
-    let first = tiles[0];
-    if !same_attitude(q0, first) {
-        return Fate::Refused(21, 3);
+    if !same_attitude(qf, tiles[count - 1]) {
+        return Err(Refusal {
+            number: 21,
+            place: 4,
+        });
     }
-    let last = tiles[count - 1];
-    if !same_attitude(qf, last) {
-        return Fate::Refused(21, 4);
-    }
-    Fate::Going
+    Ok(())
 }
 
 // The mosaic of a problem and the tiles behind it.
-fn with_tiles(s: &[u8], p: Problem, t: Tiles) -> ReadMosaic
+#[tactic(auto, unfolding(crate::specs::MosaicTexts::with_tiles))]
+fn with_tiles(s: &[u8], p: Problem, t: Result<Tiles, usize>) -> ReadMosaic
     requires { length s.now ≤ 16384 }
     ensures { result ≡ MosaicTexts.with_tiles s.now p t }
 {
-    if !t.right {
-        return wrong(line_of(s, t.at));
-    }
-    let tiles = t.tiles;
-    let ends = judge_ends(p.q0, p.qf, t.count, tiles);
-    match ends {
-        Fate::Refused(_, line) => wrong(line),
-        Fate::Going => ReadMosaic {
-            fate: Fate::Going,
+    let Tiles { count, tiles } = match t {
+        Ok(t) => t,
+        Err(at) => return wrong(line_of(s, at)),
+    };
+    match judge_ends(p.q0, p.qf, count, tiles) {
+        Err(refusal) => wrong(refusal.place),
+        Ok(()) => ReadMosaic {
+            fate: Ok(()),
             problem: p,
-            count: t.count,
-            tiles: tiles,
+            count,
+            tiles,
         },
     }
 }
 
 // The same, unless the problem's text is wrong.
-fn mosaic_of(s: &[u8], read: Read, t: Tiles) -> ReadMosaic
+#[tactic(auto, unfolding(crate::specs::MosaicTexts::mosaic_of))]
+fn mosaic_of(s: &[u8], read: Read, t: Result<Tiles, usize>) -> ReadMosaic
     requires { length s.now ≤ 16384 }
     ensures { result ≡ MosaicTexts.mosaic_of s.now read t }
 {
-    let fate = read.fate;
-    match fate {
-        Fate::Refused(_, line) => wrong(placed(line)),
-        Fate::Going => {
-            let p = read.problem;
-            with_tiles(s, p, t)
-        }
+    match read.fate {
+        Err(refusal) => wrong(placed(refusal.place)),
+        Ok(()) => with_tiles(s, read.problem, t),
     }
 }
 
 // What follows the first line: the problem's text, and the tiles behind it.
+#[tactic(auto, unfolding(crate::specs::MosaicTexts::read_parts))]
 fn read_parts(s: &[u8]) -> ReadMosaic
     requires { (8 ≤ length s.now) × (length s.now ≤ 16384) }
     ensures { result ≡ MosaicTexts.read_parts s.now }
@@ -182,6 +162,7 @@ fn read_parts(s: &[u8]) -> ReadMosaic
 }
 
 // The mosaic of a whole text; one of more than 16,384 bytes is refused at line 0.
+#[tactic(auto, unfolding(crate::specs::MosaicTexts::read_mosaic))]
 pub fn read_mosaic(s: &[u8]) -> ReadMosaic
     ensures { result ≡ MosaicTexts.read_mosaic s.now }
 {

@@ -1,19 +1,24 @@
 // The tiles of a mosaic's text: a line for each, then the line that closes the mosaic, and nothing after it.
-ghost use Rattle.std.specs.Prelude.{◌≡◌, ◌≤◌, ◌<◌, length, set};
+ghost use Rattle.std.specs.Prelude.{◌≡◌, ◌≤◌, ◌<◌, length};
 ghost use Rattle.mosaic_text.specs.TileLines as TileLines;
 
 use geom::Quat;
 use text::lines::{Row, Words, is_at, line_at};
+use text::places::put;
 
-// The tiles found so far: whether another line may follow, whether the mosaic was closed and the text ends there, the position after them or of the first wrong
-// line, how many they are, and the first 64 of them.
+// The tiles found so far: how many they are, and the first 64 of them.
 #[derive(Clone, Copy)]
 pub struct Tiles {
-    pub more: bool,
-    pub right: bool,
-    pub at: usize,
     pub count: usize,
     pub tiles: [Quat; 64],
+}
+
+// How far the tiles are read: another line may follow at a position; the mosaic is closed and the text ends there; or the line at a position is wrong.
+#[derive(Clone, Copy)]
+enum Reading {
+    More(usize, Tiles),
+    Closed(Tiles),
+    Wrong(usize),
 }
 
 pub fn no_tile() -> Quat
@@ -27,40 +32,11 @@ pub fn no_tile() -> Quat
     }
 }
 
-// Tile number k in its place; past the sixty-fourth there is none.
-fn put_tile(tiles: [Quat; 64], k: usize, q: Quat) -> [Quat; 64]
-    ensures { result ≡ set tiles k q }
+// One tile more, in the line's row: four floats, scalar first. Past the sixty-fourth a tile is counted only.
+fn with_tile(t: Tiles, row: Row) -> Tiles
+    requires { t.count < 16384 }
+    ensures { result ≡ TileLines.with_tile t row }
 {
-    let mut kept = tiles;
-    if k >= 64 {
-        return kept;
-    }
-    kept[k] = q;
-    kept
-}
-
-// The line at c is no tile's and does not close the mosaic.
-fn wrong_line(c: Tiles) -> Tiles
-    ensures { result ≡ TileLines.wrong_line c }
-{
-    let tiles = c.tiles;
-    Tiles {
-        more: false,
-        right: false,
-        at: c.at,
-        count: c.count,
-        tiles: tiles,
-    }
-}
-
-// One tile more: four floats, scalar first.
-fn with_tile(c: Tiles, row: Row) -> Tiles
-    requires { c.count < 16384 }
-    ensures { result ≡ TileLines.with_tile c row }
-{
-    if !row.ok {
-        return wrong_line(c);
-    }
     let v = row.v;
     let q = Quat {
         w: v[0],
@@ -68,65 +44,58 @@ fn with_tile(c: Tiles, row: Row) -> Tiles
         y: v[2],
         z: v[3],
     };
-    let tiles = c.tiles;
-    let kept = put_tile(tiles, c.count, q);
     Tiles {
-        more: true,
-        right: false,
-        at: row.at,
-        count: c.count + 1,
-        tiles: kept,
+        count: t.count + 1,
+        tiles: put(t.tiles, t.count, q),
     }
 }
 
-// The mosaic is closed at a position: nothing may stand there.
-fn closed(s: &[u8], c: Tiles, at: usize) -> Tiles
-    ensures { result ≡ TileLines.closed s.now c at }
+// The mosaic is closed before a position: nothing may stand there.
+#[tactic(auto, unfolding(crate::specs::TileLines::closed))]
+fn closed(s: &[u8], t: Tiles, at: usize) -> Reading
+    ensures { result ≡ TileLines.closed s.now t at }
 {
-    let tiles = c.tiles;
-    Tiles {
-        more: false,
-        right: at >= s.len(),
-        at: at,
-        count: c.count,
-        tiles: tiles,
+    if at >= s.len() {
+        Reading::Closed(t)
+    } else {
+        Reading::Wrong(at)
     }
 }
 
-// The next line.
-fn next_line(s: &[u8], c: Tiles) -> Tiles
-    requires { c.count < 16384 }
-    ensures { result ≡ TileLines.next_line s.now c }
+// The line at a position.
+#[tactic(auto, unfolding(crate::specs::TileLines::next_line))]
+fn next_line(s: &[u8], at: usize, t: Tiles) -> Reading
+    requires { t.count < 16384 }
+    ensures { result ≡ TileLines.next_line s.now at t }
 {
-    let at = c.at;
     if is_at(s, at, b")\n") {
-        return closed(s, c, at + 2);
+        return closed(s, t, at + 2);
     }
-    let row = line_at(s, at, b" (tile", Words::Floats(4), b")\n");
-    with_tile(c, row)
+    match line_at(s, at, b" (tile", Words::Floats(4), b")\n") {
+        Some(row) => Reading::More(row.at, with_tile(t, row)),
+        None => Reading::Wrong(at),
+    }
 }
 
-// The lines from a position on: at most as many as there are bytes.
-pub fn tiles_at(s: &[u8], at: usize) -> Tiles
+// The tiles from a position on, or the position of the first line that is wrong. There are at most as many lines as bytes.
+pub fn tiles_at(s: &[u8], at: usize) -> Result<Tiles, usize>
     requires { length s.now ≤ 16384 }
     ensures { result ≡ TileLines.tiles_at s.now at }
 {
-    let tile = no_tile();
-    let tiles = [tile; 64];
-    let mut c = Tiles {
-        more: true,
-        right: false,
-        at: at,
+    let mut at = at;
+    let mut t = Tiles {
         count: 0,
-        tiles: tiles,
+        tiles: [no_tile(); 64],
     };
-    let mut k: usize = 0;
-    while k < s.len() {
-        if !c.more {
-            return c;
+    for k in 0..s.len() {
+        match next_line(s, at, t) {
+            Reading::More(next, more) => {
+                at = next;
+                t = more;
+            }
+            Reading::Closed(t) => return Ok(t),
+            Reading::Wrong(wrong) => return Err(wrong),
         }
-        c = next_line(s, c);
-        k += 1;
     }
-    c
+    Err(at)
 }

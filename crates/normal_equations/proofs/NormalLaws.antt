@@ -1,5 +1,5 @@
 -- The columns and their Gram matrix give the normal equations. Assumes nothing.
-use Rattle.std.specs.Prelude.{ℕ, ◌+◌, ◌*◌, take, drop, ◌≡◌, List, Float}
+use Rattle.std.specs.Prelude.{ℕ, ◌*◌, take, drop, ◌≡◌, List, Float}
 use Rattle.std.proofs.Common.{ap, ◌∙◌}
 use Rattle.normal_equations.specs.NormalLaws.{normal_damped}
 use Rattle.normal_equations.specs.Normal.{gram, damped, right_side}

@@ -10,8 +10,7 @@ use Rattle.common.specs.Lists.{at, slice}
 use Rattle.normal_equations.specs.Tab.{tab}
 use Rattle.normal_equations.specs.TabLaws.{get_d_tab, tab_same, tab_of}
 use Rattle.normal_equations.specs.Normal.{line, cell, row_onto, blank, gram, damped, normal_matrix, term_onto, right_side, dot}
-use Rattle.normal_equations.specs.Inner.{cells_of, Dots, sums_of, Summed, mirrored_at, mirrored_row, Completed}
-use Rattle.normal_equations.specs.Placed.{Equations}
+use Rattle.normal_equations.specs.Inner.{cells_of, Dots, sums_of, Summed, mirrored_at, mirrored_row}
 use Rattle.normal_equations.specs.Rows.{row, rows}
 use Rattle.normal_equations.specs.RowsLaws.{length_row, part_row, line_rows, at_row}
 

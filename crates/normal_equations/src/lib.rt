@@ -25,11 +25,7 @@ pub const FD_EPS: f64 = 1.0e-6;
 pub fn clear(v: &mut [f64])
     ensures { v.new ≡ replicate (length v.old) Floats.plus_zero }
 {
-    let mut i = 0;
-    while i < v.len() {
-        v[i] = 0.0;
-        i += 1;
-    }
+    v.fill(0.0);
 }
 
 // The residuals rp of a moved decision against those of the decision, r0.
@@ -37,10 +33,8 @@ fn put_slopes(column: &mut [f64], rp: &ResidualNumbers, r0: &ResidualNumbers)
     requires { length column.old ≤ 79 }
     ensures { column.new ≡ Normal.slopes (length column.old) rp.now r0.now }
 {
-    let mut i = 0;
-    while i < column.len() {
+    for i in 0..column.len() {
         column[i] = (rp[i] - r0[i]) / FD_EPS;
-        i += 1;
     }
 }
 
@@ -50,8 +44,7 @@ pub fn put_column(v: &mut [f64], m: usize, c: usize, rp: &ResidualNumbers, r0: &
     ensures { ColumnPut m c (Normal.slopes m rp.now r0.now) v.old v.new }
 {
     let at = c * m;
-    let end = at + m;
-    put_slopes(&mut v[at..end], rp, r0);
+    put_slopes(&mut v[at..at + m], rp, r0);
 }
 
 // The Gram matrix of n columns of m numbers, which lie in front of it: only the matrix is changed.
@@ -62,15 +55,12 @@ pub fn gram_matrix(v: &mut [f64], n: usize, m: usize)
 {
     let mut row = [0.0; DECISION_NUMBERS];
     let mut next = [0.0; DECISION_NUMBERS];
-    let mut c = 0;
-    while 2 <= n - c {
-        matrix_rows(v, m, c, &mut row[..n], &mut next[..n]);
-        c += 2;
+    for p in 0..n / 2 {
+        matrix_rows(v, m, 2 * p, &mut row[..n], &mut next[..n]);
     }
-    if c == n {
-        return;
+    if n % 2 == 1 {
+        matrix_row(v, m, n - 1, &mut row[..n]);
     }
-    matrix_row(v, m, c, &mut row[..n]);
 }
 
 // The damping factor is added on the diagonal of n rows of n numbers.
@@ -78,11 +68,8 @@ fn damp(a: &mut [f64], n: usize, lambda: f64)
     requires { (n ≤ 193) × (length a.old ≡ n * n) }
     ensures { rows n n a.new ≡ Normal.damped n lambda (rows n n a.old) }
 {
-    let mut k: usize = 0;
-    while k < n {
-        let at = k * n + k;
-        a[at] = a[at] + lambda;
-        k += 1;
+    for k in 0..n {
+        a[k * n + k] += lambda;
     }
 }
 
@@ -91,13 +78,8 @@ pub fn right_side(g: &mut [f64], j: &[f64], m: usize, r: &[f64])
     requires { (m ≤ length r.now) × (length j.now ≡ length g.old * m) }
     ensures { g.new ≡ Normal.right_side (length g.old) m (rows (length g.old) m j.now) r.now }
 {
-    let mut c = 0;
-    while c < g.len() {
-        let s = c * m;
-        let e = s + m;
-        let x = dot(&j[s..e], r);
-        g[c] = -x;
-        c += 1;
+    for c in 0..g.len() {
+        g[c] = -dot(&j[c * m..c * m + m], r);
     }
 }
 

@@ -13,10 +13,8 @@ fn mirror(a: &[f64], c: usize, row: &mut [f64])
     ensures { Filled (λ d. at a.now (d * length row.old + c)) 0 c (at row.old) (at row.new) }
 {
     let n = row.len();
-    let mut d = 0;
-    while d < c {
+    for d in 0..c {
         row[d] = a[d * n + c];
-        d += 1;
     }
 }
 

@@ -8,11 +8,7 @@ pub fn copy(to: &mut [f64], from: &[f64])
     requires { length from.now ≡ length to.old }
     ensures { to.new ≡ from.now }
 {
-    let mut i = 0;
-    while i < to.len() {
-        to[i] = from[i];
-        i += 1;
-    }
+    to.copy_from_slice(from);
 }
 
 // Row c of the rows in a becomes line.

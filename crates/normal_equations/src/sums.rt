@@ -24,10 +24,8 @@ pub fn dot(p: &[f64], q: &[f64]) -> f64
     ensures { result ≡ Normal.dot (length p.now) p.now q.now }
 {
     let mut s = 0.0;
-    let mut i = 0;
-    while i < p.len() {
-        s = s + p[i] * q[i];
-        i += 1;
+    for i in 0..p.len() {
+        s += p[i] * q[i];
     }
     s
 }
@@ -50,33 +48,31 @@ fn dot8(o: &[f64], p: &[f64], q: &[f64], t: &[f64], u: &[f64], v: &[f64]) -> Eig
     let mut f = 0.0;
     let mut g = 0.0;
     let mut h = 0.0;
-    let mut i = 0;
-    while i < o.len() {
+    for i in 0..o.len() {
         let x = o[i];
         let y = p[i];
         let w = q[i];
         let z = t[i];
         let k = u[i];
         let l = v[i];
-        a = a + x * w;
-        b = b + x * z;
-        c = c + x * k;
-        d = d + x * l;
-        e = e + y * w;
-        f = f + y * z;
-        g = g + y * k;
-        h = h + y * l;
-        i += 1;
+        a += x * w;
+        b += x * z;
+        c += x * k;
+        d += x * l;
+        e += y * w;
+        f += y * z;
+        g += y * k;
+        h += y * l;
     }
     Eight {
-        a: a,
-        b: b,
-        c: c,
-        d: d,
-        e: e,
-        f: f,
-        g: g,
-        h: h,
+        a,
+        b,
+        c,
+        d,
+        e,
+        f,
+        g,
+        h,
     }
 }
 
@@ -117,13 +113,11 @@ fn eights(o: &[f64], p: &[f64], j: &[f64], from: usize, row: &mut [f64], next: &
         × (Filled (Inner.cells_of o.now j.now) from result (at row.old) (at row.new))
         × (Filled (Inner.cells_of p.now j.now) from result (at next.old) (at next.new)) }
 {
-    let n = row.len();
-    let mut d = from;
-    while 4 <= n - d {
-        eight_at(o, p, j, d, row, next);
-        d += 4;
+    let turns = (row.len() - from) / 4;
+    for t in 0..turns {
+        eight_at(o, p, j, from + 4 * t, row, next);
     }
-    d
+    from + 4 * turns
 }
 
 // The cells that are left.
@@ -132,12 +126,8 @@ fn ones(p: &[f64], j: &[f64], from: usize, row: &mut [f64])
     ensures { Filled (Inner.cells_of p.now j.now) from (length row.old) (at row.old) (at row.new) }
 {
     let m = p.len();
-    let mut d = from;
-    while d < row.len() {
-        let q = d * m;
-        let e = q + m;
-        row[d] = dot(p, &j[q..e]);
-        d += 1;
+    for d in from..row.len() {
+        row[d] = dot(p, &j[d * m..d * m + m]);
     }
 }
 

@@ -1,5 +1,5 @@
 -- Two tiles by the definitions alone: read, a line that is wrong, and what is printed. Assumes nothing.
-use Rattle.std.specs.Prelude.{ℕ, ◌≡◌, refl, List, [], ◌∷◌, take}
+use Rattle.std.specs.Prelude.{ℕ, ◌≡◌, refl, List, [], ◌∷◌}
 use Rattle.common.specs.Iter.{iter}
 use Rattle.text.specs.Bytes.{bytes}
 use Rattle.text.specs.Hex.{digit}

@@ -1,11 +1,10 @@
 -- What is told, in the code's steps. Assumes nothing.
-use Rattle.std.specs.Prelude.{ℕ, ◌≤◌, ◌<◌, ◌≡◌, refl, List, ◌++◌}
+use Rattle.std.specs.Prelude.{ℕ, ◌≤◌, ◌<◌, ◌≡◌, refl, List, ◌++◌, Err}
 use native.Mathlib.Omega.{arith}
 use Rattle.std.proofs.Common.{◌∙◌}
 use borrow.Author.Tests.{lt-ltb, le-ltb}
 use Rattle.std.proofs.Math.ListN.{length, drop}
 use Rattle.std.proofs.Math.Seq.{length-sets}
-use Rattle.common.specs.declared.Fate.TheVariants.{Going, Refused}
 use Rattle.text_writer.specs.Puts.{Puts}
 use Rattle.text_writer.specs.PutLaws.{puts_most, puts_whole}
 use Rattle.text_writer.specs.Texts as Texts
@@ -14,6 +13,7 @@ use Rattle.order_text.specs.declared.Told.{Told}
 use Rattle.order_text.specs.declared.reading.ReadTiles.{ReadTiles}
 use Rattle.order_text.specs.TileTexts.{read_tiles}
 use Rattle.order_text.specs.OrderTexts.{ordered, answer, printed, wholly, no_room, told, written, Prints, Tells}
+use Rattle.common.specs.Refusals.{refusal, going}
 
 -- ---- printing
 module _ (n : ℕ) (a : Ordered) {out out' : List ℕ} {i : ℕ} where
@@ -23,12 +23,12 @@ module _ (n : ℕ) (a : Ordered) {out out' : List ℕ} {i : ℕ} where
       let b : r.bytes ≡ i = rw e in
       record { is = e ∙ rw z; puts = rw b p }
 
-  pub prints_found : a.fate ≡ Going → Puts out 0 (ordered n a.found) 400 out' i → Prints n a out (record { fate = Going; bytes = i }) out'
+  pub prints_found : a.fate ≡ going → Puts out 0 (ordered n a.found) 400 out' i → Prints n a out (record { fate = going; bytes = i }) out'
   unfolding printed
   prints_found f p = prints (rw f) (rw f p)
 
-  pub prints_refused : {number place : ℕ} → a.fate ≡ Refused number place → Puts out 0 (Texts.refused number place 0) 100 out' i
-      → Prints n a out (record { fate = Refused number place; bytes = i }) out'
+  pub prints_refused : {number place : ℕ} → a.fate ≡ Err (refusal number place) → Puts out 0 (Texts.refused number place 0) 100 out' i
+      → Prints n a out (record { fate = Err (refusal number place); bytes = i }) out'
   unfolding printed
   prints_refused f p = prints (rw f) (rw f (puts_most (omega arith) p))
 

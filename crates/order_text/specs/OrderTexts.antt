@@ -1,7 +1,5 @@
 -- What is printed of a table's text, byte for byte, and what is left of the lent buffer. Definitions only.
-use Rattle.std.specs.Prelude.{ℕ, ◌*◌, ◌≤◌, ◌≡◌, Bool, true, false, cond, List, [], ◌∷◌, ◌++◌, leb, ltb, length, get_or, take, drop}
-use Rattle.common.specs.declared.Fate.{Fate}
-use Rattle.common.specs.declared.Fate.TheVariants.{Going, Refused}
+use Rattle.std.specs.Prelude.{ℕ, ◌*◌, ◌≤◌, ◌≡◌, Bool, true, false, cond, List, [], ◌∷◌, ◌++◌, leb, ltb, length, get_or, take, drop, Ok, Err}
 use Rattle.text.specs.Bytes.{bytes}
 use Rattle.text_writer.specs.Puts.{Puts}
 use Rattle.text_writer.specs.Texts as Texts
@@ -12,6 +10,7 @@ use Rattle.tile_order.specs.Answers as Answers
 use Rattle.order_text.specs.declared.reading.ReadTiles.{ReadTiles}
 use Rattle.order_text.specs.declared.Told.{Told}
 use Rattle.order_text.specs.TileTexts.{read_tiles}
+use Rattle.common.specs.Refusals.{Fate, refusal}
 
 -- ---- forms: each begins with the line feed that ends the line before it
 
@@ -49,18 +48,18 @@ cells r = take (cond (ltb 10 r.tiles) 0 (r.tiles * r.tiles)) r.times
 
 -- zeros stand beside a refusal
 abbrev pub unread : ℕ → ℕ → Ordered
-unread number line = record { fate = Refused number line; found = (Answers.refusal).found }
+unread number line = record { fate = Err (refusal number line); found = (Answers.refusal).found }
 
 abbrev pub answer_by : Fate → ReadTiles → Ordered
-answer_by (Refused number line) r = unread number line
-answer_by Going r = Answers.answer r.tiles (cells r) r.budget
+answer_by (Err why) r = unread why.number why.place
+answer_by (Ok _) r = Answers.answer r.tiles (cells r) r.budget
 
 unfoldable pub answer : ReadTiles → Ordered
 answer r = answer_by r.fate r
 
 abbrev pub printed_by : Fate → ℕ → Found → List ℕ
-printed_by (Refused number place) n f = Texts.refused number place 0
-printed_by Going n f = ordered n f
+printed_by (Err why) n f = Texts.refused why.number why.place 0
+printed_by (Ok _) n f = ordered n f
 
 unfoldable pub printed : ℕ → Ordered → List ℕ
 printed n a = printed_by a.fate n a.found
@@ -68,7 +67,7 @@ printed n a = printed_by a.fate n a.found
 -- ---- what is told of it, and the lent buffer at exit. A buffer of less than 512 bytes gets nothing.
 
 abbrev pub no_room : Told
-no_room = record { fate = Refused 99 0; bytes = 0 }
+no_room = record { fate = Err (refusal 99 0); bytes = 0 }
 
 abbrev pub wholly : ℕ → Ordered → Told
 wholly n a = record { fate = a.fate; bytes = length (printed n a) }

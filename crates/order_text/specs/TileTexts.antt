@@ -1,8 +1,7 @@
 -- What every list of bytes means as a table of times, or the first line, from 1, that is wrong or missing. Definitions only.
 -- What stands at a position is `get_or s at 0`: past the end stands 0, which no form has.
-use Rattle.std.specs.Prelude.{ℕ, ◌+◌, ◌*◌, ◌≤◌, ◌≡◌, Bool, true, false, cond, ◌&&◌, List, ltb, eqb, length, get_or, set, replicate, take}
+use Rattle.std.specs.Prelude.{ℕ, ◌+◌, ◌*◌, ◌≤◌, ◌≡◌, Bool, true, false, cond, List, Option, None, Some, IfSome, Result, Ok, Err, ltb, eqb, length, get_or, set, replicate}
 use Rattle.common.specs.Iter.{iter}
-use Rattle.common.specs.declared.Fate.TheVariants.{Going, Refused}
 use Rattle.text.specs.Bytes.{bytes}
 use Rattle.text.specs.Hex.{digit}
 use Rattle.text.specs.Lines.{is_at}
@@ -10,8 +9,8 @@ use Rattle.order_text.specs.declared.reading.Number.{Number}
 use Rattle.order_text.specs.declared.reading.Word.{Word}
 use Rattle.order_text.specs.declared.reading.Width.{Width}
 use Rattle.order_text.specs.declared.reading.Row.{Row}
-use Rattle.order_text.specs.declared.reading.Table.{Table}
 use Rattle.order_text.specs.declared.reading.ReadTiles.{ReadTiles}
+use Rattle.common.specs.Refusals.{refusal, going}
 
 -- ---- a number
 
@@ -37,53 +36,53 @@ number_at s at = iter (λ _ c. digit_turn s c) (record { going = true; at = at; 
 
 -- ---- a row
 
-abbrev pub wrong_word : Word
-wrong_word = record { ok = false; at = 0; v = 0 }
-
-abbrev pub word_by : ℕ → Number → Word
-word_by at c = cond (eqb c.at at) wrong_word (record { ok = true; at = c.at; v = c.v })
+abbrev pub word_by : ℕ → Number → Option Word
+word_by at c = cond (eqb c.at at) None (Some (record { at = c.at; v = c.v }))
 
 -- a blank and a number of at least one digit
-unfoldable pub word_at : List ℕ → ℕ → Word
-word_at s at = cond (eqb (get_or s at 0) 32) (word_by (at + 1) (number_at s (at + 1))) wrong_word
+unfoldable pub word_at : List ℕ → ℕ → Option Word
+word_at s at = cond (eqb (get_or s at 0) 32) (word_by (at + 1) (number_at s (at + 1))) None
 
-abbrev pub wrong_row : List ℕ → Row
-wrong_row t = record { ok = false; at = 0; times = t }
-
-abbrev pub row_by : ℕ → List ℕ → Word → Row
-row_by place t w = cond w.ok (record { ok = true; at = w.at; times = set t place w.v }) (wrong_row t)
+abbrev pub row_by : ℕ → List ℕ → Option Word → Option Row
+row_by place t None = None
+row_by place t (Some w) = Some (record { at = w.at; times = set t place w.v })
 
 -- the next word as number `place` of the times; of those past a hundred none is kept
-unfoldable pub row_turn : List ℕ → ℕ → Row → Row
-row_turn s place c = cond c.ok (row_by place c.times (word_at s c.at)) c
+unfoldable pub row_turn : List ℕ → ℕ → Option Row → Option Row
+row_turn s place None = None
+row_turn s place (Some c) = row_by place c.times (word_at s c.at)
 
 -- n words, from number `base` of the times on
-unfoldable pub row_at : List ℕ → ℕ → ℕ → ℕ → List ℕ → Row
-row_at s at n base t = iter (λ k c. row_turn s (base + k) c) (record { ok = true; at = at; times = t }) n
+unfoldable pub row_at : List ℕ → ℕ → ℕ → ℕ → List ℕ → Option Row
+row_at s at n base t = iter (λ k c. row_turn s (base + k) c) (Some (record { at = at; times = t })) n
 
 -- the last row is closed by two brackets
 abbrev pub tail : Bool → List ℕ
 tail true = bytes "))\n"
 tail false = bytes ")\n"
 
-abbrev pub with_tail : List ℕ → Bool → Row → Row
-with_tail s last r = cond r.ok (cond (is_at s r.at (tail last)) (record { ok = true; at = r.at + length (tail last); times = r.times }) (wrong_row r.times)) (wrong_row r.times)
+abbrev pub with_tail : List ℕ → Bool → Option Row → Option Row
+with_tail s last None = None
+with_tail s last (Some r) = cond (is_at s r.at (tail last)) (Some (record { at = r.at + length (tail last); times = r.times })) None
 
-unfoldable pub line_at : List ℕ → ℕ → ℕ → ℕ → Bool → List ℕ → Row
-line_at s at n base last t = cond (is_at s at (bytes " (from")) (with_tail s last (row_at s (at + 6) n base t)) (wrong_row t)
+unfoldable pub line_at : List ℕ → ℕ → ℕ → ℕ → Bool → List ℕ → Option Row
+line_at s at n base last t = cond (is_at s at (bytes " (from")) (with_tail s last (row_at s (at + 6) n base t)) None
 
 -- ---- the table
 
-abbrev pub table_by : ℕ → Row → Table
-table_by i r = cond r.ok (record { line = 0; at = r.at; times = r.times }) (record { line = i + 3; at = 0; times = r.times })
+-- a row that is wrong, by its line
+abbrev pub table_by : ℕ → Option Row → Result Row ℕ
+table_by i None = Err (i + 3)
+table_by i (Some r) = Ok r
 
 -- row i of n, where those before it are right
-unfoldable pub table_turn : List ℕ → ℕ → ℕ → Table → Table
-table_turn s n i c = cond (eqb c.line 0) (table_by i (line_at s c.at n (i * n) (eqb (i + 1) n) c.times)) c
+unfoldable pub table_turn : List ℕ → ℕ → ℕ → Result Row ℕ → Result Row ℕ
+table_turn s n i (Err line) = Err line
+table_turn s n i (Ok c) = table_by i (line_at s c.at n (i * n) (eqb (i + 1) n) c.times)
 
--- the rows of n tiles, of which the first is line 3
-unfoldable pub table_at : List ℕ → ℕ → ℕ → Table
-table_at s at n = iter (table_turn s n) (record { line = 0; at = at; times = replicate 100 0 }) n
+-- the rows of n tiles, of which the first is line 3; or the first line that is wrong
+unfoldable pub table_at : List ℕ → ℕ → ℕ → Result Row ℕ
+table_at s at n = iter (table_turn s n) (Ok (record { at = at; times = replicate 100 0 })) n
 
 unfoldable pub width_turn : List ℕ → ℕ → Width → Width
 width_turn s at c =
@@ -98,30 +97,36 @@ width_at s at = (iter (λ k c. width_turn s (at + k) c) (record { going = true; 
 
 -- ---- the whole text
 
-abbrev pub closed_word : List ℕ → Word → Word
-closed_word s w = cond w.ok (cond (is_at s w.at (bytes ")\n")) (record { ok = true; at = w.at + 2; v = w.v }) wrong_word) wrong_word
+abbrev pub closed_word : List ℕ → Option Word → Option Word
+closed_word s None = None
+closed_word s (Some w) = cond (is_at s w.at (bytes ")\n")) (Some (record { at = w.at + 2; v = w.v })) None
 
 -- line 2
-unfoldable pub budget_at : List ℕ → Word
-budget_at s = cond (is_at s 7 (bytes " (budget")) (closed_word s (word_at s 15)) wrong_word
+unfoldable pub budget_at : List ℕ → Option Word
+budget_at s = cond (is_at s 7 (bytes " (budget")) (closed_word s (word_at s 15)) None
 
 abbrev pub refused : ℕ → ReadTiles
-refused line = record { fate = Refused 21 line; tiles = 0; budget = 0; times = replicate 100 0 }
+refused line = record { fate = Err (refusal 21 line); tiles = 0; budget = 0; times = replicate 100 0 }
 
 -- nothing stands after the last row
-abbrev pub read_by : List ℕ → ℕ → ℕ → Table → ReadTiles
-read_by s n b t = cond (eqb t.line 0) (cond (eqb t.at (length s)) (record { fate = Going; tiles = n; budget = b; times = t.times }) (refused (n + 3))) (refused t.line)
+abbrev pub read_by : List ℕ → ℕ → ℕ → Result Row ℕ → ReadTiles
+read_by s n b (Err line) = refused line
+read_by s n b (Ok t) = cond (eqb t.at (length s)) (record { fate = going; tiles = n; budget = b; times = t.times }) (refused (n + 3))
 
 -- the first row says how many tiles there are, and has one at least
 unfoldable pub rows_of : List ℕ → ℕ → ℕ → ReadTiles
 rows_of s at b = cond (eqb (width_at s (at + 6)) 0) (refused 3) (read_by s (width_at s (at + 6)) b (table_at s at (width_at s (at + 6))))
+
+abbrev pub after_budget : List ℕ → Option Word → ReadTiles
+after_budget s None = refused 2
+after_budget s (Some w) = rows_of s w.at w.v
 
 -- the tiles, the budget and the times, or 21 with its line; place 0 over 4,096 bytes
 unfoldable pub read_tiles : List ℕ → ReadTiles
 read_tiles s =
     cond (ltb 4096 (length s)) (refused 0)
     (cond (is_at s 0 (bytes "(tiles\n"))
-    (cond (budget_at s).ok (rows_of s (budget_at s).at (budget_at s).v) (refused 2))
+    (after_budget s (budget_at s))
     (refused 1))
 
 -- ---- contracts: the answer is the definition's, and the next position is within the text
@@ -131,10 +136,10 @@ pub record NumberIs (s : List ℕ) (c r : Number) : Type 0 where
   pub within : r.at ≤ length s
   pub low : r.v ≤ most
 
-pub record WordIs (s : List ℕ) (at : ℕ) (r : Word) : Type 0 where
+pub record WordIs (s : List ℕ) (at : ℕ) (r : Option Word) : Type 0 where
   pub is : r ≡ word_at s at
-  pub within : r.at ≤ length s
+  pub within : IfSome r (λ w. w.at ≤ length s)
 
-pub record RowIs (s : List ℕ) (c r : Row) : Type 0 where
+pub record RowIs (s : List ℕ) (c r : Option Row) : Type 0 where
   pub is : r ≡ c
-  pub within : r.at ≤ length s
+  pub within : IfSome r (λ w. w.at ≤ length s)

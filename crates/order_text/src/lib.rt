@@ -6,7 +6,7 @@ ghost use Rattle.order_text.specs.OrderTexts as OrderTexts;
 ghost use Rattle.order_text.specs.OrderTexts.{Prints, Tells};
 ghost use Rattle.tile_order.specs.Answers as Answers;
 
-use common::Fate;
+use common::Refusal;
 use text_writer::write_refused;
 use tile_order::{Found, Ordered, order};
 
@@ -19,7 +19,7 @@ use writing::write_ordered;
 // How a text was answered, and how many bytes were written.
 #[derive(Clone, Copy)]
 pub struct Told {
-    pub fate: Fate,
+    pub fate: Result<(), Refusal>,
     pub bytes: usize,
 }
 
@@ -55,7 +55,10 @@ fn refused(number: usize, line: usize) -> Ordered
         floor: 0,
     };
     Ordered {
-        fate: Fate::Refused(number, line),
+        fate: Err(Refusal {
+            number,
+            place: line,
+        }),
         found: found,
     }
 }
@@ -65,8 +68,8 @@ fn answer(r: ReadTiles) -> Ordered
 {
     let fate = r.fate;
     match fate {
-        Fate::Refused(number, line) => refused(number, line),
-        Fate::Going => order_read(r),
+        Err(refusal) => refused(refusal.number, refusal.place),
+        Ok(()) => order_read(r),
     }
 }
 
@@ -75,18 +78,18 @@ fn tell(n: usize, a: Ordered, out: &mut [u8]) -> Told
 {
     let fate = a.fate;
     match fate {
-        Fate::Refused(number, place) => {
-            let bytes = write_refused(out, number, place, 0);
+        Err(refusal) => {
+            let bytes = write_refused(out, refusal.number, refusal.place, 0);
             Told {
-                fate: Fate::Refused(number, place),
+                fate: Err(refusal),
                 bytes: bytes,
             }
         }
-        Fate::Going => {
+        Ok(()) => {
             let found = a.found;
             let bytes = write_ordered(out, n, found);
             Told {
-                fate: Fate::Going,
+                fate: Ok(()),
                 bytes: bytes,
             }
         }
@@ -99,7 +102,10 @@ pub fn order_text(text: &[u8], out: &mut [u8]) -> Told
 {
     if out.len() < 512 {
         return Told {
-            fate: Fate::Refused(99, 0),
+            fate: Err(Refusal {
+                number: 99,
+                place: 0,
+            }),
             bytes: 0,
         };
     }

@@ -1,14 +1,14 @@
 // Reads a table of times: `(tiles`, ` (budget N)`, and ` (from T T ..)` for each tile, decimal numbers, the last line closed by two brackets. The first row
 // says how many tiles there are.
-ghost use Rattle.std.specs.Prelude.{◌≡◌, ◌+◌, ◌≤◌, ◌<◌, ◌^◌, length, set};
+ghost use Rattle.std.specs.Prelude.{◌≡◌, ◌+◌, ◌≤◌, ◌<◌, ◌^◌, length, set, Some, None, Ok, Err, IfSome};
 ghost use Rattle.order_text.specs.TileTexts as TileTexts;
 ghost use Rattle.text.specs.Lines.{IsAt};
 
-use common::Fate;
+use common::Refusal;
 use text::hex::{byte, hex_digit};
 use text::lines::is_at;
 
-// A decimal number so far: whether a digit may follow, the position after it, its value.
+// A decimal number so far: whether a digit may follow, the position after it, its value. There is a value either way, so an Option would be no plainer.
 #[derive(Clone, Copy)]
 pub struct Number {
     pub going: bool,
@@ -16,15 +16,14 @@ pub struct Number {
     pub v: u32,
 }
 
-// A blank and a number, with the position after it.
+// A blank and a number: the position after it, its value.
 #[derive(Clone, Copy)]
 pub struct Word {
-    pub ok: bool,
     pub at: usize,
     pub v: u32,
 }
 
-// How many words a line has, as far as it was looked at.
+// How many words a line has, as far as it was looked at, and whether it goes on. There is a count either way, so an Option would be no plainer.
 #[derive(Clone, Copy)]
 pub struct Width {
     pub going: bool,
@@ -34,15 +33,6 @@ pub struct Width {
 // The times read so far, with the position after them.
 #[derive(Clone, Copy)]
 pub struct Row {
-    pub ok: bool,
-    pub at: usize,
-    pub times: [u32; 100],
-}
-
-// The rows read so far: the first line that is wrong, or 0; the position after them; the times.
-#[derive(Clone, Copy)]
-pub struct Table {
-    pub line: usize,
     pub at: usize,
     pub times: [u32; 100],
 }
@@ -50,7 +40,7 @@ pub struct Table {
 // What a text says: the tiles, the budget, the first hundred times row after row; or 21 with zeros beside it.
 #[derive(Clone, Copy)]
 pub struct ReadTiles {
-    pub fate: Fate,
+    pub fate: Result<(), Refusal>,
     pub tiles: usize,
     pub budget: u64,
     pub times: [u32; 100],
@@ -101,44 +91,28 @@ fn number_at(s: &[u8], at: usize) -> Number
 {
     let mut c = Number {
         going: true,
-        at: at,
+        at,
         v: 0,
     };
-    let mut k: usize = 0;
-    while k < 20 {
+    for _k in 0..20usize {
         c = digit_turn(s, c);
-        k += 1;
     }
     c
 }
 
-fn wrong_word() -> Word
-    ensures { result ≡ TileTexts.wrong_word }
-{
-    Word {
-        ok: false,
-        at: 0,
-        v: 0,
-    }
-}
-
 // A blank and a number of at least one digit.
-fn word_at(s: &[u8], at: usize) -> Word
+fn word_at(s: &[u8], at: usize) -> Option<Word>
     requires { at ≤ length s.now }
     ensures { TileTexts.WordIs s.now at result }
 {
     if byte(s, at) != b' ' {
-        return wrong_word();
+        return None;
     }
     let c = number_at(s, at + 1);
     if c.at == at + 1 {
-        return wrong_word();
+        return None;
     }
-    Word {
-        ok: true,
-        at: c.at,
-        v: c.v,
-    }
+    Some(Word { at: c.at, v: c.v })
 }
 
 // A time in its place; past a hundred it is not kept.
@@ -146,54 +120,36 @@ fn put_time(times: [u32; 100], place: usize, v: u32) -> [u32; 100]
     ensures { result ≡ set times place v }
 {
     let mut more = times;
-    if place >= 100 {
-        return more;
+    if place < 100 {
+        more[place] = v;
     }
-    more[place] = v;
     more
 }
 
 // The next word of a row, as number `place` of the times.
-fn row_turn(s: &[u8], place: usize, c: Row) -> Row
+fn next_word(s: &[u8], place: usize, c: Row) -> Option<Row>
     requires { c.at ≤ length s.now }
-    ensures { TileTexts.RowIs s.now (TileTexts.row_turn s.now place c) result }
+    ensures { TileTexts.RowIs s.now (TileTexts.row_turn s.now place (Some c)) result }
 {
-    if !c.ok {
-        return c;
-    }
-    let w = word_at(s, c.at);
+    let w = word_at(s, c.at)?;
     let times = c.times;
-    if !w.ok {
-        return Row {
-            ok: false,
-            at: 0,
-            times: times,
-        };
-    }
     let more = put_time(times, place, w.v);
-    Row {
-        ok: true,
+    Some(Row {
         at: w.at,
         times: more,
-    }
+    })
 }
 
 // The n words of a row, from number `base` of the times on.
-fn row_at(s: &[u8], at: usize, n: usize, base: usize, times: [u32; 100]) -> Row
+fn row_at(s: &[u8], at: usize, n: usize, base: usize, times: [u32; 100]) -> Option<Row>
     requires { (at ≤ length s.now) × (n < 2 ^ 32) × (base ≤ 2 ^ 62) }
     ensures { TileTexts.RowIs s.now (TileTexts.row_at s.now at n base times) result }
 {
-    let mut c = Row {
-        ok: true,
-        at: at,
-        times: times,
-    };
-    let mut k: usize = 0;
-    while k < n {
-        c = row_turn(s, base + k, c);
-        k += 1;
+    let mut c = Row { at, times };
+    for k in 0..n {
+        c = next_word(s, base + k, c)?;
     }
-    c
+    Some(c)
 }
 
 // A row's end: the last one is closed by two brackets.
@@ -213,83 +169,47 @@ fn tail_length(last: bool) -> usize
 }
 
 // A whole row.
-fn line_at(s: &[u8], at: usize, n: usize, base: usize, last: bool, times: [u32; 100]) -> Row
+fn line_at(s: &[u8], at: usize, n: usize, base: usize, last: bool, times: [u32; 100]) -> Option<Row>
     requires { (n < 2 ^ 32) × (base ≤ 2 ^ 62) }
     ensures { TileTexts.RowIs s.now (TileTexts.line_at s.now at n base last times) result }
 {
     if !is_at(s, at, b" (from") {
-        return Row {
-            ok: false,
-            at: 0,
-            times: times,
-        };
+        return None;
     }
-    let c = row_at(s, at + 6, n, base, times);
+    let c = row_at(s, at + 6, n, base, times)?;
+    if !ends_at(s, c.at, last) {
+        return None;
+    }
     let read = c.times;
-    let i = c.at;
-    if !c.ok {
-        return Row {
-            ok: false,
-            at: 0,
-            times: read,
-        };
-    }
-    if !ends_at(s, i, last) {
-        return Row {
-            ok: false,
-            at: 0,
-            times: read,
-        };
-    }
-    Row {
-        ok: true,
-        at: i + tail_length(last),
+    Some(Row {
+        at: c.at + tail_length(last),
         times: read,
-    }
+    })
 }
 
-// Row i of n.
-fn table_turn(s: &[u8], n: usize, i: usize, c: Table) -> Table
+// Row i of n, after those before it; an error is the number of its line.
+fn next_line(s: &[u8], n: usize, i: usize, c: Row) -> Result<Row, usize>
     requires { (i < n) × (n < 2 ^ 31) }
-    ensures { result ≡ TileTexts.table_turn s.now n i c }
+    ensures { result ≡ TileTexts.table_turn s.now n i (Ok c) }
 {
-    if c.line != 0 {
-        return c;
-    }
     let times = c.times;
-    let last = i + 1 == n;
-    let r = line_at(s, c.at, n, i * n, last, times);
-    let read = r.times;
-    if !r.ok {
-        return Table {
-            line: i + 3,
-            at: 0,
-            times: read,
-        };
-    }
-    Table {
-        line: 0,
-        at: r.at,
-        times: read,
+    match line_at(s, c.at, n, i * n, i + 1 == n, times) {
+        Some(r) => Ok(r),
+        None => Err(i + 3),
     }
 }
 
-// The rows of n tiles, of which the first is line 3.
-fn table_at(s: &[u8], at: usize, n: usize) -> Table
+// The rows of n tiles, of which the first is line 3; an error is the first line that is wrong.
+fn table_at(s: &[u8], at: usize, n: usize) -> Result<Row, usize>
     requires { n < 2 ^ 31 }
     ensures { result ≡ TileTexts.table_at s.now at n }
 {
-    let mut c = Table {
-        line: 0,
-        at: at,
-        times: [0; 100],
-    };
-    let mut i: usize = 0;
-    while i < n {
-        c = table_turn(s, n, i, c);
-        i += 1;
+    let times = [0; 100];
+    let mut c = Row { at, times };
+    for i in 0..n {
+        c = next_line(s, n, i, c)?;
     }
-    c
+    Ok(c)
 }
 
 // One more byte of a line.
@@ -325,41 +245,38 @@ fn width_at(s: &[u8], at: usize) -> usize
         going: true,
         count: 0,
     };
-    let mut k: usize = 0;
-    while k < s.len() {
+    for k in 0..s.len() {
         c = width_turn(s, at + k, c);
-        k += 1;
     }
     c.count
 }
 
 // Line 2, with the position after it.
-fn budget_at(s: &[u8]) -> Word
-    ensures { (result ≡ TileTexts.budget_at s.now) × (result.at ≤ length s.now) }
+fn budget_at(s: &[u8]) -> Option<Word>
+    ensures is { result ≡ TileTexts.budget_at s.now }
+    ensures within { IfSome result (λ w. w.at ≤ length s.now) }
 {
     if !is_at(s, 7, b" (budget") {
-        return wrong_word();
+        return None;
     }
-    let w = word_at(s, 15);
-    let i = w.at;
-    if !w.ok {
-        return wrong_word();
+    let w = word_at(s, 15)?;
+    if !is_at(s, w.at, b")\n") {
+        return None;
     }
-    if !is_at(s, i, b")\n") {
-        return wrong_word();
-    }
-    Word {
-        ok: true,
-        at: i + 2,
+    Some(Word {
+        at: w.at + 2,
         v: w.v,
-    }
+    })
 }
 
 fn refused(line: usize) -> ReadTiles
     ensures { result ≡ TileTexts.refused line }
 {
     ReadTiles {
-        fate: Fate::Refused(21, line),
+        fate: Err(Refusal {
+            number: 21,
+            place: line,
+        }),
         tiles: 0,
         budget: 0,
         times: [0; 100],
@@ -375,19 +292,20 @@ fn rows_of(s: &[u8], at: usize, budget: u32) -> ReadTiles
     if n == 0 {
         return refused(3);
     }
-    let t = table_at(s, at, n);
-    if t.line != 0 {
-        return refused(t.line);
-    }
-    if t.at != s.len() {
-        return refused(n + 3);
-    }
-    let times = t.times;
-    ReadTiles {
-        fate: Fate::Going,
-        tiles: n,
-        budget: budget as u64,
-        times: times,
+    match table_at(s, at, n) {
+        Err(line) => refused(line),
+        Ok(t) => {
+            if t.at != s.len() {
+                return refused(n + 3);
+            }
+            let times = t.times;
+            ReadTiles {
+                fate: Ok(()),
+                tiles: n,
+                budget: budget as u64,
+                times,
+            }
+        }
     }
 }
 
@@ -401,9 +319,8 @@ pub fn read_tiles(s: &[u8]) -> ReadTiles
     if !is_at(s, 0, b"(tiles\n") {
         return refused(1);
     }
-    let w = budget_at(s);
-    if !w.ok {
-        return refused(2);
+    match budget_at(s) {
+        None => refused(2),
+        Some(w) => rows_of(s, w.at, w.v),
     }
-    rows_of(s, w.at, w.v)
 }

@@ -22,10 +22,8 @@ fn put_tiles(b: &mut [u8], at: usize, order: &[usize; 10], n: usize) -> usize
     ensures { Puts b.old at (OrderTexts.tiles order.now n) (21 * n) b.new result }
 {
     let mut i = at;
-    let mut k: usize = 0;
-    while k < n {
+    for k in 0..n {
         i = put_tile(b, i, order[k]);
-        k += 1;
     }
     i
 }

@@ -1,5 +1,5 @@
 -- What is told, in the code's steps. Assumes nothing.
-use Rattle.std.specs.Prelude.{ℕ, ◌≤◌, ◌<◌, ◌≡◌, List, [], ◌∷◌, ◌++◌, Float}
+use Rattle.std.specs.Prelude.{ℕ, ◌≤◌, ◌<◌, ◌≡◌, List, [], ◌∷◌, ◌++◌, Float, Err}
 use native.Mathlib.Omega.{arith}
 use Rattle.std.proofs.Math.Path.{refl}
 use Rattle.std.proofs.Common.{◌∙◌}
@@ -8,7 +8,6 @@ use Rattle.std.proofs.Math.ListN.{length, drop}
 use Rattle.std.proofs.Math.Seq.{length-sets}
 use Rattle.common.specs.Floats.{plus_zero}
 use Rattle.common.specs.Lists.{at, slice}
-use Rattle.common.specs.declared.Fate.TheVariants.{Going, Refused}
 use Rattle.problem.specs.declared.Problem.{Problem}
 use Rattle.planner.specs.Plans as Plans
 use Rattle.planner.specs.declared.Planned.{Planned}
@@ -19,6 +18,7 @@ use Rattle.text_writer.specs.PutLaws.{puts_most, puts_whole}
 use Rattle.text_writer.specs.Texts as Texts
 use Rattle.plan_text.specs.PlanTexts.{of_read, of_text, from_seed, path_text, printed, no_room, told, written, leaves, Prints, Tells}
 use Rattle.plan_text.specs.declared.Told.{Told}
+use Rattle.common.specs.Refusals.{refusal, going}
 
 -- ---- reading
 
@@ -45,17 +45,17 @@ module _ {a : Planned} {out out' : List ℕ} {r : Told} where
       let b : r.bytes ≡ i = rw e in
       record { is = e ∙ rw z; puts = rw b p }
 
-  pub prints_path : {i : ℕ} → a.fate ≡ Going → r ≡ record { fate = Going; runs = a.runs; bytes = i } → Puts out 0 (path_text a.runs a.path) 9970 out' i → Prints a out r out'
+  pub prints_path : {i : ℕ} → a.fate ≡ going → r ≡ record { fate = going; runs = a.runs; bytes = i } → Puts out 0 (path_text a.runs a.path) 9970 out' i → Prints a out r out'
   unfolding printed
   prints_path {i} f e p = prints {i = i} (e ∙ rw f) (rw f p)
 
-  pub prints_refusal : {n k : ℕ} → a.fate ≡ Refused n k → Prints (Plans.refused n k a.runs) out r out' → Prints a out r out'
+  pub prints_refusal : {n k : ℕ} → a.fate ≡ Err (refusal n k) → Prints (Plans.refused (refusal n k) a.runs) out r out' → Prints a out r out'
   unfolding printed
   prints_refusal f p = record { is = p.is ∙ rw f; puts = rw f p.puts }
 
-pub prints_refused : {n k runs i : ℕ} {out out' : List ℕ} → Puts out 0 (Texts.refused n k runs) 100 out' i → Prints (Plans.refused n k runs) out (record { fate = Refused n k; runs = runs; bytes = i }) out'
+pub prints_refused : {n k runs i : ℕ} {out out' : List ℕ} → Puts out 0 (Texts.refused n k runs) 100 out' i → Prints (Plans.refused (refusal n k) runs) out (record { fate = Err (refusal n k); runs = runs; bytes = i }) out'
 unfolding printed
-prints_refused {n} {k} {runs} {i} p = prints {a = Plans.refused n k runs} {i = i} refl (puts_most (omega arith) p)
+prints_refused {n} {k} {runs} {i} p = prints {a = Plans.refused (refusal n k) runs} {i = i} refl (puts_most (omega arith) p)
 
 -- ---- telling
 module _ (plan : ℕ → Planned) (ws : List Float) {out : List ℕ} {r : Told} where

@@ -1,9 +1,7 @@
 -- The plan of a problem's text, the bytes that are printed of it, and what is left of the lent buffers. Definitions only.
-use Rattle.std.specs.Prelude.{ℕ, ◌≤◌, ◌≡◌, cond, List, [], ◌∷◌, ◌++◌, eqb, ltb, length, drop, Float}
+use Rattle.std.specs.Prelude.{ℕ, ◌≤◌, ◌≡◌, cond, List, [], ◌∷◌, ◌++◌, eqb, ltb, length, drop, Float, Ok, Err}
 use Rattle.common.specs.Floats.{plus_zero}
 use Rattle.common.specs.Lists.{at, slice}
-use Rattle.common.specs.declared.Fate.{Fate}
-use Rattle.common.specs.declared.Fate.TheVariants.{Going, Refused}
 use Rattle.problem.specs.declared.Problem.{Problem}
 use Rattle.planner.specs.Plans as Plans
 use Rattle.planner.specs.declared.Path.{Path}
@@ -13,13 +11,14 @@ use Rattle.problem_text.specs.declared.Read.{Read}
 use Rattle.text_writer.specs.Puts.{Puts}
 use Rattle.text_writer.specs.Texts as Texts
 use Rattle.plan_text.specs.declared.Told.{Told}
+use Rattle.common.specs.Refusals.{Fate, refusal}
 
 -- ---- the plan of a text
 
 -- 21 comes before every other check, and before any run
 abbrev pub read_by : Fate → Problem → (Problem → Planned) → Planned
-read_by (Refused number line) p plan = Plans.refused number line 0
-read_by Going p plan = plan p
+read_by (Err why) p plan = Plans.refused why 0
+read_by (Ok _) p plan = plan p
 
 -- the plan of what was read
 abbrev pub of_read : Read → (Problem → Planned) → Planned
@@ -48,8 +47,8 @@ abbrev pub path_text : ℕ → Path → List ℕ
 path_text runs path = Texts.path runs path.iterations path.controls path.wheels path.z path.nodes
 
 abbrev pub printed_by : Fate → ℕ → Path → List ℕ
-printed_by (Refused number place) runs path = Texts.refused number place runs
-printed_by Going runs path = path_text runs path
+printed_by (Err why) runs path = Texts.refused why.number why.place runs
+printed_by (Ok _) runs path = path_text runs path
 
 unfoldable pub printed : Planned → List ℕ
 printed a = printed_by a.fate a.runs a.path
@@ -58,7 +57,7 @@ printed a = printed_by a.fate a.runs a.path
 
 -- 99, which is no refusal's number
 abbrev pub no_room : Told
-no_room = record { fate = Refused 99 0; runs = 0; bytes = 0 }
+no_room = record { fate = Err (refusal 99 0); runs = 0; bytes = 0 }
 
 abbrev pub wholly : Planned → Told
 wholly a = record { fate = a.fate; runs = a.runs; bytes = length (printed a) }

@@ -2,12 +2,13 @@
 #![tactic(auto)]
 
 ghost use Rattle.std.specs.Prelude.{◌≡◌, ◌≤◌, length};
+ghost use Rattle.common.specs.Refusals.{refusal};
 ghost use Rattle.planner.specs.Plans as Plans;
 ghost use Rattle.text_writer.specs.Puts.{Puts};
 ghost use Rattle.plan_text.specs.PlanTexts as PlanTexts;
 ghost use Rattle.plan_text.specs.PlanTexts.{Prints, Tells, planned, planned_from};
 
-use common::Fate;
+use common::Refusal;
 use planner::{Path, Planned, plan, plan_from, refused};
 use problem::Problem;
 use problem_text::Read;
@@ -16,7 +17,7 @@ use text_writer::{write_path, write_refused};
 // How a text's plan ended, the forward runs begun, and how many bytes were written.
 #[derive(Clone, Copy)]
 pub struct Told {
-    pub fate: Fate,
+    pub fate: Result<(), Refusal>,
     pub runs: usize,
     pub bytes: usize,
 }
@@ -40,11 +41,11 @@ fn print_path(runs: usize, path: Path, out: &mut [u8]) -> usize
 
 // A refusal.
 pub fn tell_refused(number: usize, place: usize, runs: usize, out: &mut [u8]) -> Told
-    ensures { Prints (Plans.refused number place runs) out.old result out.new }
+    ensures { Prints (Plans.refused (refusal number place) runs) out.old result out.new }
 {
     let bytes = write_refused(out, number, place, runs);
     Told {
-        fate: Fate::Refused(number, place),
+        fate: Err(Refusal { number, place }),
         runs: runs,
         bytes: bytes,
     }
@@ -56,12 +57,12 @@ pub fn tell(a: Planned, out: &mut [u8]) -> Told
 {
     let fate = a.fate;
     match fate {
-        Fate::Refused(number, place) => tell_refused(number, place, a.runs, out),
-        Fate::Going => {
+        Err(refusal) => tell_refused(refusal.number, refusal.place, a.runs, out),
+        Ok(()) => {
             let path = a.path;
             let bytes = print_path(a.runs, path, out);
             Told {
-                fate: Fate::Going,
+                fate: Ok(()),
                 runs: a.runs,
                 bytes: bytes,
             }
@@ -74,7 +75,10 @@ pub fn no_room() -> Told
     ensures { result ≡ PlanTexts.no_room }
 {
     Told {
-        fate: Fate::Refused(99, 0),
+        fate: Err(Refusal {
+            number: 99,
+            place: 0,
+        }),
         runs: 0,
         bytes: 0,
     }
@@ -87,8 +91,8 @@ pub fn plan_read(read: Read, ws: &mut [f64]) -> Planned
 {
     let fate = read.fate;
     match fate {
-        Fate::Refused(number, line) => refused(number, line, 0),
-        Fate::Going => {
+        Err(why) => refused(why, 0),
+        Ok(()) => {
             let p = read.problem;
             plan(p, ws)
         }
@@ -123,8 +127,8 @@ fn plan_read_from(read: Read, seed: &[f64], ws: &mut [f64]) -> Planned
 {
     let fate = read.fate;
     match fate {
-        Fate::Refused(number, line) => refused(number, line, 0),
-        Fate::Going => {
+        Err(why) => refused(why, 0),
+        Ok(()) => {
             let p = read.problem;
             plan_seeded(p, seed, ws)
         }

@@ -1,4 +1,5 @@
 -- Every f64 of a parameter that is handed over by value is a number of binary64. Assumes nothing.
+use Rattle.std.specs.Prelude.{Option, Some, None}
 use mathlib.Core.Bool.{true}
 use mathlib.Core.Path.{◌≡◌, subst, sym}
 use mathlib.Core.List.{List, [], ◌∷◌}
@@ -13,15 +14,11 @@ use denote.Array.{Array, each}
 use denote.Shadow.{shadow}
 use denote.Laws.{Is}
 use Rattle.common.specs.Lists.{at}
-use Rattle.common.specs.declared.Limit.{Limit}
-use Rattle.common.specs.declared.Limit.TheVariants.{Nothing, At}
-use Rattle.common.specs.contracts.Limit as LimitOf
+use Rattle.std.specs.contracts.option.Option as OptionOf
 use Rattle.geom.specs.declared.Quat.{Quat}
 use Rattle.geom.specs.contracts.Quat as QuatOf
 use Rattle.actuators.specs.Maps.{wheel_at, thruster_at}
-use Rattle.actuators.specs.declared.Cmgs.{Cmgs}
-use Rattle.actuators.specs.declared.Cmgs.TheVariants.{Without, With}
-use Rattle.actuators.specs.contracts.Cmgs as CmgsOf
+use Rattle.actuators.specs.contracts.CmgPyramid as CmgPyramidOf
 use Rattle.actuators.specs.declared.Wheel.{Wheel}
 use Rattle.actuators.specs.declared.Thruster.{Thruster}
 use Rattle.actuators.specs.declared.Actuators.{Actuators}
@@ -36,6 +33,7 @@ use Rattle.run_laws.specs.Checked.{SlewFits, FitsP}
 use Rattle.search_laws.specs.Fits.{Fit}
 use Rattle.search_laws.specs.Prepared.{FitsA}
 use Rattle.search_laws.specs.DeclaredLaws.{given_fits}
+use Rattle.actuators.specs.declared.CmgPyramid.{CmgPyramid}
 
 held : (x : Float) → fits binary64 x ≡ true → T (fits binary64 x)
 held x e = subst T (sym e) tt
@@ -66,9 +64,9 @@ pub array_held : (n : ℕ) (xs : List Float) (vs : List Val) → Is (Array (Floa
 array_held n xs vs g = field_held xs g.0 g.1.1
 
 -- ---- the actuators
-rate_held : (c : Cmgs) (vs : List Val) → Is CmgsOf.the_row c vs → RateFits c
-rate_held Without vs g = tt
-rate_held (With y) vs g = held _ g.1.1.1.1.0.1.1.1.1.0.1
+rate_held : (c : Option CmgPyramid) (vs : List Val) → Is (OptionOf.the_row CmgPyramidOf.the_row) c vs → RateFits c
+rate_held None vs g = tt
+rate_held (Some y) vs g = held _ g.1.1.1.1.0.1.1.1.1.0.1
 
 actuators_held : (a : Actuators) (vs : List Val) → Is ActuatorsOf.the_row a vs → FitsA a
 actuators_held a vs g =
@@ -82,9 +80,9 @@ actuators_held a vs g =
     }
 
 -- ---- the problem as a user gives it
-slew_held : (l : Limit) (vs : List Val) → Is LimitOf.the_row l vs → SlewFits l
-slew_held Nothing vs g = tt
-slew_held (At r) vs g = held r g.1.1.1.1.0.1
+slew_held : (l : Option Float) (vs : List Val) → Is (OptionOf.the_row (FloatOf binary64)) l vs → SlewFits l
+slew_held None vs g = tt
+slew_held (Some r) vs g = held r g.1.1.1.1.0.1
 
 quat_held : (q : Quat) (vs : List Val) → Is QuatOf.the_row q vs → FitsQ q
 quat_held q vs g =

@@ -1,11 +1,9 @@
 -- What the stages answer, in the code's steps, and what is left in the workspace. Assumes nothing.
-use Rattle.std.specs.Prelude.{ℕ, ◌<◌, ◌≤◌, ◌≡◌, Bool, true, false, cond, ◌&&◌, List, eqb, length, replicate, Float}
+use Rattle.std.specs.Prelude.{ℕ, ◌<◌, ◌≤◌, ◌≡◌, Bool, true, false, cond, ◌&&◌, List, eqb, length, replicate, Float, Ok, Err}
 use Rattle.std.proofs.Math.Path.{refl}
 use Rattle.std.proofs.Common.{arith}
 use borrow.Author.Tests.{eqb-true, eq-eqb, ne_eqb, lt-ltb, le-ltb}
 use Rattle.common.specs.Floats.{plus_zero}
-use Rattle.common.specs.declared.Fate.{Fate}
-use Rattle.common.specs.declared.Fate.TheVariants.{Going, Refused}
 use Rattle.geom.specs.Vec.{is_positive_value}
 use Rattle.actuators.specs.Maps.{is_sized}
 use Rattle.problem.proofs.Passed.{passed_sized}
@@ -17,9 +15,10 @@ use Rattle.scvx.specs.Search.{search, room}
 use Rattle.scvx.specs.declared.Found.{Found}
 use Rattle.end_checks.specs.Ends.{end_fate}
 use Rattle.planner.specs.Plans as Plans
+use Rattle.common.specs.Refusals.{Fate, refusal, going}
 
 -- where the checks pass, the actuators' counts are within their tables
-pub sized_as : (p : Problem) {c : Checked} → c ≡ check p → c.fate ≡ Going → is_sized c.problem.map ≡ true
+pub sized_as : (p : Problem) {c : Checked} → c ≡ check p → c.fate ≡ going → is_sized c.problem.map ≡ true
 sized_as p e h = rw e (passed_sized p (rw e at h))
 
 -- ---- the count of a caller's seed
@@ -39,17 +38,17 @@ module _ (rates torques : List Float) where
 
 -- ---- 10 and 9, in the code's order
 module _ (p : CheckedProblem) (duration : Float) (torques : List Float) (size : ℕ) where
-  pub seeded_uncounted : {counted : Bool} → counted ≡ false → Plans.refused 10 0 0 ≡ Plans.seeded p counted duration torques size
+  pub seeded_uncounted : {counted : Bool} → counted ≡ false → Plans.refused (refusal 10 0) 0 ≡ Plans.seeded p counted duration torques size
   unfolding Plans.seeded
   seeded_uncounted e = rw e refl
 
   module _ {counted positive : Bool} (c : counted ≡ true) (d : positive ≡ is_positive_value duration) where
-    pub seeded_untimed : positive ≡ false → Plans.refused 10 0 0 ≡ Plans.seeded p counted duration torques size
+    pub seeded_untimed : positive ≡ false → Plans.refused (refusal 10 0) 0 ≡ Plans.seeded p counted duration torques size
     unfolding Plans.seeded
     seeded_untimed e = rw (c, ← d, e) refl
 
     module _ (t : positive ≡ true) {n : ℕ} (s : n ≡ room p) where
-      pub seeded_short : size < n → Plans.refused 9 0 0 ≡ Plans.seeded p counted duration torques size
+      pub seeded_short : size < n → Plans.refused (refusal 9 0) 0 ≡ Plans.seeded p counted duration torques size
       unfolding Plans.seeded
       seeded_short h = rw (c, ← d, t, ← s, lt-ltb size n h) refl
 
@@ -59,12 +58,12 @@ module _ (p : CheckedProblem) (duration : Float) (torques : List Float) (size : 
 
 -- ---- every answer after the search carries its runs
 runs_ended : (e : Fate) (p : CheckedProblem) (f : Found) (held : List ℕ) → (Plans.ended_by_value e p f held).runs ≡ f.runs
-runs_ended Going p f held = refl
-runs_ended (Refused n k) p f held = refl
+runs_ended (Ok _) p f held = refl
+runs_ended (Err why) p f held = refl
 
 runs_found : (e : Fate) (p : CheckedProblem) (f : Found) (held : List ℕ) → (Plans.found_by e p f held).runs ≡ f.runs
-runs_found Going p f held = runs_ended (end_fate p f.run) p f held
-runs_found (Refused n k) p f held = refl
+runs_found (Ok _) p f held = runs_ended (end_fate p f.run) p f held
+runs_found (Err why) p f held = refl
 
 pub answered_runs : (p : CheckedProblem) (f : Found) (held : List ℕ) → (Plans.answered p f held).runs ≡ f.runs
 unfolding Plans.answered

@@ -1,18 +1,15 @@
 -- Demand 3, whole: what holds of an answered path, for every problem, every seed and every workspace. In the specification's words. Definitions only.
-use Rattle.std.specs.Prelude.{◌≡◌, false, List, [], ◌∷◌, ℕ, ◌+◌, ◌*◌, ◌<◌, ◌≤◌, T, ◌+ℤ◌, ◌<ℤ◌, Float}
+use Rattle.std.specs.Prelude.{◌≡◌, false, List, [], ◌∷◌, ℕ, ◌+◌, ◌*◌, ◌<◌, ◌≤◌, T, ◌+ℤ◌, ◌<ℤ◌, Float, Some}
 use Rattle.std.specs.Float.Ieee.{le}
 use Rattle.std.specs.Float.Ieee.Scale.{finite}
 use Rattle.common.specs.Floats.{plus_zero}
 use Rattle.common.specs.Answer.{Answer, Given, Refused}
 use Rattle.common.specs.Lists.{at}
-use Rattle.common.specs.declared.Fate.TheVariants.{Going}
 use Rattle.float.specs.Ops.{abs}
 use Rattle.float_laws.specs.Exact.{exact}
 use Rattle.float_laws.specs.Limits.{next_above_nano}
 use Rattle.geom.specs.Quats.{norm3, normalized}
 use Rattle.geom.specs.declared.Quat.{Quat}
-use Rattle.geom.specs.declared.Normal.TheVariants as Normal
-use Rattle.geom.specs.declared.Rotation.TheVariants as Rotation
 use Rattle.control_rows.specs.Parts.{body_momentum}
 use Rattle.held_counts.specs.Counts.{count_at_value}
 use Rattle.profile.specs.Seeds.{sample_seed}
@@ -37,6 +34,7 @@ use Rattle.search_laws.specs.Declared.{controls_of, control_limit, momentum_limi
 use Rattle.planner.specs.Plans as Plans
 use Rattle.planner.specs.declared.Path.{Path}
 use Rattle.planner.specs.declared.Planned.{Planned}
+use Rattle.common.specs.Refusals.{refusal, going}
 
 -- ---- words
 
@@ -49,11 +47,11 @@ pub record PassesByLess (t l : Float) : Type 0 where
 -- one that 14 tests.
 pub record EndError (p : Problem) (n : Node) : Type 0 where
   pub qf : Quat
-  pub qf_is : normalized p.norm_tolerance p.qf ≡ Normal.Is qf
+  pub qf_is : normalized p.norm_tolerance p.qf ≡ Some qf
   pub x : Float
   pub y : Float
   pub z : Float
-  pub is : error_of n.q qf ≡ Rotation.By x y z
+  pub is : error_of n.q qf ≡ Some (x, y, z)
   pub small : T (le (norm3 (x ∷ y ∷ z ∷ [])) tolerance)
 
 -- the decision of our own entry's seed, which is sampled from the problem's profile
@@ -90,7 +88,7 @@ pub record Promised (p : Problem) (seed : List Float) (path : Path) (reported : 
   pub width : path.controls ≡ controls_of p.actuators
   pub wheels : path.wheels ≡ p.actuators.wheel_count
   -- its duration and sixteen control rows, run once through the step law from the problem's start with no search, give exactly its nodes
-  pub rerun_goes : (reconstruct p path.z).run.fate ≡ Going
+  pub rerun_goes : (reconstruct p path.z).run.fate ≡ going
   pub rerun_once : (reconstruct p path.z).runs ≡ 1
   pub rerun_nodes : (reconstruct p path.z).run.nodes ≡ path.nodes
   pub rerun_defect : (reconstruct p path.z).run.defect ≡ path.max_defect
@@ -108,8 +106,8 @@ pub record Promised (p : Problem) (seed : List Float) (path : Path) (reported : 
   pub momenta : (k : ℕ) → k < 17 → (i : ℕ) → i < p.actuators.wheel_count → PassesByLess (at (node_at path.nodes k).hw i) (momentum_limit p i)
   -- its residual length is below the seed's, or its decision is the seed's, bit for bit; neither decision's residuals are refused
   pub residual : Better (residual_length p) seed path.z
-  pub measured : (residuals p path.z).residuals.fate ≡ Going
-  pub seed_measured : (residuals p seed).residuals.fate ≡ Going
+  pub measured : (residuals p path.z).residuals.fate ≡ going
+  pub seed_measured : (residuals p seed).residuals.fate ≡ going
   -- the forward runs reported are the number that the search definition begins on that problem and seed
   pub runs : reported ≡ (search (check p).problem seed).runs
   pub bound : reported ≤ 40 * (16 * controls_of p.actuators + 3) + 2
@@ -130,4 +128,4 @@ pub record Promised (p : Problem) (seed : List Float) (path : Path) (reported : 
 -- ---- what an entry's answer r says, in the specification's numbers: a path of which demand 3 holds, or a refusal beside which the path is blank
 pub record Answers (p : Problem) (seed : List Float) (r : Planned) : Type 0 where
   pub given : (path : Path) → Plans.answer r ≡ Given path → Promised p seed path r.runs
-  pub refused : (number place runs : ℕ) → Plans.answer r ≡ Refused number place runs → r ≡ Plans.refused number place runs
+  pub refused : (number place runs : ℕ) → Plans.answer r ≡ Refused number place runs → r ≡ Plans.refused (refusal number place) runs

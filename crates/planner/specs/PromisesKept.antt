@@ -1,5 +1,5 @@
 -- Demand 3 is kept: by the entry with a caller's seed, and by our own entry. Assumes nothing.
-use Rattle.std.specs.Prelude.{◌≡◌, Bool, not, cond, ◌&&◌, List, ℕ, ◌<◌, ◌≤◌, T, ltb, length, Float}
+use Rattle.std.specs.Prelude.{◌≡◌, Bool, not, cond, ◌&&◌, List, ℕ, ◌<◌, ◌≤◌, T, ltb, length, Float, Ok, Err}
 use Rattle.std.proofs.Math.Path.{refl, ap}
 use Rattle.std.proofs.Common.{sym, ◌∙◌, arith, ltb→lt, nltb→le}
 use Rattle.std.proofs.Math.Bool.{true, false}
@@ -7,8 +7,6 @@ use Rattle.std.specs.Float.{binary64}
 use Rattle.std.specs.Float.Ieee.{le, fits, of_bits}
 use Rattle.std.specs.Float.Ieee.Scale.{finite}
 use Rattle.common.specs.Lists.{at}
-use Rattle.common.specs.declared.Fate.{Fate}
-use Rattle.common.specs.declared.Fate.TheVariants.{Going, Refused}
 use Rattle.float.specs.Ops.{abs}
 use Rattle.float_laws.specs.Limits.{Limit, Under, under_exact}
 use Rattle.geom.specs.Vec.{tensor, is_positive_value}
@@ -55,6 +53,7 @@ use Rattle.planner.specs.Plans as Plans
 use Rattle.planner.specs.HeldKept.{path_held, counts_most, counts_past}
 use Rattle.planner.specs.Promises.{PassesByLess, residual_length, Promised, own_seed, own_held}
 use Rattle.planner.specs.declared.Planned.{Planned}
+use Rattle.common.specs.Refusals.{Fate, refusal, going}
 
 -- ---- from the checked problem's numbers to the user's
 passes : (t l k : Float) → l ≡ k → Limit l → Under t l → PassesByLess t k
@@ -72,20 +71,20 @@ wheels_finite n hw f g i h = go (ltb i n) (ltb→lt i n) (nltb→le i n)
     go false x y = rw (g i (y tt) h) (unfold of_bits in tt)
 
 -- the user's own call of `residuals` on a problem that is admitted is that of the checked problem, after one run
-measure : (p : Problem) (z : List Float) → (admit p).fate ≡ Going → residuals p z ≡ record { runs = 1; residuals = residuals_of (admit p).problem z }
+measure : (p : Problem) (z : List Float) → (admit p).fate ≡ going → residuals p z ≡ record { runs = 1; residuals = residuals_of (admit p).problem z }
 unfolding residuals
 measure p z h = ap (λ (e : Fate). residuals_by e (admit p).problem z) h
 
-going : (e : Fate) → T (goes e) → e ≡ Going
-going Going t = refl
-going (Refused n k) t = absurd t
+from_goes : (e : Fate) → T (goes e) → e ≡ going
+from_goes (Ok _) t = refl
+from_goes (Err why) t = absurd t
 
 -- what is promised of an answer with a path, and where its search stays at the seed its counts are the seed's
 abbrev Held : Problem → List Float → List ℕ → Planned → Type 0
 Held p seed counts r = Promised p seed r.path r.runs × ((search (check p).problem seed).tried ≡ false → r.path.held ≡ counts)
 
 -- ---- a problem that passed the checks, with actuators that are served
-module _ (p : Problem) (F : FitsP p) (passed : (check p).fate ≡ Going) (serves : served (check p).problem.map ≡ Going) where
+module _ (p : Problem) (F : FitsP p) (passed : (check p).fate ≡ going) (serves : served (check p).problem.map ≡ going) where
   abbrev c : CheckedProblem
   c = (check p).problem
 
@@ -112,8 +111,8 @@ module _ (p : Problem) (F : FitsP p) (passed : (check p).fate ≡ Going) (serves
   measured_once : (z : List Float) → residuals p z ≡ record { runs = 1; residuals = residuals_of c z }
   measured_once z = let e : check p ≡ admit p = admit_narrow p refl refl narrow in measure p z (rw (← e) passed) ∙ rw (← e) refl
 
-  measured_goes : (z : List Float) → T (goes (residuals_of c z).fate) → (residuals p z).residuals.fate ≡ Going
-  measured_goes z t = ap (λ (x : Measured). x.residuals.fate) (measured_once z) ∙ going (residuals_of c z).fate t
+  measured_goes : (z : List Float) → T (goes (residuals_of c z).fate) → (residuals p z).residuals.fate ≡ going
+  measured_goes z t = ap (λ (x : Measured). x.residuals.fate) (measured_once z) ∙ from_goes (residuals_of c z).fate t
 
   length_same : (z : List Float) → T (goes (residuals_of c z).fate) → Search.residual_length c z ≡ residual_length p z
   unfolding Search.width
@@ -182,66 +181,66 @@ module _ (p : Problem) (F : FitsP p) (passed : (check p).fate ≡ Going) (serves
           starts : ((node_at (search c seed).run.nodes 0).hw ≡ c.momenta) × ((node_at (search c seed).run.nodes 0).h ≡ body_momentum c.map.wheel_axes c.map.wheel_count c.momenta)
           starts = unfold node_of start in (ap (λ (n : Node). n.hw) A.path.first, ap (λ (n : Node). n.h) A.path.first)
 
-      ends : (b : Fate) → end_fate c (search c seed).run ≡ b → T (goes (search c seed).fate) → (Plans.ended_by_value b c (search c seed) counts).fate ≡ Going → Held p seed counts (Plans.ended_by_value b c (search c seed) counts)
-      ends Going e t g = (found t (rw e tt), λ h. rw h refl)
-      ends (Refused n k) e t g = absurd (refused_going g)
+      ends : (b : Fate) → end_fate c (search c seed).run ≡ b → T (goes (search c seed).fate) → (Plans.ended_by_value b c (search c seed) counts).fate ≡ going → Held p seed counts (Plans.ended_by_value b c (search c seed) counts)
+      ends (Ok _) e t g = (found t (rw e tt), λ h. rw h refl)
+      ends (Err why) e t g = absurd (refused_going g)
 
-      finds : (a : Fate) → (search c seed).fate ≡ a → (Plans.found_by a c (search c seed) counts).fate ≡ Going → Held p seed counts (Plans.found_by a c (search c seed) counts)
-      finds Going e g = ends (end_fate c (search c seed).run) refl (rw e tt) g
-      finds (Refused n k) e g = absurd (refused_going g)
+      finds : (a : Fate) → (search c seed).fate ≡ a → (Plans.found_by a c (search c seed) counts).fate ≡ going → Held p seed counts (Plans.found_by a c (search c seed) counts)
+      finds (Ok _) e g = ends (end_fate c (search c seed).run) refl (rw e tt) g
+      finds (Err why) e g = absurd (refused_going g)
 
-      searched : (a b : Bool) → (cond a (cond b (Plans.refused 9 0 0) (Plans.answered c (search c seed) counts)) (Plans.refused 10 0 0)).fate ≡ Going
-          → Held p seed counts (cond a (cond b (Plans.refused 9 0 0) (Plans.answered c (search c seed) counts)) (Plans.refused 10 0 0))
+      searched : (a b : Bool) → (cond a (cond b (Plans.refused (refusal 9 0) 0) (Plans.answered c (search c seed) counts)) (Plans.refused (refusal 10 0) 0)).fate ≡ going
+          → Held p seed counts (cond a (cond b (Plans.refused (refusal 9 0) 0) (Plans.answered c (search c seed) counts)) (Plans.refused (refusal 10 0) 0))
       unfolding Plans.answered
       searched true true g = absurd (refused_going g)
       searched true false g = finds (search c seed).fate refl g
       searched false b g = absurd (refused_going g)
 
-      seeds : (counted : Bool) (size : ℕ) → (Plans.seeded c counted duration torques size).fate ≡ Going → Held p seed counts (Plans.seeded c counted duration torques size)
+      seeds : (counted : Bool) (size : ℕ) → (Plans.seeded c counted duration torques size).fate ≡ going → Held p seed counts (Plans.seeded c counted duration torques size)
       unfolding Plans.seeded
       seeds counted size g = searched (counted && is_positive_value duration) (ltb size (room c)) g
 
 -- ---- a problem that passed the checks
-module _ (p : Problem) (F : FitsP p) (passed : (check p).fate ≡ Going) (duration : Float) (torques : List Float) where
+module _ (p : Problem) (F : FitsP p) (passed : (check p).fate ≡ going) (duration : Float) (torques : List Float) where
   abbrev q : CheckedProblem
   q = (check p).problem
 
-  with_seed_law : (counted : Bool) (size : ℕ) → (served q.map ≡ Going → Fit (Plans.seed_of q duration torques)) → (Plans.with_seed q counted duration torques size).fate ≡ Going
+  with_seed_law : (counted : Bool) (size : ℕ) → (served q.map ≡ going → Fit (Plans.seed_of q duration torques)) → (Plans.with_seed q counted duration torques size).fate ≡ going
       → Held p (Plans.seed_of q duration torques) (Plans.seed_held_of q duration torques) (Plans.with_seed q counted duration torques size)
   unfolding Plans.with_seed
   with_seed_law counted size G g = go (served q.map) refl g
     where
-      go : (e : Fate) → served q.map ≡ e → (Plans.served_by e q counted duration torques size).fate ≡ Going → Held p (Plans.seed_of q duration torques) (Plans.seed_held_of q duration torques) (Plans.served_by e q counted duration torques size)
-      go Going h g = seeds p F passed h duration torques (G h) counted size g
-      go (Refused n k) h g = absurd (refused_going g)
+      go : (e : Fate) → served q.map ≡ e → (Plans.served_by e q counted duration torques size).fate ≡ going → Held p (Plans.seed_of q duration torques) (Plans.seed_held_of q duration torques) (Plans.served_by e q counted duration torques size)
+      go (Ok _) h g = seeds p F passed h duration torques (G h) counted size g
+      go (Err why) h g = absurd (refused_going g)
 
 -- ---- DEMAND 3 of the entry with a caller's seed: f64 holds the problem's numbers and those of the seed's decision
 module _ (p : Problem) (F : FitsP p) where
-  from_whole : (duration : Float) (rates torques : List Float) (size : ℕ) → Fit (Plans.seed_of (check p).problem duration torques) → (Plans.plan_from p duration rates torques size).fate ≡ Going
+  from_whole : (duration : Float) (rates torques : List Float) (size : ℕ) → Fit (Plans.seed_of (check p).problem duration torques) → (Plans.plan_from p duration rates torques size).fate ≡ going
       → Held p (Plans.seed_of (check p).problem duration torques) (Plans.seed_held_of (check p).problem duration torques) (Plans.plan_from p duration rates torques size)
   unfolding Plans.plan_from
   from_whole duration rates torques size G g = go (check p).fate refl g
     where
-      go : (e : Fate) → (check p).fate ≡ e → (Plans.plan_from_by e (check p).problem duration rates torques size).fate ≡ Going
+      go : (e : Fate) → (check p).fate ≡ e → (Plans.plan_from_by e (check p).problem duration rates torques size).fate ≡ going
           → Held p (Plans.seed_of (check p).problem duration torques) (Plans.seed_held_of (check p).problem duration torques) (Plans.plan_from_by e (check p).problem duration rates torques size)
-      go Going h g = with_seed_law p F h duration torques (Plans.counted rates torques) size (λ s. G) g
-      go (Refused n k) h g = absurd (refused_going g)
+      go (Ok _) h g = with_seed_law p F h duration torques (Plans.counted rates torques) size (λ s. G) g
+      go (Err why) h g = absurd (refused_going g)
 
-  pub plan_from_promised : (duration : Float) (rates torques : List Float) (size : ℕ) → Fit (Plans.seed_of (check p).problem duration torques) → (Plans.plan_from p duration rates torques size).fate ≡ Going
+  pub plan_from_promised : (duration : Float) (rates torques : List Float) (size : ℕ) → Fit (Plans.seed_of (check p).problem duration torques) → (Plans.plan_from p duration rates torques size).fate ≡ going
       → Promised p (Plans.seed_of (check p).problem duration torques) (Plans.plan_from p duration rates torques size).path (Plans.plan_from p duration rates torques size).runs
   plan_from_promised duration rates torques size G g = (from_whole duration rates torques size G g).0
 
   -- a path whose search stays at the caller's seed has the counts of the seed's allocated rows
-  pub plan_from_held : (duration : Float) (rates torques : List Float) (size : ℕ) → Fit (Plans.seed_of (check p).problem duration torques) → (Plans.plan_from p duration rates torques size).fate ≡ Going
+  pub plan_from_held : (duration : Float) (rates torques : List Float) (size : ℕ) → Fit (Plans.seed_of (check p).problem duration torques) → (Plans.plan_from p duration rates torques size).fate ≡ going
       → (search (check p).problem (Plans.seed_of (check p).problem duration torques)).tried ≡ false → (Plans.plan_from p duration rates torques size).path.held ≡ Plans.seed_held_of (check p).problem duration torques
   plan_from_held duration rates torques size G g = (from_whole duration rates torques size G g).1
 
   -- where f64 holds the caller's numbers, it holds those of the decision
-  pub caller_fits : (duration : Float) (torques : List Float) → (check p).fate ≡ Going → served (check p).problem.map ≡ Going → T (fits binary64 duration) → Fit torques → Fit (Plans.seed_of (check p).problem duration torques)
+  pub caller_fits : (duration : Float) (torques : List Float) → (check p).fate ≡ going → served (check p).problem.map ≡ going → T (fits binary64 duration) → Fit torques → Fit (Plans.seed_of (check p).problem duration torques)
   caller_fits duration torques h s = fitted p F h s duration torques
 
   -- ---- DEMAND 3 of our own entry: f64 holds the problem's numbers
-  own_whole : (size : ℕ) → (Plans.plan p size).fate ≡ Going → Held p (own_seed (check p).problem) (own_held (check p).problem) (Plans.plan p size)
+  own_whole : (size : ℕ) → (Plans.plan p size).fate ≡ going → Held p (own_seed (check p).problem) (own_held (check p).problem) (Plans.plan p size)
   unfolding Plans.plan Plans.with_profile
   own_whole size g = go (check p).fate refl g
     where
@@ -251,20 +250,20 @@ module _ (p : Problem) (F : FitsP p) where
       s : Seed
       s = sample_seed (Plans.profiled c).profile
 
-      own : (check p).fate ≡ Going → served c.map ≡ Going → Fit (own_seed c)
+      own : (check p).fate ≡ going → served c.map ≡ going → Fit (own_seed c)
       own h k = caller_fits s.duration s.torques h k (unfold Plans.profiled in duration_fits c.q0 (tensor c.inertia) c.torque_limit c.slew c.qf c.tie_tolerance) (torques_fit (Plans.profiled c).profile 17)
 
-      profile : (e : Fate) → (check p).fate ≡ Going → (Plans.profiled_by e c (Plans.profiled c).profile size).fate ≡ Going → Held p (own_seed c) (own_held c) (Plans.profiled_by e c (Plans.profiled c).profile size)
-      profile Going h g = with_seed_law p F h s.duration s.torques true size (own h) g
-      profile (Refused n k) h g = absurd (refused_going g)
+      profile : (e : Fate) → (check p).fate ≡ going → (Plans.profiled_by e c (Plans.profiled c).profile size).fate ≡ going → Held p (own_seed c) (own_held c) (Plans.profiled_by e c (Plans.profiled c).profile size)
+      profile (Ok _) h g = with_seed_law p F h s.duration s.torques true size (own h) g
+      profile (Err why) h g = absurd (refused_going g)
 
-      go : (e : Fate) → (check p).fate ≡ e → (Plans.plan_by e c size).fate ≡ Going → Held p (own_seed c) (own_held c) (Plans.plan_by e c size)
-      go Going h g = profile (Plans.profiled c).fate h g
-      go (Refused n k) h g = absurd (refused_going g)
+      go : (e : Fate) → (check p).fate ≡ e → (Plans.plan_by e c size).fate ≡ going → Held p (own_seed c) (own_held c) (Plans.plan_by e c size)
+      go (Ok _) h g = profile (Plans.profiled c).fate h g
+      go (Err why) h g = absurd (refused_going g)
 
-  pub plan_promised : (size : ℕ) → (Plans.plan p size).fate ≡ Going → Promised p (own_seed (check p).problem) (Plans.plan p size).path (Plans.plan p size).runs
+  pub plan_promised : (size : ℕ) → (Plans.plan p size).fate ≡ going → Promised p (own_seed (check p).problem) (Plans.plan p size).path (Plans.plan p size).runs
   plan_promised size g = (own_whole size g).0
 
   -- a path whose search stays at our own seed has the counts of the seed's allocated rows
-  pub plan_held : (size : ℕ) → (Plans.plan p size).fate ≡ Going → (search (check p).problem (own_seed (check p).problem)).tried ≡ false → (Plans.plan p size).path.held ≡ own_held (check p).problem
+  pub plan_held : (size : ℕ) → (Plans.plan p size).fate ≡ going → (search (check p).problem (own_seed (check p).problem)).tried ≡ false → (Plans.plan p size).path.held ≡ own_held (check p).problem
   plan_held size g = (own_whole size g).1

@@ -4,7 +4,7 @@
 
 ghost use Rattle.std.specs.Prelude.{◌≡◌, Bool, true, ◌≤◌, length, replicate};
 ghost use Rattle.common.specs.Floats.{plus_zero};
-ghost use Rattle.common.specs.declared.Fate.TheVariants.{Going};
+ghost use Rattle.common.specs.Refusals.{refusal};
 ghost use Rattle.actuators.specs.Maps.{is_sized, control_dim};
 ghost use Rattle.scvx.specs.Search as Search;
 ghost use Rattle.planner.specs.Plans as Plans;
@@ -14,7 +14,7 @@ ghost use Rattle.search_laws.specs.Fits.{Fit};
 ghost use Rattle.problem.specs.Problems as Problems;
 
 use actuators::control_dim;
-use common::{DECISION_NUMBERS, Decision, Fate, SOLVER_NODES};
+use common::{DECISION_NUMBERS, Decision, Refusal, SOLVER_NODES};
 use end_checks::end_checks;
 use forward::Node;
 use forward::runs::blank_node;
@@ -43,79 +43,73 @@ pub struct Path {
 // What an entry answers: how it ended, the forward runs begun, the path.
 #[derive(Clone, Copy)]
 pub struct Planned {
-    pub fate: Fate,
+    pub fate: Result<(), Refusal>,
     pub runs: usize,
     pub path: Path,
 }
 
-// No path, beside a refusal's number, place and runs.
-pub fn refused(number: usize, place: usize, runs: usize) -> Planned
-    ensures { result ≡ Plans.refused number place runs }
+// No path, beside a refusal and its runs.
+pub fn refused(why: Refusal, runs: usize) -> Planned
+    ensures { result ≡ Plans.refused why runs }
 {
-    let z = [0.0; DECISION_NUMBERS];
-    let blank = blank_node();
-    let nodes = [blank; SOLVER_NODES];
-    let held: [usize; 12] = [0; 12];
     let path = Path {
         duration: 0.0,
         controls: 0,
         wheels: 0,
         iterations: 0,
         max_defect: 0.0,
-        z: z,
-        nodes: nodes,
-        held: held,
+        z: [0.0; DECISION_NUMBERS],
+        nodes: [blank_node(); SOLVER_NODES],
+        held: [0; 12],
     };
     Planned {
-        fate: Fate::Refused(number, place),
-        runs: runs,
-        path: path,
+        fate: Err(why),
+        runs,
+        path,
     }
+}
+
+// The refusal with this number, at place 0, before any run.
+fn refused_before(number: usize) -> Planned
+    ensures { result ≡ Plans.refused (refusal number 0) 0 }
+{
+    refused(Refusal { number, place: 0 }, 0)
 }
 
 // The counts of held controls: those of the trial that made the decision, or the seed's.
 fn held_of(found: Found, held: [usize; 12]) -> [usize; 12]
     ensures { result ≡ Plans.held_of found held }
 {
-    if found.tried {
-        let counts = found.held;
-        return counts;
-    }
-    held
+    if found.tried { found.held } else { held }
 }
 
 // The path of what was found from a seed with these counts of held controls.
 fn path_of(p: CheckedProblem, found: Found, held: [usize; 12]) -> Path
     ensures { result ≡ Plans.path_of p found held }
 {
-    let counts = held_of(found, held);
-    let map = p.map;
     let z = found.z;
-    let run = found.run;
-    let nodes = run.nodes;
+    let nodes = found.run.nodes;
     Path {
         duration: z[0],
-        controls: control_dim(map),
-        wheels: map.wheel_count,
+        controls: control_dim(p.map),
+        wheels: p.map.wheel_count,
         iterations: found.iterations,
-        max_defect: run.defect,
-        z: z,
-        nodes: nodes,
-        held: counts,
+        max_defect: found.run.defect,
+        z,
+        nodes,
+        held: held_of(found, held),
     }
 }
 
 // The end checks of a decision that was found.
 fn check_end(p: CheckedProblem, found: Found, held: [usize; 12]) -> Planned
     requires { is_sized p.map ≡ true }
-    ensures { result ≡ Plans.found_by Going p found held }
+    ensures { result ≡ Plans.found_by (Ok tt) p found held }
 {
-    let run = found.run;
-    let fate = end_checks(p, run);
-    match fate {
-        Fate::Refused(number, place) => refused(number, place, found.runs),
-        Fate::Going => Planned {
-            fate: Fate::Going,
+    match end_checks(p, found.run) {
+        Err(why) => refused(why, found.runs),
+        Ok(()) => Planned {
+            fate: Ok(()),
             runs: found.runs,
             path: path_of(p, found, held),
         },
@@ -127,10 +121,9 @@ fn answered(p: CheckedProblem, found: Found, held: [usize; 12]) -> Planned
     requires { is_sized p.map ≡ true }
     ensures { result ≡ Plans.answered p found held }
 {
-    let fate = found.fate;
-    match fate {
-        Fate::Refused(number, place) => refused(number, place, found.runs),
-        Fate::Going => check_end(p, found, held),
+    match found.fate {
+        Err(why) => refused(why, found.runs),
+        Ok(()) => check_end(p, found, held),
     }
 }
 
@@ -157,20 +150,16 @@ fn seeded(
         (Plans.seed_of p duration torques.now) result ws.new }
 {
     if !counted {
-        return refused(10, 0, 0);
+        return refused_before(10);
     }
     if !is_positive(duration) {
-        return refused(10, 0, 0);
+        return refused_before(10);
     }
     if ws.len() < room(p) {
-        return refused(9, 0, 0);
+        return refused_before(9);
     }
-    let map = p.map;
-    let limit = p.torque_limit;
-    let seed = seed_decision(map, limit, duration, torques);
-    let z = seed.z;
-    let held = seed.held;
-    solve(p, z, held, ws)
+    let seed = seed_decision(p.map, p.torque_limit, duration, torques);
+    solve(p, seed.z, seed.held, ws)
 }
 
 // Whether the actuators are served, then the seed.
@@ -185,11 +174,9 @@ fn with_seed(
     ensures { Outcome (Plans.with_seed p counted duration torques.now (length ws.old)) ws.old
         (Plans.seed_of p duration torques.now) result ws.new }
 {
-    let map = p.map;
-    let fate = served(map);
-    match fate {
-        Fate::Refused(number, place) => refused(number, place, 0),
-        Fate::Going => seeded(p, counted, duration, torques, ws),
+    match served(p.map) {
+        Err(why) => refused(why, 0),
+        Ok(()) => seeded(p, counted, duration, torques, ws),
     }
 }
 
@@ -209,23 +196,19 @@ fn with_profile_seed(p: CheckedProblem, seed: Seed, ws: &mut [f64]) -> Planned
     ensures { Outcome (Plans.seeded_by p seed (length ws.old)) ws.old (Plans.seed_of p seed.duration seed.torques) result
         ws.new }
 {
-    let torques = seed.torques;
-    with_seed(p, true, seed.duration, &torques, ws)
+    with_seed(p, true, seed.duration, &seed.torques, ws)
 }
 
 // The profile of a checked problem.
 pub fn profiled(p: CheckedProblem) -> Profiled
     ensures { result ≡ Plans.profiled p }
 {
-    let inertia = p.inertia;
-    let limit = p.torque_limit;
-    let slew = p.slew;
     bang_coast_bang(
         p.q0,
         p.qf,
-        geom::tensor(inertia),
-        limit,
-        slew,
+        geom::tensor(p.inertia),
+        p.torque_limit,
+        p.slew,
         p.tie_tolerance,
     )
 }
@@ -236,13 +219,9 @@ fn with_profile(p: CheckedProblem, ws: &mut [f64]) -> Planned
     ensures { Outcome (Plans.with_profile p (length ws.old)) ws.old (Promises.own_seed p) result ws.new }
 {
     let made = profiled(p);
-    let fate = made.fate;
-    match fate {
-        Fate::Refused(number, place) => refused(number, place, 0),
-        Fate::Going => {
-            let profile = made.profile;
-            with_profile_seed(p, sample_seed(profile), ws)
-        }
+    match made.fate {
+        Err(why) => refused(why, 0),
+        Ok(()) => with_profile_seed(p, sample_seed(made.profile), ws),
     }
 }
 
@@ -253,13 +232,9 @@ pub fn plan(p: Problem, ws: &mut [f64]) -> Planned
         × Promises.Answers p (Promises.own_seed (Problems.check p).problem) result) }
 {
     let checked = check(p);
-    let fate = checked.fate;
-    match fate {
-        Fate::Refused(number, place) => refused(number, place, 0),
-        Fate::Going => {
-            let problem = checked.problem;
-            with_profile(problem, ws)
-        }
+    match checked.fate {
+        Err(why) => refused(why, 0),
+        Ok(()) => with_profile(checked.problem, ws),
     }
 }
 
@@ -276,12 +251,14 @@ pub fn plan_from(
         × Promises.Answers p (Plans.seed_of (Problems.check p).problem duration torques.now) result) }
 {
     let checked = check(p);
-    let fate = checked.fate;
-    match fate {
-        Fate::Refused(number, place) => refused(number, place, 0),
-        Fate::Going => {
-            let problem = checked.problem;
-            with_seed(problem, counted(rates, torques), duration, torques, ws)
-        }
+    match checked.fate {
+        Err(why) => refused(why, 0),
+        Ok(()) => with_seed(
+            checked.problem,
+            counted(rates, torques),
+            duration,
+            torques,
+            ws,
+        ),
     }
 }

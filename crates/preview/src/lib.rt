@@ -8,7 +8,7 @@ ghost use Rattle.planner.specs.Promises as Promises;
 ghost use Rattle.wheel_momenta.specs.Successive as Successive;
 ghost use Rattle.preview.specs.Previews as Previews;
 
-use common::Fate;
+use common::Refusal;
 use planner::{Planned, plan, plan_from};
 use problem::{Momenta, Problem};
 use wheel_momenta::{last_momenta, with_momenta};
@@ -59,12 +59,12 @@ pub fn preview_from(
 }
 
 // Whether a plan was answered.
-fn answered(fate: Fate) -> bool
+fn answered(fate: Result<(), Refusal>) -> bool
     ensures { result ≡ Previews.answered fate }
 {
     match fate {
-        Fate::Going => true,
-        Fate::Refused(_, _) => false,
+        Ok(()) => true,
+        Err(_) => false,
     }
 }
 

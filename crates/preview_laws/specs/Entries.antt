@@ -4,7 +4,6 @@ use Rattle.std.proofs.Common.{sym, ◌∙◌}
 use Rattle.std.proofs.Math.Option.{some}
 use Rattle.std.proofs.Math.ListN.{get_elem?}
 use Rattle.common.specs.Lists.{at}
-use Rattle.common.specs.declared.Fate.TheVariants.{Going}
 use Rattle.problem.specs.declared.Momenta.{Momenta}
 use Rattle.problem.specs.declared.Problem.{Problem}
 use Rattle.forward.specs.Runs.{node_at}
@@ -20,6 +19,7 @@ use Rattle.preview.specs.declared.Previewed.{Previewed}
 use Rattle.preview_laws.specs.Events.{Event, opened, ask, finally, latest, replies, requests}
 use Rattle.preview_laws.specs.EventLaws.{record_latest, start_begun, started_from}
 use Rattle.preview_laws.specs.SameStarts.{plan_same, plan_from_same}
+use Rattle.common.specs.Refusals.{going}
 
 -- a request: a problem, a caller's seed or none, and the size of the lent workspace
 pub data Request : Type 0 where
@@ -46,7 +46,7 @@ wheels_only : (q : Request) (m n : Momenta) → same m n ≡ true → planned q 
 wheels_only (Own p size) m n e = plan_same m n e p size
 wheels_only (Seeded p duration rates torques size) m n e = plan_from_same m n e p duration rates torques size
 
-pub started_as_planned : (m : Momenta) (es : List (Event Request)) (i : ℕ) (v : Previewed) → get_elem? (finally planned (opened m) es).asks i ≡ some v → (start (finally planned (opened m) es).held v).fate ≡ Going
+pub started_as_planned : (m : Momenta) (es : List (Event Request)) (i : ℕ) (v : Previewed) → get_elem? (finally planned (opened m) es).asks i ≡ some v → (start (finally planned (opened m) es).held v).fate ≡ going
     → (q : Request) × (get_elem? (requests es) i ≡ some q) × (planned q (finally planned (opened m) es).held ≡ v.planned)
 started_as_planned = started_from planned wheels_only
 
@@ -57,7 +57,7 @@ pub record Begins (m : Momenta) (path : Path) : Type 0 where
   pub each : (i : ℕ) → i < m.count → at (node_at path.nodes 0).hw i ≡ at m.at i
 
 -- a preview that the planner answered, as `preview` and `preview_from` ensure of theirs: where it is started, whenever that is, its path begins with what is then on record
-pub started_begins : (m : Momenta) (v : Previewed) (p : Problem) (seed : List Float) → Answers (with_momenta p v.began) seed v.planned → (start m v).fate ≡ Going → Begins m v.planned.path
+pub started_begins : (m : Momenta) (v : Previewed) (p : Problem) (seed : List Float) → Answers (with_momenta p v.began) seed v.planned → (start m v).fate ≡ going → Begins m v.planned.path
 started_begins m v p seed A g =
     let B = start_begun m v g in
     let S = same_alike m v.began B.alike in

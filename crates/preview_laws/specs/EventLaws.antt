@@ -1,13 +1,11 @@
 -- Over any sequence of previews and starts and any planner: what is on record, what a refused event changes, what a started path is. Assumes nothing.
-use Rattle.std.specs.Prelude.{ℕ, zero, suc, ◌+◌, ◌<◌, ◌≡◌, true, List, [], ◌∷◌, ◌++◌, length}
+use Rattle.std.specs.Prelude.{ℕ, zero, suc, ◌+◌, ◌<◌, ◌≡◌, true, List, [], ◌∷◌, ◌++◌, length, Ok, Err}
 use Rattle.std.proofs.Math.Path.{refl}
 use Rattle.std.proofs.Common.{sym, ap, subst, ◌∙◌, append-nil, arith, length-append}
 use Rattle.std.proofs.Math.Option.{Option, some, none}
 use Rattle.std.proofs.Math.ListN.{get_elem?}
 use Rattle.std.proofs.Math.Seq.{append_snoc}
 use Rattle.common.specs.Lists.{at}
-use Rattle.common.specs.declared.Fate.{Fate}
-use Rattle.common.specs.declared.Fate.TheVariants.{Going, Refused}
 use Rattle.problem.specs.declared.Momenta.{Momenta}
 use Rattle.planner.specs.declared.Path.{Path}
 use Rattle.planner.specs.declared.Planned.{Planned}
@@ -18,26 +16,27 @@ use Rattle.wheel_record.specs.declared.Started.{Started}
 use Rattle.preview.specs.Previews.{answered, start}
 use Rattle.preview.specs.declared.Previewed.{Previewed}
 use Rattle.preview_laws.specs.Events.{Event, Ask, Start, Reply, Asked, Tried, Nothing, Desk, opened, start_by, became, after_start, latest, NotBegun, NoStart, requests, ask, reply, finally, replies}
+use Rattle.common.specs.Refusals.{Fate, refusal, going}
 
 -- ---- one start
 -- the record after it: the path's last momenta, or what it was
 after_as : (f : Fate) (m : Momenta) (path : Path) → after_by f m (last_momenta path) ≡ after_start f m path
-after_as Going m path = refl
-after_as (Refused number place) m path = refl
+after_as (Ok _) m path = refl
+after_as (Err why) m path = refl
 
 pub start_leaves : (m : Momenta) (v : Previewed) → (start m v).on_record ≡ after_start (start m v).fate m v.planned.path
 start_leaves m v = commit_leaves m (answered v.planned.fate) v.began (last_momenta v.planned.path) ∙ after_as (start m v).fate m v.planned.path
 
-answered_goes : (f : Fate) → answered f ≡ true → f ≡ Going
-answered_goes Going e = refl
-answered_goes (Refused number place) e = let z : ◌≡◌ {A = ℕ} 0 1 = cc in absurd (omega arith)
+answered_goes : (f : Fate) → answered f ≡ true → f ≡ going
+answered_goes (Ok _) e = refl
+answered_goes (Err why) e = let z : ◌≡◌ {A = ℕ} 0 1 = cc in absurd (omega arith)
 
 -- only a preview with a path is started, and only beside the bits that it began from
 pub record Begun (m : Momenta) (v : Previewed) : Type 0 where
-  pub planned : v.planned.fate ≡ Going
+  pub planned : v.planned.fate ≡ going
   pub alike : same m v.began ≡ true
 
-pub start_begun : (m : Momenta) (v : Previewed) → (start m v).fate ≡ Going → Begun m v
+pub start_begun : (m : Momenta) (v : Previewed) → (start m v).fate ≡ going → Begun m v
 start_begun m v e =
     let c = commit_started m (answered v.planned.fate) v.began (last_momenta v.planned.path) e in
     record { planned = answered_goes v.planned.fate c.0; alike = c.1 }
@@ -60,8 +59,8 @@ module _ {Q : Type 0} (plan : Q → Momenta → Planned) where
 
 -- the same in words, of which `latest` is no part
 not_begun : (f : Fate) (m : Momenta) (path : Path) → NotBegun f → after_start f m path ≡ m
-not_begun Going m path h = absurd h
-not_begun (Refused number place) m path h = refl
+not_begun (Ok _) m path h = absurd h
+not_begun (Err why) m path h = refl
 
 quiet : (m : Momenta) (rs : List Reply) → NoStart rs → latest m rs ≡ m
 quiet m [] h = refl
@@ -76,7 +75,7 @@ latest_past m (Tried v s ∷ xs) ys = latest_past (after_start s.fate m v.planne
 latest_past m (Nothing ∷ xs) ys = latest_past m xs ys
 
 module _ {Q : Type 0} (plan : Q → Momenta → Planned) where
-  pub record_started : (m : Momenta) (es : List (Event Q)) (before later : List Reply) (v : Previewed) (s : Started) → replies plan (opened m) es ≡ before ++ (Tried v s ∷ later) → s.fate ≡ Going → NoStart later
+  pub record_started : (m : Momenta) (es : List (Event Q)) (before later : List Reply) (v : Previewed) (s : Started) → replies plan (opened m) es ≡ before ++ (Tried v s ∷ later) → s.fate ≡ going → NoStart later
       → (finally plan (opened m) es).held ≡ last_momenta v.planned.path
   record_started m es before later v s e g h =
       record_latest plan (opened m) es
@@ -108,11 +107,11 @@ module _ {Q : Type 0} (plan : Q → Momenta → Planned) where
   refused_start d xs ys i h = finally_past d xs (Start i ∷ ys) ∙ ap (λ (x : Desk). finally plan x ys) (stays (finally plan d xs) i h) ∙ sym (finally_past d xs ys)
 
 -- a refused preview is never started: 26 at place 0
-pub refused_preview : (m : Momenta) (v : Previewed) (number place : ℕ) → v.planned.fate ≡ Refused number place → start m v ≡ not_started m 0
+pub refused_preview : (m : Momenta) (v : Previewed) (number place : ℕ) → v.planned.fate ≡ Err (refusal number place) → start m v ≡ not_started m 0
 unfolding commit
 refused_preview m v number place e = rw e refl
 
-pub refused_start_keeps : (m : Momenta) (v : Previewed) (number place : ℕ) → (start m v).fate ≡ Refused number place → (start m v).on_record ≡ m
+pub refused_start_keeps : (m : Momenta) (v : Previewed) (number place : ℕ) → (start m v).fate ≡ Err (refusal number place) → (start m v).on_record ≡ m
 refused_start_keeps m v number place e = start_leaves m v ∙ ap (λ (f : Fate). after_start f m v.planned.path) e
 
 -- ---- places of a list that grows at its end
@@ -179,7 +178,7 @@ module _ {Q : Type 0} (plan : Q → Momenta → Planned) where
 
   -- ---- A STARTED PATH, of a planner that reads of the momenta the wheels and nothing else: after any events it is what the planner gives, from the momenta now on record, for the request that was asked
   module _ (wheels : (q : Q) (m n : Momenta) → same m n ≡ true → plan q m ≡ plan q n) where
-    pub started_from : (m : Momenta) (es : List (Event Q)) (i : ℕ) (v : Previewed) → get_elem? (finally plan (opened m) es).asks i ≡ some v → (start (finally plan (opened m) es).held v).fate ≡ Going
+    pub started_from : (m : Momenta) (es : List (Event Q)) (i : ℕ) (v : Previewed) → get_elem? (finally plan (opened m) es).asks i ≡ some v → (start (finally plan (opened m) es).held v).fate ≡ going
         → (q : Q) × (get_elem? (requests es) i ≡ some q) × (plan q (finally plan (opened m) es).held ≡ v.planned)
     started_from m es i v e g =
         let d = finally plan (opened m) es in
@@ -187,6 +186,6 @@ module _ {Q : Type 0} (plan : Q → Momenta → Planned) where
         (a.0, a.1.asked, wheels a.0 d.held v.began (start_begun d.held v g).alike ∙ a.1.planned)
 
   -- ---- and a start is not always refused: what is asked and started at once is started
-  pub started_at_once : (m : Momenta) (q : Q) → same m m ≡ true → (plan q m).fate ≡ Going → start m (ask plan m q) ≡ record { fate = Going; on_record = last_momenta (plan q m).path }
+  pub started_at_once : (m : Momenta) (q : Q) → same m m ≡ true → (plan q m).fate ≡ going → start m (ask plan m q) ≡ record { fate = going; on_record = last_momenta (plan q m).path }
   unfolding commit
   started_at_once m q s g = rw (g, s) refl

@@ -1,9 +1,7 @@
 -- Any sequence of previews and starts, over any planner: what each event answers, what is on record after it, and the latest path that was started. Definitions only.
-use Rattle.std.specs.Prelude.{ℕ, List, [], ◌∷◌, ◌++◌}
+use Rattle.std.specs.Prelude.{ℕ, List, [], ◌∷◌, ◌++◌, Ok, Err}
 use Rattle.std.proofs.Math.Option.{Option, some, none}
 use Rattle.std.proofs.Math.ListN.{get_elem?}
-use Rattle.common.specs.declared.Fate.{Fate}
-use Rattle.common.specs.declared.Fate.TheVariants.{Going, Refused}
 use Rattle.problem.specs.declared.Momenta.{Momenta}
 use Rattle.planner.specs.declared.Path.{Path}
 use Rattle.planner.specs.declared.Planned.{Planned}
@@ -11,6 +9,7 @@ use Rattle.wheel_momenta.specs.Successive.{last_momenta}
 use Rattle.wheel_record.specs.declared.Started.{Started}
 use Rattle.preview.specs.Previews.{start}
 use Rattle.preview.specs.declared.Previewed.{Previewed}
+use Rattle.common.specs.Refusals.{Fate}
 
 -- a preview of a request; a start of the preview of that index, the refused ones counted too
 pub data Event (Q : Type 0) : Type 0 where
@@ -42,8 +41,8 @@ became d Nothing = d
 
 -- the last momenta of the path that was started; m where a start was refused
 abbrev pub after_start : Fate → Momenta → Path → Momenta
-after_start Going m path = last_momenta path
-after_start (Refused number place) m path = m
+after_start (Ok _) m path = last_momenta path
+after_start (Err why) m path = m
 
 -- the last momenta of the latest path that these replies started; m where there is none
 abbrev pub latest : Momenta → List Reply → Momenta
@@ -54,8 +53,8 @@ latest m (Nothing ∷ rs) = latest m rs
 
 -- none of these replies is a start that was answered
 abbrev pub NotBegun : Fate → Type 0
-NotBegun Going = ⊥
-NotBegun (Refused number place) = Unit {0}
+NotBegun (Ok _) = ⊥
+NotBegun (Err why) = Unit {0}
 
 abbrev pub NoStart : List Reply → Type 0
 NoStart [] = Unit {0}

@@ -1,5 +1,5 @@
 -- The planner reads of the momenta the wheels and nothing else: momenta that are the same wheel by wheel, whatever stands past them, give the same plan. Assumes nothing.
-use Rattle.std.specs.Prelude.{ℕ, zero, suc, ◌≡◌, Bool, cond, ◌&&◌, List, Float}
+use Rattle.std.specs.Prelude.{ℕ, zero, suc, ◌≡◌, Bool, cond, ◌&&◌, List, Float, Option, Some, None, Ok, Err}
 use Rattle.std.proofs.Math.Path.{refl, ap}
 use Rattle.std.proofs.Common.{◌∙◌, ltb-true}
 use Rattle.std.proofs.Math.Bool.{true, false}
@@ -7,15 +7,11 @@ use Rattle.std.proofs.Math.Dec.{ltb}
 use Rattle.common.specs.Floats.{plus_zero}
 use Rattle.common.specs.Iter.{iter}
 use Rattle.common.specs.Lists.{at}
-use Rattle.common.specs.declared.Fate.{Fate}
-use Rattle.common.specs.declared.Fate.TheVariants.{Going, Refused}
 use Rattle.geom.specs.declared.Quat.{Quat}
-use Rattle.geom.specs.declared.Normal.{Normal}
-use Rattle.geom.specs.declared.Normal.TheVariants.{Is, Not}
 use Rattle.geom.specs.Vec.{tensor}
 use Rattle.geom.specs.Quats.{normalized}
 use Rattle.geom.specs.Tensors.{invert_spd}
-use Rattle.actuators.specs.Prepare.{prepare}
+use Rattle.actuators.specs.Prepare.{Prepared, prepare}
 use Rattle.actuators.specs.declared.ActuatorMap.{ActuatorMap}
 use Rattle.problem.specs.Problems as Problems
 use Rattle.problem.specs.Starts.{start_fits_value, wheel_starts, leading_turn, leading_starts, checked_by, check_starts, place_start, placed}
@@ -27,6 +23,9 @@ use Rattle.planner.specs.Plans.{plan, plan_by, plan_from, plan_from_by}
 use Rattle.wheel_momenta.specs.Successive.{with_momenta}
 use Rattle.wheel_record.specs.Commits.{same}
 use Rattle.wheel_record.specs.CommitLaws.{Alike, same_alike}
+use Rattle.common.specs.Refusals.{Fate}
+use Rattle.std.specs.Prelude.{Result}
+use Rattle.common.specs.declared.Refusal.{Refusal}
 
 -- loops whose turns are the same
 iter_same : {A : Type 0} (f g : ℕ → A → A) (a : A) → ((k : ℕ) (x : A) → f k x ≡ g k x) → (n : ℕ) → iter f a n ≡ iter g a n
@@ -67,31 +66,31 @@ module _ (m n : Momenta) (A : Alike m n) where
   module _ (p : Problem) (map : ActuatorMap) where
     attitudes_same : m.count ≡ map.wheel_count → (q0 qf : Quat) → Problems.with_attitudes (with_momenta p m) map q0 qf ≡ Problems.with_attitudes (with_momenta p n) map q0 qf
     unfolding Problems.with_attitudes
-    attitudes_same c q0 qf = by (invert_spd (tensor p.inertia)).fate
+    attitudes_same c q0 qf = by (invert_spd (tensor p.inertia))
       where
-        by : (e : Fate) → Problems.inverted_by e (invert_spd (tensor p.inertia)).m (with_momenta p m) map q0 qf ≡ Problems.inverted_by e (invert_spd (tensor p.inertia)).m (with_momenta p n) map q0 qf
-        by Going = rw (placed_same map.wheel_count c) refl
-        by (Refused i j) = refl
+        by : (e : Result (List Float) Refusal) → Problems.inverted_by e (with_momenta p m) map q0 qf ≡ Problems.inverted_by e (with_momenta p n) map q0 qf
+        by (Ok _) = rw (placed_same map.wheel_count c) refl
+        by (Err why) = refl
 
     with_starts_same : m.count ≡ map.wheel_count → Problems.with_starts (with_momenta p m) map ≡ Problems.with_starts (with_momenta p n) map
     unfolding Problems.with_starts
     with_starts_same c = first (normalized p.norm_tolerance p.q0)
       where
-        second : (q0 : Quat) (x : Normal) → Problems.final_by x (with_momenta p m) map q0 ≡ Problems.final_by x (with_momenta p n) map q0
-        second q0 Not = refl
-        second q0 (Is qf) = attitudes_same c q0 qf
+        second : (q0 : Quat) (x : Option Quat) → Problems.final_by x (with_momenta p m) map q0 ≡ Problems.final_by x (with_momenta p n) map q0
+        second q0 None = refl
+        second q0 (Some qf) = attitudes_same c q0 qf
 
-        first : (x : Normal) → Problems.start_by x (with_momenta p m) map ≡ Problems.start_by x (with_momenta p n) map
-        first Not = refl
-        first (Is q0) = second q0 (normalized p.norm_tolerance p.qf)
+        first : (x : Option Quat) → Problems.start_by x (with_momenta p m) map ≡ Problems.start_by x (with_momenta p n) map
+        first None = refl
+        first (Some q0) = second q0 (normalized p.norm_tolerance p.qf)
 
     map_same : Problems.with_map (with_momenta p m) map ≡ Problems.with_map (with_momenta p n) map
     unfolding Problems.with_map Problems.numbers_fit
     map_same = numbers (Problems.numbers_fit (with_momenta p m))
       where
         momenta : (e : Fate) → check_starts map.wheel_count map.wheel_momenta m ≡ e → Problems.momenta_by e (with_momenta p m) map ≡ Problems.momenta_by e (with_momenta p n) map
-        momenta Going e = with_starts_same (starts_passed map.wheel_count map.wheel_momenta m e).count
-        momenta (Refused i j) e = refl
+        momenta (Ok _) e = with_starts_same (starts_passed map.wheel_count map.wheel_momenta m e).count
+        momenta (Err why) e = refl
 
         numbers : (b : Bool) → cond b (Problems.momenta_by (check_starts map.wheel_count map.wheel_momenta m) (with_momenta p m) map) (Problems.refused 4 0)
             ≡ cond b (Problems.momenta_by (check_starts map.wheel_count map.wheel_momenta n) (with_momenta p n) map) (Problems.refused 4 0)
@@ -100,11 +99,11 @@ module _ (m n : Momenta) (A : Alike m n) where
 
   pub check_same : (p : Problem) → Problems.check (with_momenta p m) ≡ Problems.check (with_momenta p n)
   unfolding Problems.check
-  check_same p = by (prepare p.actuators).fate
+  check_same p = by (prepare p.actuators)
     where
-      by : (e : Fate) → Problems.prepared_by e (prepare p.actuators).map (with_momenta p m) ≡ Problems.prepared_by e (prepare p.actuators).map (with_momenta p n)
-      by Going = map_same p (prepare p.actuators).map
-      by (Refused i j) = refl
+      by : (e : Prepared) → Problems.prepared_by e (with_momenta p m) ≡ Problems.prepared_by e (with_momenta p n)
+      by (Ok map) = map_same p map
+      by (Err why) = refl
 
 -- ---- both entries
 module _ (m n : Momenta) (e : same m n ≡ true) (p : Problem) where

@@ -1,13 +1,13 @@
 -- What the checks answer: a checked problem, or a refusal before any run. Definitions only.
+use Rattle.std.specs.Prelude.{Ok, Err}
 use Rattle.common.specs.Answer.{Answer, Given, Refused}
-use Rattle.common.specs.declared.Fate.{Fate}
-use Rattle.common.specs.declared.Fate.TheVariants as Fate
 use Rattle.problem.specs.declared.CheckedProblem.{CheckedProblem}
 use Rattle.problem.specs.declared.Checked.{Checked}
+use Rattle.common.specs.Refusals.{Fate}
 
 abbrev answer_by : Fate → CheckedProblem → Answer CheckedProblem
-answer_by Fate.Going p = Given p
-answer_by (Fate.Refused number place) p = Refused number place 0
+answer_by (Ok _) p = Given p
+answer_by (Err why) p = Refused why.number why.place 0
 
 -- no forward run has begun when a check refuses
 abbrev pub answer : Checked → Answer CheckedProblem

@@ -1,33 +1,30 @@
 -- Checks 1 to 6 and 22, and the problem that passed them. Definitions only.
-use Rattle.std.specs.Prelude.{ℕ, Bool, true, false, not, cond, ◌&&◌, List, replicate, Float}
+use Rattle.std.specs.Prelude.{ℕ, Bool, true, false, not, cond, ◌&&◌, List, replicate, Float, Option, Some, None, Ok, Err}
 use Rattle.std.specs.Float.Ieee.{lt}
 use Rattle.std.specs.Float.Ieee.Scale.{finite}
 use Rattle.common.specs.Floats.{one, plus_zero}
 use Rattle.common.specs.Lists.{at}
-use Rattle.common.specs.declared.Fate.{Fate}
-use Rattle.common.specs.declared.Fate.TheVariants.{Going, Refused}
-use Rattle.common.specs.declared.Limit.{Limit}
-use Rattle.common.specs.declared.Limit.TheVariants.{Nothing, At}
 use Rattle.geom.specs.declared.Quat.{Quat}
-use Rattle.geom.specs.declared.Normal.{Normal}
-use Rattle.geom.specs.declared.Normal.TheVariants.{Is, Not}
 use Rattle.geom.specs.Vec.{is_positive_value, tensor}
 use Rattle.geom.specs.Quats.{normalized}
 use Rattle.geom.specs.Tensors.{invert_spd}
 use Rattle.actuators.specs.declared.ActuatorMap.{ActuatorMap}
 use Rattle.actuators.specs.Maps.{blank_map}
-use Rattle.actuators.specs.Prepare.{prepare}
+use Rattle.actuators.specs.Prepare.{Prepared, prepare}
 use Rattle.problem.specs.declared.Weights.{Weights}
 use Rattle.problem.specs.declared.Problem.{Problem}
 use Rattle.problem.specs.declared.CheckedProblem.{CheckedProblem}
 use Rattle.problem.specs.declared.Checked.{Checked}
 use Rattle.problem.specs.Starts.{check_starts, placed}
+use Rattle.common.specs.Refusals.{Fate, refusal, going}
+use Rattle.std.specs.Prelude.{Result}
+use Rattle.common.specs.declared.Refusal.{Refusal}
 
 -- ---- row 4 of the table
 -- a limit is absent, or finite and above 0
-abbrev pub limit_fits : Limit → Bool
-limit_fits Nothing = true
-limit_fits (At x) = is_positive_value x
+abbrev pub limit_fits : Option Float → Bool
+limit_fits None = true
+limit_fits (Some x) = is_positive_value x
 
 -- finite and not below 0
 abbrev pub weight_fits : Float → Bool
@@ -63,7 +60,7 @@ blank_problem = record {
   inertia = replicate 9 plus_zero;
   inverse = replicate 9 plus_zero;
   torque_limit = replicate 3 plus_zero;
-  slew = Nothing;
+  slew = None;
   weights = record { time = plus_zero; control = plus_zero; energy = plus_zero; pointing = plus_zero; smoothness = plus_zero; momentum = plus_zero };
   norm_tolerance = plus_zero;
   tie_tolerance = plus_zero;
@@ -72,13 +69,13 @@ blank_problem = record {
 }
 
 abbrev pub refused : ℕ → ℕ → Checked
-refused number place = record { fate = Refused number place; problem = blank_problem }
+refused number place = record { fate = Err (refusal number place); problem = blank_problem }
 
 -- 6 at place 0: the inertia is not positive definite, or not invertible
-abbrev pub inverted_by : Fate → List Float → Problem → ActuatorMap → Quat → Quat → Checked
-inverted_by (Refused n k) m p map q0 qf = refused 6 0
-inverted_by Going m p map q0 qf = record {
-  fate = Going;
+abbrev pub inverted_by : Result (List Float) Refusal → Problem → ActuatorMap → Quat → Quat → Checked
+inverted_by (Err why) p map q0 qf = refused 6 0
+inverted_by (Ok m) p map q0 qf = record {
+  fate = going;
   problem = record {
     q0 = q0;
     qf = qf;
@@ -95,33 +92,33 @@ inverted_by Going m p map q0 qf = record {
 }
 
 unfoldable pub with_attitudes : Problem → ActuatorMap → Quat → Quat → Checked
-with_attitudes p map q0 qf = inverted_by (invert_spd (tensor p.inertia)).fate (invert_spd (tensor p.inertia)).m p map q0 qf
+with_attitudes p map q0 qf = inverted_by (invert_spd (tensor p.inertia)) p map q0 qf
 
 -- 5: `normalized` refuses q0 (place 0) or qf (place 1)
-abbrev pub final_by : Normal → Problem → ActuatorMap → Quat → Checked
-final_by Not p map q0 = refused 5 1
-final_by (Is qf) p map q0 = with_attitudes p map q0 qf
+abbrev pub final_by : Option Quat → Problem → ActuatorMap → Quat → Checked
+final_by None p map q0 = refused 5 1
+final_by (Some qf) p map q0 = with_attitudes p map q0 qf
 
-abbrev pub start_by : Normal → Problem → ActuatorMap → Checked
-start_by Not p map = refused 5 0
-start_by (Is q0) p map = final_by (normalized p.norm_tolerance p.qf) p map q0
+abbrev pub start_by : Option Quat → Problem → ActuatorMap → Checked
+start_by None p map = refused 5 0
+start_by (Some q0) p map = final_by (normalized p.norm_tolerance p.qf) p map q0
 
 unfoldable pub with_starts : Problem → ActuatorMap → Checked
 with_starts p map = start_by (normalized p.norm_tolerance p.q0) p map
 
 -- 22: a wheel's start
 abbrev pub momenta_by : Fate → Problem → ActuatorMap → Checked
-momenta_by (Refused n k) p map = refused n k
-momenta_by Going p map = with_starts p map
+momenta_by (Err why) p map = refused why.number why.place
+momenta_by (Ok _) p map = with_starts p map
 
 -- 4, then 22
 unfoldable pub with_map : Problem → ActuatorMap → Checked
 with_map p map = cond (numbers_fit p) (momenta_by (check_starts map.wheel_count map.wheel_momenta p.momenta) p map) (refused 4 0)
 
 -- 1, 2 and 3: `prepare` refuses
-abbrev pub prepared_by : Fate → ActuatorMap → Problem → Checked
-prepared_by (Refused n k) map p = refused n k
-prepared_by Going map p = with_map p map
+abbrev pub prepared_by : Prepared → Problem → Checked
+prepared_by (Err why) p = refused why.number why.place
+prepared_by (Ok map) p = with_map p map
 
 unfoldable pub check : Problem → Checked
-check p = prepared_by (prepare p.actuators).fate (prepare p.actuators).map p
+check p = prepared_by (prepare p.actuators) p

@@ -1,6 +1,6 @@
 -- What a passed check 22 says: the record has the declared wheels, and each start is finite and in its limit; and where the starts stand. Assumes nothing.
 use Prim.Native.Nat.{ℕ, zero, suc, ◌+◌, ◌<◌, ◌≤◌}
-use Rattle.std.specs.Prelude.{◌≡◌, Bool, ◌&&◌, List, T, ltb, length, Float}
+use Rattle.std.specs.Prelude.{◌≡◌, Bool, ◌&&◌, List, T, ltb, length, Float, Err}
 use Rattle.std.proofs.Math.Path.{refl}
 use Rattle.std.proofs.Common.{sym, ◌∙◌, add-one}
 use Rattle.std.proofs.Math.Bool.{true, false, cond}
@@ -12,10 +12,9 @@ use Rattle.std.specs.Float.Ieee.{of_bits}
 use Rattle.common.specs.Iter.{iter}
 use Rattle.common.specs.IterLaws.{iter_next, iter_stays}
 use Rattle.common.specs.Lists.{at}
-use Rattle.common.specs.declared.Fate.{Fate}
-use Rattle.common.specs.declared.Fate.TheVariants.{Going, Refused}
 use Rattle.problem.specs.declared.Momenta.{Momenta}
 use Rattle.problem.specs.Starts.{start_fits_value, wheel_starts, leading_turn, leading_starts, checked_by, check_starts, place_start, placed}
+use Rattle.common.specs.Refusals.{refusal, going}
 
 both : (a b : Bool) → a && b ≡ true → (a ≡ true) × (b ≡ true)
 both true b e = (refl, e)
@@ -74,14 +73,14 @@ module _ (n : ℕ) (limits : List Float) (m : Momenta) where
     pub count : m.count ≡ n
     pub fit : (i : ℕ) → i < n → start_fits_value (at limits i) (at m.at i) ≡ true
 
-  pub starts_passed : check_starts n limits m ≡ Going → Passed
+  pub starts_passed : check_starts n limits m ≡ going → Passed
   unfolding check_starts leading_starts wheel_starts
   starts_passed g = by (eqb r n) (eqb r m.count) refl refl g
     where
       r : ℕ
       r = iter (leading_turn n limits m) 0 8
 
-      by : (a b : Bool) → eqb r n ≡ a → eqb r m.count ≡ b → cond (a && b) Going (Refused 22 r) ≡ Going → Passed
+      by : (a b : Bool) → eqb r n ≡ a → eqb r m.count ≡ b → cond (a && b) going (Err (refusal 22 r)) ≡ going → Passed
       by false b e f g = let z : ◌≡◌ {A = ℕ} 0 1 = cc in absurd (omega arith)
       by true false e f g = let z : ◌≡◌ {A = ℕ} 0 1 = cc in absurd (omega arith)
       by true true e f g =

@@ -1,14 +1,13 @@
 -- The momenta that the wheels start with: check 22, and the starts as every forward run has them. Definitions only.
-use Rattle.std.specs.Prelude.{ℕ, ◌+◌, Bool, not, cond, ◌&&◌, List, [], ◌∷◌, ltb, eqb, Float}
+use Rattle.std.specs.Prelude.{ℕ, ◌+◌, Bool, not, cond, ◌&&◌, List, [], ◌∷◌, ltb, eqb, Float, Err}
 use Rattle.std.specs.Float.{binary64}
 use Rattle.std.specs.Float.Ieee.{lt, of_bits}
 use Rattle.std.specs.Float.Ieee.Scale.{finite}
 use Rattle.common.specs.Iter.{iter}
 use Rattle.common.specs.Lists.{at}
-use Rattle.common.specs.declared.Fate.{Fate}
-use Rattle.common.specs.declared.Fate.TheVariants.{Going, Refused}
 use Rattle.float.specs.Ops.{abs}
 use Rattle.problem.specs.declared.Momenta.{Momenta}
+use Rattle.common.specs.Refusals.{Fate, refusal, going}
 
 -- a start is finite, and in size not above its wheel's limit
 abbrev pub start_fits_value : Float → Float → Bool
@@ -27,7 +26,7 @@ leading_starts n limits m = iter (leading_turn n limits m) 0 8
 
 -- 22 at the first wheel that is not so, unless these are all the declared wheels and all the record's
 abbrev pub checked_by : ℕ → ℕ → ℕ → Fate
-checked_by k n count = cond (eqb k n && eqb k count) Going (Refused 22 k)
+checked_by k n count = cond (eqb k n && eqb k count) going (Err (refusal 22 k))
 
 unfoldable pub check_starts : ℕ → List Float → Momenta → Fate
 check_starts n limits m = checked_by (leading_starts n limits m) n m.count

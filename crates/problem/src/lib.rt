@@ -7,9 +7,9 @@ ghost use Rattle.std.specs.Prelude.{◌≡◌};
 ghost use Rattle.problem.specs.Problems as Problems;
 
 use actuators::{ActuatorMap, Actuators, blank_map, prepare};
-use common::{Fate, Limit};
+use common::Refusal;
 use float::is_finite;
-use geom::{Normal, Quat, invert_spd, is_positive, tensor};
+use geom::{Quat, invert_spd, is_positive, tensor};
 
 pub mod starts;
 
@@ -38,7 +38,7 @@ pub struct Problem {
     pub qf: Quat,
     pub inertia: [f64; 9],
     pub torque_limit: [f64; 3],
-    pub slew: Limit,
+    pub slew: Option<f64>,
     pub weights: Weights,
     pub norm_tolerance: f64,
     pub tie_tolerance: f64,
@@ -54,7 +54,7 @@ pub struct CheckedProblem {
     pub inertia: [f64; 9],
     pub inverse: [f64; 9],
     pub torque_limit: [f64; 3],
-    pub slew: Limit,
+    pub slew: Option<f64>,
     pub weights: Weights,
     pub norm_tolerance: f64,
     pub tie_tolerance: f64,
@@ -65,17 +65,17 @@ pub struct CheckedProblem {
 // What the checks answer; the problem is blank where one refuses.
 #[derive(Clone, Copy)]
 pub struct Checked {
-    pub fate: Fate,
+    pub fate: Result<(), Refusal>,
     pub problem: CheckedProblem,
 }
 
 // Whether an optional limit is absent, or finite and above 0.
-pub fn limit_fits(limit: Limit) -> bool
+pub fn limit_fits(limit: Option<f64>) -> bool
     ensures { result ≡ Problems.limit_fits limit }
 {
     match limit {
-        Limit::Nothing => true,
-        Limit::At(x) => is_positive(x),
+        None => true,
+        Some(x) => is_positive(x),
     }
 }
 
@@ -146,7 +146,7 @@ pub fn blank_problem() -> CheckedProblem
         inertia: [0.0; 9],
         inverse: [0.0; 9],
         torque_limit: [0.0; 3],
-        slew: Limit::Nothing,
+        slew: None,
         weights: Weights {
             time: 0.0,
             control: 0.0,
@@ -167,7 +167,7 @@ pub fn refused(number: usize, place: usize) -> Checked
     ensures { result ≡ Problems.refused number place }
 {
     Checked {
-        fate: Fate::Refused(number, place),
+        fate: Err(Refusal { number, place }),
         problem: blank_problem(),
     }
 }
@@ -176,35 +176,28 @@ pub fn refused(number: usize, place: usize) -> Checked
 pub fn with_attitudes(p: Problem, map: ActuatorMap, q0: Quat, qf: Quat) -> Checked
     ensures { result ≡ Problems.with_attitudes p map q0 qf }
 {
-    let j = p.inertia;
-    let inverse = invert_spd(tensor(j));
-    let fate = inverse.fate;
-    match fate {
-        Fate::Refused(_, _) => refused(6, 0),
-        Fate::Going => {
-            let m = inverse.m;
-            let limit = p.torque_limit;
-            let weights = p.weights;
-            let slew = p.slew;
-            let momenta = p.momenta;
-            let given = momenta.at;
-            let starts = starts::placed(map.wheel_count, given);
+    let inertia = p.inertia;
+    let torque_limit = p.torque_limit;
+    match invert_spd(tensor(inertia)) {
+        Err(_) => refused(6, 0),
+        Ok(inverse) => {
+            let momenta = starts::placed(map.wheel_count, p.momenta.at);
             let problem = CheckedProblem {
-                q0: q0,
-                qf: qf,
-                inertia: j,
-                inverse: m,
-                torque_limit: limit,
-                slew: slew,
-                weights: weights,
+                q0,
+                qf,
+                inertia,
+                inverse,
+                torque_limit,
+                slew: p.slew,
+                weights: p.weights,
                 norm_tolerance: p.norm_tolerance,
                 tie_tolerance: p.tie_tolerance,
-                map: map,
-                momenta: starts,
+                map,
+                momenta,
             };
             Checked {
-                fate: Fate::Going,
-                problem: problem,
+                fate: Ok(()),
+                problem,
             }
         }
     }
@@ -216,10 +209,10 @@ pub fn with_starts(p: Problem, map: ActuatorMap) -> Checked
 {
     let start = p.q0;
     let end = p.qf;
-    let Normal::Is(q0) = start.normalized(p.norm_tolerance) else {
+    let Some(q0) = start.normalized(p.norm_tolerance) else {
         return refused(5, 0);
     };
-    let Normal::Is(qf) = end.normalized(p.norm_tolerance) else {
+    let Some(qf) = end.normalized(p.norm_tolerance) else {
         return refused(5, 1);
     };
     with_attitudes(p, map, q0, qf)
@@ -236,8 +229,8 @@ pub fn with_map(p: Problem, map: ActuatorMap) -> Checked
     let momenta = p.momenta;
     let fate = starts::check_starts(map.wheel_count, limits, momenta);
     match fate {
-        Fate::Refused(number, place) => refused(number, place),
-        Fate::Going => with_starts(p, map),
+        Err(refusal) => refused(refusal.number, refusal.place),
+        Ok(()) => with_starts(p, map),
     }
 }
 
@@ -245,14 +238,8 @@ pub fn with_map(p: Problem, map: ActuatorMap) -> Checked
 pub fn check(p: Problem) -> Checked
     ensures { result ≡ Problems.check p }
 {
-    let actuators = p.actuators;
-    let prepared = prepare(actuators);
-    let fate = prepared.fate;
-    match fate {
-        Fate::Refused(number, place) => refused(number, place),
-        Fate::Going => {
-            let map = prepared.map;
-            with_map(p, map)
-        }
+    match prepare(p.actuators) {
+        Err(refusal) => refused(refusal.number, refusal.place),
+        Ok(map) => with_map(p, map),
     }
 }

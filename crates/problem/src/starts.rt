@@ -3,7 +3,7 @@ ghost use Rattle.std.specs.Prelude.{◌≡◌, ◌<◌};
 ghost use Rattle.problem.specs.Starts as Starts;
 
 use super::Momenta;
-use common::Fate;
+use common::Refusal;
 use float::{abs, is_finite};
 
 // Whether a start is finite and in size at most its wheel's limit.
@@ -26,25 +26,26 @@ fn wheel_starts(n: usize, limits: [f64; 8], m: Momenta, k: usize) -> bool
 fn leading_starts(n: usize, limits: [f64; 8], m: Momenta) -> usize
     ensures { result ≡ Starts.leading_starts n limits m }
 {
-    let mut k: usize = 0;
-    while k < 8 {
+    for k in 0..8 {
         if !wheel_starts(n, limits, m, k) {
             return k;
         }
-        k += 1;
     }
-    k
+    8
 }
 
 // Check 22 of n declared wheels with these momentum limits.
-pub fn check_starts(n: usize, limits: [f64; 8], m: Momenta) -> Fate
+pub fn check_starts(n: usize, limits: [f64; 8], m: Momenta) -> Result<(), Refusal>
     ensures { result ≡ Starts.check_starts n limits m }
 {
     let k = leading_starts(n, limits, m);
     if (k == n) & (k == m.count) {
-        Fate::Going
+        Ok(())
     } else {
-        Fate::Refused(22, k)
+        Err(Refusal {
+            number: 22,
+            place: k,
+        })
     }
 }
 

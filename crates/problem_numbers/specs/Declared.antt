@@ -3,21 +3,19 @@
 -- Counts c: wheels, thrusters, a pyramid (1, else none), and for each of eight wheels whether it has a power limit (1, else none).
 -- Numbers v: eight wheel axes, their torques, momenta, powers; twelve thruster axes, their torques; the pyramid's skew, momentum, rate, smallest measure.
 -- Numbers b: q0, qf, the inertia by rows, the torque limits, the slew limit, six weights, the norm tolerance, the tie tolerance, eight wheels' start momenta.
-use Rattle.std.specs.Prelude.{ℕ, ◌+◌, ◌*◌, Bool, cond, List, [], ◌∷◌, eqb, get_or, Float}
+use Rattle.std.specs.Prelude.{ℕ, ◌+◌, ◌*◌, Bool, cond, List, [], ◌∷◌, eqb, get_or, Float, Option, Some, None}
 use Rattle.common.specs.Lists.{at}
-use Rattle.common.specs.declared.Limit.{Limit}
 use Rattle.geom.specs.Quats as Quats
 use Rattle.actuators.specs.Prepare as Prepare
 use Rattle.actuators.specs.declared.Wheel.{Wheel}
 use Rattle.actuators.specs.declared.Thruster.{Thruster}
-use Rattle.actuators.specs.declared.Cmgs.{Cmgs}
-use Rattle.actuators.specs.declared.Cmgs.TheVariants.{Without, With}
 use Rattle.actuators.specs.declared.Actuators.{Actuators}
 use Rattle.actuators.specs.declared.ActuatorMap.{ActuatorMap}
 use Rattle.problem.specs.declared.Momenta.{Momenta}
 use Rattle.problem.specs.declared.Problem.{Problem}
 use Rattle.problem.specs.declared.Weights.{Weights}
 use Rattle.export_leaves.specs.Packed.{limit}
+use Rattle.actuators.specs.declared.CmgPyramid.{CmgPyramid}
 
 -- count k
 abbrev pub count : List ℕ → ℕ → ℕ
@@ -53,11 +51,11 @@ unfoldable pub thrusters : List Float → List Thruster
 thrusters v = let t = thruster_at v in t 0 ∷ t 1 ∷ t 2 ∷ t 3 ∷ t 4 ∷ t 5 ∷ t 6 ∷ t 7 ∷ t 8 ∷ t 9 ∷ t 10 ∷ t 11 ∷ []
 
 -- a pyramid, or none
-abbrev pub cmgs_of : Bool → Float → Float → Float → Float → Cmgs
+abbrev pub cmgs_of : Bool → Float → Float → Float → Float → Option CmgPyramid
 cmgs_of there skew momentum rate eps =
     cond there
-    (With (record { skew_rad = skew; wheel_momentum_nms = momentum; max_gimbal_rate_rad_s = rate; singularity_eps = eps }))
-    Without
+    (Some (record { skew_rad = skew; wheel_momentum_nms = momentum; max_gimbal_rate_rad_s = rate; singularity_eps = eps }))
+    None
 
 -- all that is declared of actuators
 unfoldable pub actuators : List ℕ → List Float → Actuators
@@ -71,7 +69,7 @@ actuators c v = record {
 
 -- the map that `prepare` makes of them, blank where it refuses
 abbrev pub map : List ℕ → List Float → ActuatorMap
-map c v = (Prepare.prepare (actuators c v)).map
+map c v = Prepare.map_or_blank (Prepare.prepare (actuators c v))
 
 -- the six weights
 abbrev pub weights : List Float → Weights

@@ -9,7 +9,7 @@
 ghost use Rattle.std.specs.Prelude.{◌≡◌, ◌<◌};
 ghost use Rattle.problem_numbers.specs.Declared as Declared;
 
-use actuators::{ActuatorMap, Actuators, CmgPyramid, Cmgs, Thruster, Wheel};
+use actuators::{ActuatorMap, Actuators, CmgPyramid, Thruster, Wheel};
 use export_leaves::pack::limit_of;
 use geom::Quat;
 use problem::{Momenta, Problem, Weights};
@@ -18,13 +18,11 @@ use problem::{Momenta, Problem, Weights};
 fn wheel_of(x: f64, y: f64, z: f64, torque: f64, momentum: f64, n: usize, power: f64) -> Wheel
     ensures { result ≡ Declared.wheel_of x y z torque momentum n power }
 {
-    let axis = [x, y, z];
-    let most = limit_of(n == 1, power);
     Wheel {
-        axis: axis,
+        axis: [x, y, z],
         max_torque_nm: torque,
         max_momentum_nms: momentum,
-        max_power_w: most,
+        max_power_w: limit_of(n == 1, power),
     }
 }
 
@@ -49,12 +47,9 @@ fn wheel_at(c: &[usize; 11], v: &[f64; 100], k: usize) -> Wheel
 fn wheels_of(c: &[usize; 11], v: &[f64; 100]) -> [Wheel; 8]
     ensures { result ≡ Declared.wheels c.now v.now }
 {
-    let blank = actuators::blank_wheel();
-    let mut out = [blank; 8];
-    let mut k: usize = 0;
-    while k < 8 {
+    let mut out = [actuators::blank_wheel(); 8];
+    for k in 0..8 {
         out[k] = wheel_at(c, v, k);
-        k += 1;
     }
     out
 }
@@ -63,9 +58,8 @@ fn wheels_of(c: &[usize; 11], v: &[f64; 100]) -> [Wheel; 8]
 fn thruster_of(x: f64, y: f64, z: f64, torque: f64) -> Thruster
     ensures { result ≡ Declared.thruster_of x y z torque }
 {
-    let axis = [x, y, z];
     Thruster {
-        torque_axis: axis,
+        torque_axis: [x, y, z],
         max_torque_nm: torque,
     }
 }
@@ -83,29 +77,26 @@ fn thruster_at(v: &[f64; 100], k: usize) -> Thruster
 fn thrusters_of(v: &[f64; 100]) -> [Thruster; 12]
     ensures { result ≡ Declared.thrusters v.now }
 {
-    let blank = actuators::blank_thruster();
-    let mut out = [blank; 12];
-    let mut k: usize = 0;
-    while k < 12 {
+    let mut out = [actuators::blank_thruster(); 12];
+    for k in 0..12 {
         out[k] = thruster_at(v, k);
-        k += 1;
     }
     out
 }
 
 // A pyramid, or none.
-fn cmgs_of(there: bool, skew: f64, momentum: f64, rate: f64, eps: f64) -> Cmgs
+fn cmgs_of(there: bool, skew: f64, momentum: f64, rate: f64, eps: f64) -> Option<CmgPyramid>
     ensures { result ≡ Declared.cmgs_of there skew momentum rate eps }
 {
     if there {
-        Cmgs::With(CmgPyramid {
+        Some(CmgPyramid {
             skew_rad: skew,
             wheel_momentum_nms: momentum,
             max_gimbal_rate_rad_s: rate,
             singularity_eps: eps,
         })
     } else {
-        Cmgs::Without
+        None
     }
 }
 
@@ -113,15 +104,12 @@ fn cmgs_of(there: bool, skew: f64, momentum: f64, rate: f64, eps: f64) -> Cmgs
 pub fn actuators_of(c: &[usize; 11], v: &[f64; 100]) -> Actuators
     ensures { result ≡ Declared.actuators c.now v.now }
 {
-    let wheels = wheels_of(c, v);
-    let thrusters = thrusters_of(v);
-    let cmgs = cmgs_of(c[2] == 1, v[96], v[97], v[98], v[99]);
     Actuators {
-        wheels: wheels,
+        wheels: wheels_of(c, v),
         wheel_count: c[0],
-        thrusters: thrusters,
+        thrusters: thrusters_of(v),
         thruster_count: c[1],
-        cmgs: cmgs,
+        cmgs: cmgs_of(c[2] == 1, v[96], v[97], v[98], v[99]),
     }
 }
 
@@ -129,9 +117,7 @@ pub fn actuators_of(c: &[usize; 11], v: &[f64; 100]) -> Actuators
 pub fn map_of(c: &[usize; 11], v: &[f64; 100]) -> ActuatorMap
     ensures { result ≡ Declared.map c.now v.now }
 {
-    let prepared = actuators::prepare(actuators_of(c, v));
-    let map = prepared.map;
-    map
+    actuators::prepare(actuators_of(c, v)).unwrap_or(actuators::blank_map())
 }
 
 // The six weights of a body's numbers.
@@ -152,10 +138,9 @@ fn weights_of(b: &[f64; 37]) -> Weights
 fn momenta_of(c: &[usize; 11], b: &[f64; 37]) -> Momenta
     ensures { result ≡ Declared.momenta c.now b.now }
 {
-    let at = [b[29], b[30], b[31], b[32], b[33], b[34], b[35], b[36]];
     Momenta {
         count: c[0],
-        at: at,
+        at: [b[29], b[30], b[31], b[32], b[33], b[34], b[35], b[36]],
     }
 }
 
@@ -163,34 +148,16 @@ fn momenta_of(c: &[usize; 11], b: &[f64; 37]) -> Momenta
 pub fn problem_of(c: &[usize; 11], v: &[f64; 100], b: &[f64; 37], limited: bool) -> Problem
     ensures { result ≡ Declared.problem c.now v.now b.now limited }
 {
-    let q0 = Quat {
-        w: b[0],
-        x: b[1],
-        y: b[2],
-        z: b[3],
-    };
-    let qf = Quat {
-        w: b[4],
-        x: b[5],
-        y: b[6],
-        z: b[7],
-    };
-    let inertia = [b[8], b[9], b[10], b[11], b[12], b[13], b[14], b[15], b[16]];
-    let torque_limit = [b[17], b[18], b[19]];
-    let slew = limit_of(limited, b[20]);
-    let weights = weights_of(b);
-    let actuators = actuators_of(c, v);
-    let momenta = momenta_of(c, b);
     Problem {
-        q0: q0,
-        qf: qf,
-        inertia: inertia,
-        torque_limit: torque_limit,
-        slew: slew,
-        weights: weights,
+        q0: Quat::new(b[0], b[1], b[2], b[3]),
+        qf: Quat::new(b[4], b[5], b[6], b[7]),
+        inertia: [b[8], b[9], b[10], b[11], b[12], b[13], b[14], b[15], b[16]],
+        torque_limit: [b[17], b[18], b[19]],
+        slew: limit_of(limited, b[20]),
+        weights: weights_of(b),
         norm_tolerance: b[27],
         tie_tolerance: b[28],
-        actuators: actuators,
-        momenta: momenta,
+        actuators: actuators_of(c, v),
+        momenta: momenta_of(c, b),
     }
 }

@@ -5,21 +5,24 @@ use mathlib.Core.Path.{◌≡◌, refl}
 use mathlib.Core.List.{List, [], ◌∷◌}
 use mathlib.Core.Bool.{Bool, true, false}
 use borrow.Author.Tests.{le-ltb}
-use lib.Dec.{ltb, eqb}
+use lib.Dec.{ltb}
 use lib.ListN.{length}
 use Rattle.common.specs.Iter.{iter}
 use Rattle.common.specs.IterLaws.{iter_stays}
-use Rattle.common.specs.declared.Fate.TheVariants.{Going}
 use Rattle.actuators.specs.declared.Actuators.{Actuators}
 use Rattle.actuators.specs.Maps.{no_actuators}
 use Rattle.problem_text.specs.declared.listing.Item.{Item}
+use Rattle.problem_text.specs.declared.listing.Kind.{Kind}
+use Rattle.problem_text.specs.declared.listing.Kind.TheVariants.{Wheel, Thruster, Pyramid}
+use Rattle.std.specs.Prelude.{Option, Some, None}
 use Rattle.problem_text.specs.declared.listing.Listing.{Listing}
 use Rattle.problem_text.specs.declared.Found.{Found}
 use Rattle.text.specs.Bytes.{bytes}
 use Rattle.text.specs.Forms.{loose}
 use Rattle.text.specs.Lines.{is_at, LineForm}
-use Rattle.problem_text.specs.Listing.{pick_actuators, pick_listing, with_wheel, with_thruster, with_pyramid, with_item, wrong_line, end_at, close_at, next_line, first_line, turn, list_at_value, item_at}
+use Rattle.problem_text.specs.Listing.{pick_listing, place_of, least_after, with_kind, line_with, with_wheel, with_thruster, with_pyramid, with_item, wrong_line, end_at, close_at, next_line, first_line, turn, list_at_value, item_at}
 use Rattle.problem_text.specs.Reader.{head_forms, nothing, next_line as lineNext, lines_from, lines_at}
+use Rattle.common.specs.Refusals.{going}
 
 -- ---- counts: a line adds at most one to each
 
@@ -30,12 +33,12 @@ record Added (a b : Actuators) : Type 0 where
 
 item_adds : (a : Actuators) (i : Item) → Added a (with_item a i)
 unfolding with_item with_wheel with_thruster with_pyramid
-item_adds a i = go (eqb i.kind 1) (eqb i.kind 2)
+item_adds a i = go i.kind
   where
-    go : (p q : Bool) → Added a (pick_actuators p (with_wheel a i.row) (pick_actuators q (with_thruster a i.row) (with_pyramid a i.row)))
-    go true q = record { wheels = omega arith; thrusters = omega arith }
-    go false true = record { wheels = omega arith; thrusters = omega arith }
-    go false false = record { wheels = omega arith; thrusters = omega arith }
+    go : (k : Kind) → Added a (with_kind k a i.row)
+    go Wheel = record { wheels = omega arith; thrusters = omega arith }
+    go Thruster = record { wheels = omega arith; thrusters = omega arith }
+    go Pyramid = record { wheels = omega arith; thrusters = omega arith }
 
 -- the end of a line: the next line's number at most
 record Closed (line : ℕ) (a : Actuators) (c : Listing) : Type 0 where
@@ -46,7 +49,7 @@ ends : (s : List ℕ) (line at least : ℕ) (a : Actuators) → Closed line a (e
 unfolding end_at
 ends s line at least a = go (ltb at (length s))
   where
-    go : (p : Bool) → Closed line a (pick_listing p (wrong_line (line + 1) at least a) (record { fate = Going; unclosed = false; line = line + 1; at = at; least = least; actuators = a }))
+    go : (p : Bool) → Closed line a (pick_listing p (wrong_line (line + 1) at least a) (record { fate = going; unclosed = false; line = line + 1; at = at; least = least; actuators = a }))
     go true = record { next = omega arith; same = refl }
     go false = record { next = omega arith; same = refl }
 
@@ -54,7 +57,7 @@ closes : (s : List ℕ) (line at least : ℕ) (a : Actuators) → Closed line a 
 unfolding close_at
 closes s line at least a = go (is_at s at (bytes "\n")) (is_at s at (bytes "))\n"))
   where
-    go : (p q : Bool) → Closed line a (pick_listing p (record { fate = Going; unclosed = true; line = line + 1; at = at + 1; least = least; actuators = a }) (pick_listing q (end_at s line (at + 3) least a) (wrong_line line at least a)))
+    go : (p q : Bool) → Closed line a (pick_listing p (record { fate = going; unclosed = true; line = line + 1; at = at + 1; least = least; actuators = a }) (pick_listing q (end_at s line (at + 3) least a) (wrong_line line at least a)))
     go true q = record { next = omega arith; same = refl }
     go false true = ends s line (at + 3) least a
     go false false = record { next = omega arith; same = refl }
@@ -67,14 +70,18 @@ pub record Counts (c : Listing) (k : ℕ) : Type 0 where
 
 pub counts_next : (s : List ℕ) (c : Listing) (k : ℕ) → Counts c k → Counts (next_line loose s c) (k + 1)
 unfolding next_line
-counts_next s c k h = go (item_at loose s c.at) (ltb (item_at loose s c.at).kind c.least)
+counts_next s c k h = go (item_at loose s c.at)
   where
-    go : (i : Item) (p : Bool) → Counts (pick_listing p (wrong_line c.line c.at c.least c.actuators) (close_at s c.line i.row.at i.next (with_item c.actuators i))) (k + 1)
-    go i true = record { line = omega arith; wheels = omega arith; thrusters = omega arith }
-    go i false =
+    by : (i : Item) (p : Bool) → Counts (pick_listing p (wrong_line c.line c.at c.least c.actuators) (close_at s c.line i.row.at (least_after i.kind) (with_item c.actuators i))) (k + 1)
+    by i true = record { line = omega arith; wheels = omega arith; thrusters = omega arith }
+    by i false =
         let b = item_adds c.actuators i in
-        let d = closes s c.line i.row.at i.next (with_item c.actuators i) in
+        let d = closes s c.line i.row.at (least_after i.kind) (with_item c.actuators i) in
         record { line = omega arith; wheels = rw d.same (omega arith); thrusters = rw d.same (omega arith) }
+
+    go : (i : Option Item) → Counts (line_with s c i) (k + 1)
+    go None = record { line = omega arith; wheels = omega arith; thrusters = omega arith }
+    go (Some i) = by i (ltb (place_of i.kind) c.least)
 
 pub counts_first : (s : List ℕ) (at : ℕ) → Counts (first_line s at) 0
 unfolding first_line no_actuators
@@ -112,5 +119,5 @@ module _ (s : List ℕ) (line : ℕ) (c : Found) where
   unfolding lines_from
   lines_end = refl
 
-pub lines_begin : (s : List ℕ) (at : ℕ) (c r : Found) → c ≡ nothing Going at → r ≡ lines_from loose s 1 c head_forms → r ≡ lines_at loose s at
+pub lines_begin : (s : List ℕ) (at : ℕ) (c r : Found) → c ≡ nothing going at → r ≡ lines_from loose s 1 c head_forms → r ≡ lines_at loose s at
 lines_begin s at c r e h = rw (← e) h

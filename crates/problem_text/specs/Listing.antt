@@ -1,18 +1,19 @@
 -- The list of actuators in the program's text: wheels, then thrusters, then at most one pyramid, a line each, over any form of words. Definitions only.
-use Rattle.std.specs.Prelude.{ℕ, ◌+◌, Bool, true, false, List, [], ◌∷◌, ltb, eqb, length, set, Float}
+use Rattle.std.specs.Prelude.{ℕ, ◌+◌, Bool, true, false, List, [], ◌∷◌, ltb, length, set, Float, Option, Some, None, Err}
 use Rattle.common.specs.Iter.{iter}
 use Rattle.common.specs.Lists as Lists
-use Rattle.common.specs.declared.Fate.TheVariants.{Going, Refused}
-use Rattle.actuators.specs.declared.Cmgs.TheVariants.{With}
 use Rattle.actuators.specs.declared.Actuators.{Actuators}
 use Rattle.actuators.specs.Maps.{no_actuators}
 use Rattle.text.specs.declared.lines.Row.{Row}
 use Rattle.text.specs.declared.lines.Words.TheVariants.{Floats, Limited}
 use Rattle.problem_text.specs.declared.listing.Item.{Item}
+use Rattle.problem_text.specs.declared.listing.Kind.{Kind}
+use Rattle.problem_text.specs.declared.listing.Kind.TheVariants.{Wheel, Thruster, Pyramid}
 use Rattle.problem_text.specs.declared.listing.Listing.{Listing}
 use Rattle.text.specs.Bytes.{bytes}
 use Rattle.text.specs.Forms.{Form}
-use Rattle.text.specs.Lines.{is_at, LineForm, form, line_at, wrong_row}
+use Rattle.text.specs.Lines.{is_at, LineForm, form, line_at}
+use Rattle.common.specs.Refusals.{refusal, going}
 
 -- number k of a row
 abbrev num : Row → ℕ → Float
@@ -23,9 +24,22 @@ axis r = num r 0 ∷ num r 1 ∷ num r 2 ∷ []
 
 -- ---- what a line declares
 
-abbrev pub pick_item : Bool → Item → Item → Item
-pick_item true a b = a
-pick_item false a b = b
+-- a kind's place in the list's order
+abbrev pub place_of : Kind → ℕ
+place_of Wheel = 1
+place_of Thruster = 2
+place_of Pyramid = 3
+
+-- the least place of a kind that may follow: there is at most one pyramid
+abbrev pub least_after : Kind → ℕ
+least_after Wheel = 1
+least_after Thruster = 2
+least_after Pyramid = 4
+
+-- an actuator of this kind where its line stands, else the other
+abbrev pub item_by : Kind → Option Row → Option Item → Option Item
+item_by k (Some r) other = Some (record { kind = k; row = r })
+item_by k None other = other
 
 abbrev pub wheel_form : LineForm
 wheel_form = form (bytes "  (wheel") (Limited 5) (bytes ")")
@@ -36,13 +50,12 @@ thruster_form = form (bytes "  (thruster") (Floats 4) (bytes ")")
 abbrev pub pyramid_form : LineForm
 pyramid_form = form (bytes "  (cmg") (Floats 4) (bytes ")")
 
--- one actuator up to its bracket, with its kind (1 wheel, 2 thruster, 3 pyramid, 0 none of them) and the least kind that may follow
-unfoldable pub item_at : Form → List ℕ → ℕ → Item
+-- one actuator up to its bracket
+unfoldable pub item_at : Form → List ℕ → ℕ → Option Item
 item_at f s at =
-    pick_item (line_at f s at wheel_form).ok (record { kind = 1; next = 1; row = line_at f s at wheel_form })
-    (pick_item (line_at f s at thruster_form).ok (record { kind = 2; next = 2; row = line_at f s at thruster_form })
-    (pick_item (line_at f s at pyramid_form).ok (record { kind = 3; next = 4; row = line_at f s at pyramid_form })
-    (record { kind = 0; next = 0; row = wrong_row })))
+    item_by Wheel (line_at f s at wheel_form)
+    (item_by Thruster (line_at f s at thruster_form)
+    (item_by Pyramid (line_at f s at pyramid_form) None))
 
 -- axis, torque, momentum, power; past the eighth a wheel is counted only
 unfoldable pub with_wheel : Actuators → Row → Actuators
@@ -71,17 +84,16 @@ with_pyramid a r = record {
   wheel_count = a.wheel_count;
   thrusters = a.thrusters;
   thruster_count = a.thruster_count;
-  cmgs = With (record { skew_rad = num r 0; wheel_momentum_nms = num r 1; max_gimbal_rate_rad_s = num r 2; singularity_eps = num r 3 });
+  cmgs = Some (record { skew_rad = num r 0; wheel_momentum_nms = num r 1; max_gimbal_rate_rad_s = num r 2; singularity_eps = num r 3 });
 }
 
-abbrev pub pick_actuators : Bool → Actuators → Actuators → Actuators
-pick_actuators true a b = a
-pick_actuators false a b = b
+abbrev pub with_kind : Kind → Actuators → Row → Actuators
+with_kind Wheel a r = with_wheel a r
+with_kind Thruster a r = with_thruster a r
+with_kind Pyramid a r = with_pyramid a r
 
 unfoldable pub with_item : Actuators → Item → Actuators
-with_item a i =
-    pick_actuators (eqb i.kind 1) (with_wheel a i.row)
-    (pick_actuators (eqb i.kind 2) (with_thruster a i.row) (with_pyramid a i.row))
+with_item a i = with_kind i.kind a i.row
 
 -- ---- the lines of the list
 
@@ -90,26 +102,27 @@ pick_listing true a b = a
 pick_listing false a b = b
 
 abbrev pub wrong_line : ℕ → ℕ → ℕ → Actuators → Listing
-wrong_line line at least a = record { fate = Refused 21 line; unclosed = false; line = line; at = at; least = least; actuators = a }
+wrong_line line at least a = record { fate = Err (refusal 21 line); unclosed = false; line = line; at = at; least = least; actuators = a }
 
 -- with the last brackets the text ends; what stands after them is wrong at the next line
 unfoldable pub end_at : List ℕ → ℕ → ℕ → ℕ → Actuators → Listing
 end_at s line at least a =
     pick_listing (ltb at (length s)) (wrong_line (line + 1) at least a)
-    (record { fate = Going; unclosed = false; line = line + 1; at = at; least = least; actuators = a })
+    (record { fate = going; unclosed = false; line = line + 1; at = at; least = least; actuators = a })
 
 -- after an actuator's bracket, on its own line: a line feed, or the brackets that close the list and the problem
 unfoldable pub close_at : List ℕ → ℕ → ℕ → ℕ → Actuators → Listing
 close_at s line at least a =
     pick_listing (is_at s at (bytes "\n"))
-    (record { fate = Going; unclosed = true; line = line + 1; at = at + 1; least = least; actuators = a })
+    (record { fate = going; unclosed = true; line = line + 1; at = at + 1; least = least; actuators = a })
     (pick_listing (is_at s at (bytes "))\n")) (end_at s line (at + 3) least a) (wrong_line line at least a))
 
 -- the next line holds an actuator of a kind that may follow, or it is wrong
-abbrev pub line_with : List ℕ → Listing → Item → Listing
-line_with s c i =
-    pick_listing (ltb i.kind c.least) (wrong_line c.line c.at c.least c.actuators)
-    (close_at s c.line i.row.at i.next (with_item c.actuators i))
+abbrev pub line_with : List ℕ → Listing → Option Item → Listing
+line_with s c None = wrong_line c.line c.at c.least c.actuators
+line_with s c (Some i) =
+    pick_listing (ltb (place_of i.kind) c.least) (wrong_line c.line c.at c.least c.actuators)
+    (close_at s c.line i.row.at (least_after i.kind) (with_item c.actuators i))
 
 unfoldable pub next_line : Form → List ℕ → Listing → Listing
 next_line f s c = line_with s c (item_at f s c.at)

@@ -1,10 +1,7 @@
 -- The problem of a text, or the first line, from 1, that is wrong or missing; over any form of words, and what the reader takes. Definitions only.
-use Rattle.std.specs.Prelude.{ℕ, ◌+◌, ◌-◌, Bool, true, false, List, [], ◌∷◌, eqb, ltb, length, get_or, set, replicate, Float}
+use Rattle.std.specs.Prelude.{ℕ, ◌+◌, ◌-◌, Bool, true, false, List, [], ◌∷◌, eqb, ltb, length, get_or, set, replicate, Float, Option, Some, None, Ok, Err}
 use Rattle.common.specs.Lists as Lists
 use Rattle.common.specs.Answer as Answer
-use Rattle.common.specs.declared.Fate.{Fate}
-use Rattle.common.specs.declared.Fate.TheVariants.{Going, Refused}
-use Rattle.common.specs.declared.Limit.TheVariants.{Nothing}
 use Rattle.geom.specs.declared.Quat.{Quat}
 use Rattle.actuators.specs.declared.Actuators.{Actuators}
 use Rattle.actuators.specs.Maps.{no_actuators}
@@ -18,8 +15,9 @@ use Rattle.problem_text.specs.declared.Found.{Found}
 use Rattle.problem_text.specs.declared.Read.{Read}
 use Rattle.text.specs.Bytes.{bytes}
 use Rattle.text.specs.Forms.{Form, loose}
-use Rattle.text.specs.Lines.{LineForm, form, line_at, wrong_row}
+use Rattle.text.specs.Lines.{LineForm, form, line_at, no_floats}
 use Rattle.problem_text.specs.Listing.{list_at_value}
+use Rattle.common.specs.Refusals.{Fate, refusal, going}
 
 -- ---- the lines before the list of actuators, in their order
 abbrev pub head_forms : List LineForm
@@ -39,23 +37,24 @@ head_forms =
 
 -- nothing found; so it stands beside a refusal too
 abbrev pub nothing : Fate → ℕ → Found
-nothing fate at = record { fate = fate; at = at; rows = replicate 9 wrong_row; actuators = no_actuators }
+nothing fate at = record { fate = fate; at = at; rows = replicate 9 (no_floats 0); actuators = no_actuators }
 
 abbrev pub wrong : ℕ → Found
-wrong line = nothing (Refused 21 line) 0
+wrong line = nothing (Err (refusal 21 line)) 0
 
 abbrev pub pick_found : Bool → Found → Found → Found
 pick_found true a b = a
 pick_found false a b = b
 
 -- line number `line`, from 1, has this row
-unfoldable pub with_row : Found → ℕ → Row → Found
-with_row c line r = pick_found r.ok (record { fate = Going; at = r.at; rows = set c.rows (line - 1) r; actuators = c.actuators }) (wrong line)
+unfoldable pub with_row : Found → ℕ → Option Row → Found
+with_row c line (Some r) = record { fate = going; at = r.at; rows = set c.rows (line - 1) r; actuators = c.actuators }
+with_row c line None = wrong line
 
 -- what goes on goes on to more
 abbrev pub goes_on_value : Fate → Found → Found → Found
-goes_on_value (Refused number line) c more = c
-goes_on_value Going c more = more
+goes_on_value (Err why) c more = c
+goes_on_value (Ok _) c more = more
 
 module _ (f : Form) (s : List ℕ) where
   unfoldable pub next_line : ℕ → Found → LineForm → Found
@@ -66,7 +65,7 @@ module _ (f : Form) (s : List ℕ) where
   lines_from line c (l ∷ ls) = lines_from (line + 1) (next_line line c l) ls
 
   abbrev pub lines_at : ℕ → Found
-  lines_at at = lines_from 1 (nothing Going at) head_forms
+  lines_at at = lines_from 1 (nothing going at) head_forms
 
   -- place 0 over 4,096 bytes
   unfoldable pub head_at_value : ℕ → Found
@@ -74,8 +73,8 @@ module _ (f : Form) (s : List ℕ) where
 
 -- ---- then the list, which must be closed
 abbrev pub listed_by : Fate → Found → Listing → Found
-listed_by (Refused number line) c l = wrong line
-listed_by Going c l = record { fate = Going; at = l.at; rows = c.rows; actuators = l.actuators }
+listed_by (Err why) c l = wrong why.place
+listed_by (Ok _) c l = record { fate = going; at = l.at; rows = c.rows; actuators = l.actuators }
 
 unfoldable pub with_list : Found → Listing → Found
 with_list c l = pick_found l.unclosed (wrong l.line) (listed_by l.fate c l)
@@ -87,7 +86,7 @@ next_list c l = goes_on_value c.fate c (with_list c l)
 
 -- the row of line number `line`
 abbrev pub row : List Row → ℕ → Row
-row rows line = get_or rows (line - 1) (record { ok = false; at = 0; count = 0; v = []; limit = Nothing })
+row rows line = get_or rows (line - 1) (record { at = 0; count = 0; v = []; limit = None })
 
 unfoldable pub judge_count : Found → Found
 judge_count c = goes_on_value c.fate c (pick_found (eqb (row c.rows 9).count c.actuators.wheel_count) c (wrong 9))
@@ -139,8 +138,8 @@ read_problem s = read_in loose s
 
 -- ---- as an answer: a problem, or refusal 21 and its line
 abbrev answer_by : Fate → Problem → Answer.Answer Problem
-answer_by Going p = Answer.Given p
-answer_by (Refused number line) p = Answer.Refused number line 0
+answer_by (Ok _) p = Answer.Given p
+answer_by (Err why) p = Answer.Refused why.number why.place 0
 
 -- no forward run has begun when a text is refused
 abbrev pub answer : Read → Answer.Answer Problem

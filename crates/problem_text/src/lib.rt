@@ -1,26 +1,27 @@
 // The program's text: nested brackets, one form a line, read into the problem that the planner takes.
 #![tactic(auto)]
 
-ghost use Rattle.std.specs.Prelude.{◌≡◌, ◌≤◌, set};
+ghost use Rattle.std.specs.Prelude.{◌≡◌, ◌≤◌};
 ghost use Rattle.text.specs.Forms.{loose};
 ghost use Rattle.text.specs.Lines as Lines;
 ghost use Rattle.problem_text.specs.Reader as Reader;
 
 use actuators::{Actuators, no_actuators};
-use common::Fate;
+use common::Refusal;
 use geom::Quat;
 use problem::{Momenta, Problem, Weights};
 
 pub mod listing;
 
 use listing::Listing;
-use text::lines::{Row, Words, line_at, wrong_row};
+use text::lines::{Row, Words, line_at, no_floats};
+use text::places::put;
 
 // What was found in a text so far: how the reading goes, the position after it, the rows of the first nine lines, the actuators. Beside a refusal there is
 // nothing.
 #[derive(Clone, Copy)]
 pub struct Found {
-    pub fate: Fate,
+    pub fate: Result<(), Refusal>,
     pub at: usize,
     pub rows: [Row; 9],
     pub actuators: Actuators,
@@ -29,65 +30,55 @@ pub struct Found {
 // What a text gives: the problem, or refusal 21 with the line and a blank problem.
 #[derive(Clone, Copy)]
 pub struct Read {
-    pub fate: Fate,
+    pub fate: Result<(), Refusal>,
     pub problem: Problem,
 }
 
 // Nothing is found yet at a position, or a line is wrong.
-fn nothing(fate: Fate, at: usize) -> Found
+fn nothing(fate: Result<(), Refusal>, at: usize) -> Found
     ensures { result ≡ Reader.nothing fate at }
 {
-    let row = wrong_row();
-    let rows = [row; 9];
-    let actuators = no_actuators();
     Found {
-        fate: fate,
-        at: at,
-        rows: rows,
-        actuators: actuators,
+        fate,
+        at,
+        rows: [no_floats(0); 9],
+        actuators: no_actuators(),
     }
-}
-
-// A line's row in its place, from 0.
-fn put_row(rows: [Row; 9], k: usize, row: Row) -> [Row; 9]
-    ensures { result ≡ set rows k row }
-{
-    let mut more = rows;
-    if k >= 9 {
-        return more;
-    }
-    more[k] = row;
-    more
 }
 
 // One line more: its row, or refusal 21 where it is wrong.
-fn with_row(c: Found, line: usize, row: Row) -> Found
+#[tactic(auto, unfolding(crate::specs::Reader::with_row))]
+fn with_row(c: Found, line: usize, row: Option<Row>) -> Found
     requires { 1 ≤ line }
     ensures { result ≡ Reader.with_row c line row }
 {
-    if !row.ok {
-        return nothing(Fate::Refused(21, line), 0);
-    }
-    let rows = c.rows;
-    let more = put_row(rows, line - 1, row);
-    let actuators = c.actuators;
+    let Some(row) = row else {
+        return nothing(
+            Err(Refusal {
+                number: 21,
+                place: line,
+            }),
+            0,
+        );
+    };
     Found {
-        fate: Fate::Going,
+        fate: Ok(()),
         at: row.at,
-        rows: more,
-        actuators: actuators,
+        rows: put(c.rows, line - 1, row),
+        actuators: c.actuators,
     }
 }
 
 // The line of a form after what was found, unless a line before it is wrong.
+#[tactic(auto, unfolding(crate::specs::Reader::next_line))]
 fn next_line(s: &[u8], c: Found, line: usize, head: &[u8], words: Words, tail: &[u8]) -> Found
     requires { 1 ≤ line }
     ensures { result ≡ Reader.next_line loose s.now line c (Lines.form head.now words tail.now) }
 {
     let fate = c.fate;
     match fate {
-        Fate::Refused(_, _) => c,
-        Fate::Going => with_row(c, line, line_at(s, c.at, head, words, tail)),
+        Err(_) => c,
+        Ok(()) => with_row(c, line, line_at(s, c.at, head, words, tail)),
     }
 }
 
@@ -95,7 +86,7 @@ fn next_line(s: &[u8], c: Found, line: usize, head: &[u8], words: Words, tail: &
 fn lines_at(s: &[u8], at: usize) -> Found
     ensures { result ≡ Reader.lines_at loose s.now at }
 {
-    let c = nothing(Fate::Going, at);
+    let c = nothing(Ok(()), at);
     let c = next_line(s, c, 1, b"(problem", Words::Floats(0), b"\n");
     let c = next_line(s, c, 2, b" (q0", Words::Floats(4), b")\n");
     let c = next_line(s, c, 3, b" (qf", Words::Floats(4), b")\n");
@@ -112,7 +103,13 @@ pub fn head_at(s: &[u8], at: usize) -> Found
     ensures { result ≡ Reader.head_at_value loose s.now at }
 {
     if s.len() > 4096 {
-        return nothing(Fate::Refused(21, 0), 0);
+        return nothing(
+            Err(Refusal {
+                number: 21,
+                place: 0,
+            }),
+            0,
+        );
     }
     lines_at(s, at)
 }
@@ -130,16 +127,28 @@ fn with_list(c: Found, list: Listing) -> Found
     ensures { result ≡ Reader.with_list c list }
 {
     if list.unclosed {
-        return nothing(Fate::Refused(21, list.line), 0);
+        return nothing(
+            Err(Refusal {
+                number: 21,
+                place: list.line,
+            }),
+            0,
+        );
     }
     let fate = list.fate;
     match fate {
-        Fate::Refused(_, line) => nothing(Fate::Refused(21, line), 0),
-        Fate::Going => {
+        Err(refusal) => nothing(
+            Err(Refusal {
+                number: 21,
+                place: refusal.place,
+            }),
+            0,
+        ),
+        Ok(()) => {
             let rows = c.rows;
             let actuators = list.actuators;
             Found {
-                fate: Fate::Going,
+                fate: Ok(()),
                 at: list.at,
                 rows: rows,
                 actuators: actuators,
@@ -154,8 +163,8 @@ fn next_list(c: Found, list: Listing) -> Found
 {
     let fate = c.fate;
     match fate {
-        Fate::Refused(_, _) => c,
-        Fate::Going => with_list(c, list),
+        Err(_) => c,
+        Ok(()) => with_list(c, list),
     }
 }
 
@@ -165,15 +174,21 @@ fn judge_count(c: Found) -> Found
 {
     let fate = c.fate;
     match fate {
-        Fate::Refused(_, _) => c,
-        Fate::Going => {
+        Err(_) => c,
+        Ok(()) => {
             let rows = c.rows;
             let row = rows[8];
             let actuators = c.actuators;
             if row.count == actuators.wheel_count {
                 c
             } else {
-                nothing(Fate::Refused(21, 9), 0)
+                nothing(
+                    Err(Refusal {
+                        number: 21,
+                        place: 9,
+                    }),
+                    0,
+                )
             }
         }
     }

@@ -1,24 +1,32 @@
 // The list of actuators in the program's text: wheels, then thrusters, then at most one pyramid, a line each.
-ghost use Rattle.std.specs.Prelude.{◌≡◌, ◌<◌, set};
+ghost use Rattle.std.specs.Prelude.{◌≡◌, ◌<◌};
 ghost use Rattle.problem_text.specs.Listing as Listings;
 ghost use Rattle.text.specs.Forms.{loose};
 
-use actuators::{Actuators, CmgPyramid, Cmgs, Thruster, Wheel, no_actuators};
-use common::Fate;
-use text::lines::{Row, Words, is_at, line_at, wrong_row};
+use actuators::{Actuators, CmgPyramid, Thruster, Wheel, no_actuators};
+use common::Refusal;
+use text::lines::{Row, Words, is_at, line_at};
+use text::places::put;
 
-// One actuator up to its bracket: a wheel's kind is 1, a thruster's 2, a pyramid's 3, and 0 is none of them. `next` is the least kind that may follow.
+// The kinds of actuators, in the order in which the list has them.
+#[derive(Clone, Copy, PartialEq, Eq)]
+pub enum Kind {
+    Wheel,
+    Thruster,
+    Pyramid,
+}
+
+// One actuator up to its bracket.
 #[derive(Clone, Copy)]
 pub struct Item {
-    pub kind: usize,
-    pub next: usize,
+    pub kind: Kind,
     pub row: Row,
 }
 
-// How far the list is read: whether a line of it follows, that line's number and position, the least kind that may stand there, what was read.
+// How far the list is read: whether a line of it follows, that line's number and position, the least place of a kind that may stand there, what was read.
 #[derive(Clone, Copy)]
 pub struct Listing {
-    pub fate: Fate,
+    pub fate: Result<(), Refusal>,
     pub unclosed: bool,
     pub line: usize,
     pub at: usize,
@@ -26,117 +34,91 @@ pub struct Listing {
     pub actuators: Actuators,
 }
 
+// A kind's place in the list's order, from 1.
+fn place_of(kind: Kind) -> usize
+    ensures { result ≡ Listings.place_of kind }
+{
+    match kind {
+        Kind::Wheel => 1,
+        Kind::Thruster => 2,
+        Kind::Pyramid => 3,
+    }
+}
+
+// The least place of a kind that may follow one: there is at most one pyramid.
+fn least_after(kind: Kind) -> usize
+    ensures { result ≡ Listings.least_after kind }
+{
+    match kind {
+        Kind::Wheel => 1,
+        Kind::Thruster => 2,
+        Kind::Pyramid => 4,
+    }
+}
+
 // The actuator at a position.
-fn item_at(s: &[u8], at: usize) -> Item
+fn item_at(s: &[u8], at: usize) -> Option<Item>
     ensures { result ≡ Listings.item_at loose s.now at }
 {
-    let wheel = line_at(s, at, b"  (wheel", Words::Limited(5), b")");
-    if wheel.ok {
-        return Item {
-            kind: 1,
-            next: 1,
-            row: wheel,
-        };
+    if let Some(row) = line_at(s, at, b"  (wheel", Words::Limited(5), b")") {
+        return Some(Item {
+            kind: Kind::Wheel,
+            row,
+        });
     }
-    let thruster = line_at(s, at, b"  (thruster", Words::Floats(4), b")");
-    if thruster.ok {
-        return Item {
-            kind: 2,
-            next: 2,
-            row: thruster,
-        };
+    if let Some(row) = line_at(s, at, b"  (thruster", Words::Floats(4), b")") {
+        return Some(Item {
+            kind: Kind::Thruster,
+            row,
+        });
     }
-    let pyramid = line_at(s, at, b"  (cmg", Words::Floats(4), b")");
-    if pyramid.ok {
-        return Item {
-            kind: 3,
-            next: 4,
-            row: pyramid,
-        };
-    }
-    Item {
-        kind: 0,
-        next: 0,
-        row: wrong_row(),
-    }
-}
-
-// A wheel in its place; past the eighth there is none.
-fn put_wheel(wheels: [Wheel; 8], k: usize, wheel: Wheel) -> [Wheel; 8]
-    ensures { result ≡ set wheels k wheel }
-{
-    let mut more = wheels;
-    if k >= 8 {
-        return more;
-    }
-    more[k] = wheel;
-    more
-}
-
-// A thruster in its place; past the twelfth there is none.
-fn put_thruster(thrusters: [Thruster; 12], k: usize, thruster: Thruster) -> [Thruster; 12]
-    ensures { result ≡ set thrusters k thruster }
-{
-    let mut more = thrusters;
-    if k >= 12 {
-        return more;
-    }
-    more[k] = thruster;
-    more
+    let row = line_at(s, at, b"  (cmg", Words::Floats(4), b")")?;
+    Some(Item {
+        kind: Kind::Pyramid,
+        row,
+    })
 }
 
 // One wheel more; past the eighth it is counted only.
+#[tactic(auto, unfolding(crate::specs::Listing::with_wheel))]
 fn with_wheel(a: Actuators, row: Row) -> Actuators
     requires { a.wheel_count < 8192 }
     ensures { result ≡ Listings.with_wheel a row }
 {
-    let count = a.wheel_count;
     let v = row.v;
-    let power = row.limit;
     let wheel = Wheel {
         axis: [v[0], v[1], v[2]],
         max_torque_nm: v[3],
         max_momentum_nms: v[4],
-        max_power_w: power,
+        max_power_w: row.limit,
     };
-    let wheels = a.wheels;
-    let more = put_wheel(wheels, count, wheel);
-    let thrusters = a.thrusters;
-    let cmgs = a.cmgs;
     Actuators {
-        wheels: more,
-        wheel_count: count + 1,
-        thrusters: thrusters,
-        thruster_count: a.thruster_count,
-        cmgs: cmgs,
+        wheels: put(a.wheels, a.wheel_count, wheel),
+        wheel_count: a.wheel_count + 1,
+        ..a
     }
 }
 
 // One thruster more; past the twelfth it is counted only.
+#[tactic(auto, unfolding(crate::specs::Listing::with_thruster))]
 fn with_thruster(a: Actuators, row: Row) -> Actuators
     requires { a.thruster_count < 8192 }
     ensures { result ≡ Listings.with_thruster a row }
 {
-    let count = a.thruster_count;
     let v = row.v;
     let thruster = Thruster {
         torque_axis: [v[0], v[1], v[2]],
         max_torque_nm: v[3],
     };
-    let thrusters = a.thrusters;
-    let more = put_thruster(thrusters, count, thruster);
-    let wheels = a.wheels;
-    let cmgs = a.cmgs;
     Actuators {
-        wheels: wheels,
-        wheel_count: a.wheel_count,
-        thrusters: more,
-        thruster_count: count + 1,
-        cmgs: cmgs,
+        thrusters: put(a.thrusters, a.thruster_count, thruster),
+        thruster_count: a.thruster_count + 1,
+        ..a
     }
 }
 
 // The pyramid.
+#[tactic(auto, unfolding(crate::specs::Listing::with_pyramid))]
 fn with_pyramid(a: Actuators, row: Row) -> Actuators
     ensures { result ≡ Listings.with_pyramid a row }
 {
@@ -147,30 +129,23 @@ fn with_pyramid(a: Actuators, row: Row) -> Actuators
         max_gimbal_rate_rad_s: v[2],
         singularity_eps: v[3],
     };
-    let wheels = a.wheels;
-    let thrusters = a.thrusters;
     Actuators {
-        wheels: wheels,
-        wheel_count: a.wheel_count,
-        thrusters: thrusters,
-        thruster_count: a.thruster_count,
-        cmgs: Cmgs::With(pyramid),
+        cmgs: Some(pyramid),
+        ..a
     }
 }
 
 // One actuator more.
+#[tactic(auto, unfolding(crate::specs::Listing::with_item))]
 fn with_item(a: Actuators, item: Item) -> Actuators
     requires { (a.wheel_count < 8192) × (a.thruster_count < 8192) }
     ensures { result ≡ Listings.with_item a item }
 {
-    let row = item.row;
-    if item.kind == 1 {
-        return with_wheel(a, row);
+    match item.kind {
+        Kind::Wheel => with_wheel(a, item.row),
+        Kind::Thruster => with_thruster(a, item.row),
+        Kind::Pyramid => with_pyramid(a, item.row),
     }
-    if item.kind == 2 {
-        return with_thruster(a, row);
-    }
-    with_pyramid(a, row)
 }
 
 // A line that is wrong or missing ends the list.
@@ -178,7 +153,10 @@ fn wrong_line(line: usize, at: usize, least: usize, actuators: Actuators) -> Lis
     ensures { result ≡ Listings.wrong_line line at least actuators }
 {
     Listing {
-        fate: Fate::Refused(21, line),
+        fate: Err(Refusal {
+            number: 21,
+            place: line,
+        }),
         unclosed: false,
         line: line,
         at: at,
@@ -188,6 +166,7 @@ fn wrong_line(line: usize, at: usize, least: usize, actuators: Actuators) -> Lis
 }
 
 // The brackets after the last actuator's, with which the text must end: what stands there is wrong at the next line.
+#[tactic(auto, unfolding(crate::specs::Listing::end_at))]
 fn end_at(s: &[u8], line: usize, at: usize, least: usize, actuators: Actuators) -> Listing
     requires { line < 8192 }
     ensures { result ≡ Listings.end_at s.now line at least actuators }
@@ -196,7 +175,7 @@ fn end_at(s: &[u8], line: usize, at: usize, least: usize, actuators: Actuators) 
         return wrong_line(line + 1, at, least, actuators);
     }
     Listing {
-        fate: Fate::Going,
+        fate: Ok(()),
         unclosed: false,
         line: line + 1,
         at: at,
@@ -206,13 +185,14 @@ fn end_at(s: &[u8], line: usize, at: usize, least: usize, actuators: Actuators) 
 }
 
 // What follows an actuator's bracket, on its own line: a line feed, or the brackets that close the list and the problem.
+#[tactic(auto, unfolding(crate::specs::Listing::close_at))]
 fn close_at(s: &[u8], line: usize, at: usize, least: usize, actuators: Actuators) -> Listing
     requires { line < 8192 }
     ensures { result ≡ Listings.close_at s.now line at least actuators }
 {
     if is_at(s, at, b"\n") {
         return Listing {
-            fate: Fate::Going,
+            fate: Ok(()),
             unclosed: true,
             line: line + 1,
             at: at + 1,
@@ -227,22 +207,23 @@ fn close_at(s: &[u8], line: usize, at: usize, least: usize, actuators: Actuators
 }
 
 // The next line of an open list.
+#[tactic(auto, unfolding(crate::specs::Listing::next_line))]
 fn next_line(s: &[u8], c: Listing) -> Listing
     requires { (c.line < 8192) × ((c.actuators.wheel_count < 8192) × (c.actuators.thruster_count < 8192)) }
     ensures { result ≡ Listings.next_line loose s.now c }
 {
-    let at = c.at;
-    let actuators = c.actuators;
-    let item = item_at(s, at);
-    if item.kind < c.least {
-        return wrong_line(c.line, at, c.least, actuators);
+    let Some(item) = item_at(s, c.at) else {
+        return wrong_line(c.line, c.at, c.least, c.actuators);
+    };
+    if place_of(item.kind) < c.least {
+        return wrong_line(c.line, c.at, c.least, c.actuators);
     }
-    let row = item.row;
-    let more = with_item(actuators, item);
-    close_at(s, c.line, row.at, item.next, more)
+    let more = with_item(c.actuators, item);
+    close_at(s, c.line, item.row.at, least_after(item.kind), more)
 }
 
 // Line 10, which begins the list.
+#[tactic(auto, unfolding(crate::specs::Listing::first_line))]
 fn first_line(s: &[u8], at: usize) -> Listing
     ensures { result ≡ Listings.first_line s.now at }
 {
@@ -261,13 +242,11 @@ pub fn list_at(s: &[u8], at: usize) -> Listing
         return wrong_line(0, at, 1, no_actuators());
     }
     let mut c = first_line(s, at);
-    let mut k: usize = 0;
-    while k < s.len() {
+    for k in 0..s.len() {
         if !c.unclosed {
             return c;
         }
         c = next_line(s, c);
-        k += 1;
     }
     c
 }

@@ -1,33 +1,23 @@
 -- The eigenaxis profile of a slew: full acceleration, a coast at the top rate, full deceleration. As in lib.rs, one rounding an operation. Definitions only.
-use Rattle.std.specs.Prelude.{Bool, not, cond, ◌||◌, List, [], ◌∷◌, Float}
+use Rattle.std.specs.Prelude.{Bool, not, cond, ◌||◌, List, [], ◌∷◌, Float, Option, Some, None, Err, Result, Ok}
 use Rattle.std.specs.Float.{binary64}
 use Rattle.std.specs.Float.Ieee.{add, sub, mul, div, neg, lt, le, of_bits}
 use Rattle.std.specs.Float.Ieee.Scale.{finite}
 use Rattle.common.specs.Floats.{one, plus_zero}
-use Rattle.common.specs.declared.Limit.{Limit}
-use Rattle.common.specs.declared.Limit.TheVariants as Limit
-use Rattle.common.specs.declared.Fate.{Fate}
-use Rattle.common.specs.declared.Fate.TheVariants as Fate
 use Rattle.common.specs.Lists.{at}
 use Rattle.float.specs.Ops.{abs, min, clamp}
 use Rattle.float.specs.Sqrt.{sqrt}
-use Rattle.angles.specs.declared.Angle.{Angle}
-use Rattle.angles.specs.declared.Angle.TheVariants as Angle
 use Rattle.angles.specs.Angles.{sin_of, cos_of}
 use Rattle.angles.specs.Arcs.{acos_of}
 use Rattle.geom.specs.declared.Quat.{Quat}
-use Rattle.geom.specs.declared.Turned.{Turned}
-use Rattle.geom.specs.declared.Turned.TheVariants as Turned
 use Rattle.geom.specs.Vec.{zero3, half, two, minus_one, is_positive_value, scale3, tensor, apply_tensor, body_euler_torque}
 use Rattle.geom.specs.Halves.{on_both}
 use Rattle.geom.specs.Quats.{quat, dot_q, negate_q, conj, quat_mul, norm3, part, least}
 use Rattle.geom.specs.Tensors.{flatten}
 use Rattle.profile.specs.declared.Profile.{Profile}
 use Rattle.profile.specs.declared.Profiled.{Profiled}
-use Rattle.profile.specs.declared.Acceleration.{Acceleration}
-use Rattle.profile.specs.declared.Acceleration.TheVariants as Acceleration
-use Rattle.profile.specs.declared.Switches.{Switches}
-use Rattle.profile.specs.declared.Switches.TheVariants as Switches
+use Rattle.common.specs.Refusals.{Fate, refusal, going}
+use Rattle.common.specs.declared.Refusal.{Refusal}
 
 -- ---- a profile at a time
 
@@ -70,13 +60,13 @@ unfoldable pub torque_vec : Profile → Float → List Float
 torque_vec p t = body_euler_torque (tensor p.inertia) p.axis (alpha_signed p t) (rate p t) zero3
 
 -- the attitude from the sine and the cosine of half the angle
-abbrev pub quaternion_of : Profile → Float → Float → Turned
+abbrev pub quaternion_of : Profile → Float → Float → Option Quat
 quaternion_of p s c =
-    Turned.Is (quat_mul p.q0 (quat c (mul binary64 (at p.axis 0) s) (mul binary64 (at p.axis 1) s) (mul binary64 (at p.axis 2) s)))
+    Some (quat_mul p.q0 (quat c (mul binary64 (at p.axis 0) s) (mul binary64 (at p.axis 1) s) (mul binary64 (at p.axis 2) s)))
 
 -- the attitude
-unfoldable pub quaternion : Profile → Float → Turned
-quaternion p t = on_both Turned.Outside (quaternion_of p) (sin_of (mul binary64 half (angle p t))) (cos_of (mul binary64 half (angle p t)))
+unfoldable pub quaternion : Profile → Float → Option Quat
+quaternion p t = on_both None (quaternion_of p) (sin_of (mul binary64 half (angle p t))) (cos_of (mul binary64 half (angle p t)))
 
 -- ---- the acceleration that the torque box allows
 
@@ -93,34 +83,34 @@ abbrev pub box_alpha : List Float → List Float → Float
 box_alpha n l = box_turn (box_turn (box_turn (of_bits binary64 0x7ff0_0000_0000_0000) (at n 0) (at l 0)) (at n 1) (at l 1)) (at n 2) (at l 2)
 
 -- an acceleration is finite and above 0
-unfoldable pub acceleration_of : Float → Acceleration
-acceleration_of a = cond (is_positive_value a) (Acceleration.Is a) Acceleration.Not
+unfoldable pub acceleration_of : Float → Option Float
+acceleration_of a = cond (is_positive_value a) (Some a) None
 
 -- the acceleration about an axis within the torque limits
-abbrev pub alpha_from_box : List (List Float) → List Float → List Float → Acceleration
+abbrev pub alpha_from_box : List (List Float) → List Float → List Float → Option Float
 alpha_from_box j axis limit = acceleration_of (box_alpha (apply_tensor j axis) limit)
 
 -- ---- the switch times: the acceleration's length, the coast's length, the top rate
 
 -- a coast is finite and not below 0
-unfoldable pub coasting : Float → Float → Float → Switches
-coasting acc coast limit = cond (not (finite coast) || lt coast plus_zero) (Switches.Refused 7 2) (Switches.Are acc coast limit)
+unfoldable pub coasting : Float → Float → Float → Result (Float × Float × Float) Refusal
+coasting acc coast limit = cond (not (finite coast) || lt coast plus_zero) (Err (refusal 7 2)) (Ok (acc, coast, limit))
 
 -- with a slew limit: without a coast where the top rate is within it
-unfoldable pub limited : Float → Float → Float → Float → Float → Switches
+unfoldable pub limited : Float → Float → Float → Float → Float → Result (Float × Float × Float) Refusal
 limited theta alpha bang peak limit =
     cond (is_positive_value limit)
-    (cond (le peak limit) (Switches.Are bang plus_zero peak)
+    (cond (le peak limit) (Ok (bang, plus_zero, peak))
     (coasting (div binary64 limit alpha) (div binary64 (sub binary64 theta (div binary64 (mul binary64 limit limit) alpha)) limit) limit))
-    (Switches.Refused 4 0)
+    (Err (refusal 4 0))
 
 -- with or without one
-abbrev pub switch_by : Float → Float → Float → Limit → Switches
-switch_by theta alpha bang Limit.Nothing = Switches.Are bang plus_zero (mul binary64 alpha bang)
-switch_by theta alpha bang (Limit.At limit) = limited theta alpha bang (mul binary64 alpha bang) limit
+abbrev pub switch_by : Float → Float → Float → Option Float → Result (Float × Float × Float) Refusal
+switch_by theta alpha bang None = Ok (bang, plus_zero, mul binary64 alpha bang)
+switch_by theta alpha bang (Some limit) = limited theta alpha bang (mul binary64 alpha bang) limit
 
 -- the switch times of a turn by theta
-unfoldable pub switch_times : Float → Float → Limit → Switches
+unfoldable pub switch_times : Float → Float → Option Float → Result (Float × Float × Float) Refusal
 switch_times theta alpha slew = switch_by theta alpha (sqrt binary64 (div binary64 theta alpha)) slew
 
 -- ---- the whole profile, stage by stage
@@ -144,10 +134,10 @@ abbrev pub refused : Fate → Profiled
 refused f = record { fate = f; profile = blank }
 
 -- with the switch times
-abbrev pub with_switches : Quat → List (List Float) → List Float → Float → Float → Switches → Profiled
-with_switches q0 j axis theta alpha (Switches.Refused n k) = refused (Fate.Refused n k)
-with_switches q0 j axis theta alpha (Switches.Are acc coast peak) = record {
-  fate = Fate.Going;
+abbrev pub with_switches : Quat → List (List Float) → List Float → Float → Float → Result (Float × Float × Float) Refusal → Profiled
+with_switches q0 j axis theta alpha (Err why) = refused (Err why)
+with_switches q0 j axis theta alpha (Ok (acc, coast, peak)) = record {
+  fate = going;
   profile = record {
     theta = theta;
     alpha = alpha;
@@ -162,29 +152,29 @@ with_switches q0 j axis theta alpha (Switches.Are acc coast peak) = record {
 }
 
 -- with the acceleration; 7 at place 2 without one
-abbrev pub with_alpha : Quat → List (List Float) → List Float → Float → Limit → Acceleration → Profiled
-with_alpha q0 j axis theta slew Acceleration.Not = refused (Fate.Refused 7 2)
-with_alpha q0 j axis theta slew (Acceleration.Is alpha) = with_switches q0 j axis theta alpha (switch_times theta alpha slew)
+abbrev pub with_alpha : Quat → List (List Float) → List Float → Float → Option Float → Option Float → Profiled
+with_alpha q0 j axis theta slew None = refused (Err (refusal 7 2))
+with_alpha q0 j axis theta slew (Some alpha) = with_switches q0 j axis theta alpha (switch_times theta alpha slew)
 
 -- with the angle, which has to be finite and above 0
-unfoldable pub with_theta : Quat → List (List Float) → List Float → Float → List Float → Limit → Profiled
+unfoldable pub with_theta : Quat → List (List Float) → List Float → Float → List Float → Option Float → Profiled
 with_theta q0 j axis theta limit slew =
-    cond (is_positive_value theta) (with_alpha q0 j axis theta slew (alpha_from_box j axis limit)) (refused (Fate.Refused 7 0))
+    cond (is_positive_value theta) (with_alpha q0 j axis theta slew (alpha_from_box j axis limit)) (refused (Err (refusal 7 0)))
 
 -- the vector part of rel over its length n
 abbrev pub axis_of : Quat → Float → List Float
 axis_of rel n = div binary64 rel.x n ∷ div binary64 rel.y n ∷ div binary64 rel.z n ∷ []
 
 -- with the half angle; 11 where the arc cosine refuses
-abbrev pub with_half : Quat → List (List Float) → List Float → List Float → Limit → Angle → Profiled
-with_half q0 j axis limit slew Angle.Outside = refused (Fate.Refused 11 0)
-with_half q0 j axis limit slew (Angle.Is a) = with_theta q0 j axis (mul binary64 two a) limit slew
+abbrev pub with_half : Quat → List (List Float) → List Float → List Float → Option Float → Option Float → Profiled
+with_half q0 j axis limit slew None = refused (Err (refusal 11 0))
+with_half q0 j axis limit slew (Some a) = with_theta q0 j axis (mul binary64 two a) limit slew
 
 -- with the relative attitude, whose vector part has length n and whose scalar part is d within -1 to 1: no zero angle, no half turn
-unfoldable pub with_relative : Quat → List (List Float) → List Float → Limit → Float → Quat → Float → Float → Profiled
+unfoldable pub with_relative : Quat → List (List Float) → List Float → Option Float → Float → Quat → Float → Float → Profiled
 with_relative q0 j limit slew tie rel n d =
-    cond (lt n least) (refused (Fate.Refused 7 0))
-    (cond (le (abs d) tie) (refused (Fate.Refused 7 1))
+    cond (lt n least) (refused (Err (refusal 7 0)))
+    (cond (le (abs d) tie) (refused (Err (refusal 7 1)))
     (with_half q0 j (axis_of rel n) limit slew (acos_of d)))
 
 -- the attitude qf seen from q0, the shorter way round
@@ -192,6 +182,6 @@ unfoldable pub relative : Quat → Quat → Quat
 relative q0 qf = quat_mul (conj q0) (cond (lt (dot_q q0 qf) plus_zero) (negate_q qf) qf)
 
 -- the profile from q0 to qf
-unfoldable pub bang_coast_bang : Quat → Quat → List (List Float) → List Float → Limit → Float → Profiled
+unfoldable pub bang_coast_bang : Quat → Quat → List (List Float) → List Float → Option Float → Float → Profiled
 bang_coast_bang q0 qf j limit slew tie =
     with_relative q0 j limit slew tie (relative q0 qf) (norm3 (part (relative q0 qf))) (clamp minus_one one (relative q0 qf).w)

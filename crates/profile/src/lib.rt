@@ -6,9 +6,8 @@ ghost use Rattle.std.specs.Prelude.{◌≡◌, ◌+◌, ◌*◌, ◌<◌, ◌++�
 ghost use Rattle.profile.specs.Profiles as Profiles;
 ghost use Rattle.profile.specs.Seeds as Seeds;
 
-use angles::{Angle, Both};
-use common::{Fate, Limit, SOLVER_NODES};
-use geom::{Quat, Turned};
+use common::{Refusal, SOLVER_NODES};
+use geom::Quat;
 
 // A turn by theta about an axis: acceleration for t_acc, a coast for t_coast, deceleration for t_acc. The inertia is nine numbers, by rows.
 #[derive(Clone, Copy)]
@@ -27,22 +26,8 @@ pub struct Profile {
 // What `bang_coast_bang` answers: a profile, or a refusal beside a profile of zeros.
 #[derive(Clone, Copy)]
 pub struct Profiled {
-    pub fate: Fate,
+    pub fate: Result<(), Refusal>,
     pub profile: Profile,
-}
-
-// What `alpha_from_box` answers: an acceleration, or refusal 7 at place 2.
-#[derive(Clone, Copy)]
-pub enum Acceleration {
-    Is(f64),
-    Not,
-}
-
-// What `switch_times` answers: the lengths of acceleration and coast and the top rate, or a refusal's number and place.
-#[derive(Clone, Copy)]
-pub enum Switches {
-    Are(f64, f64, f64),
-    Refused(usize, usize),
 }
 
 impl Profile {
@@ -104,20 +89,20 @@ impl Profile {
         geom::body_euler_torque(j, axis, self.alpha_signed(t), self.rate(t), [0.0; 3])
     }
 
-    pub fn quaternion(self, t: f64) -> Turned
+    pub fn quaternion(self, t: f64) -> Option<Quat>
         ensures { result ≡ Profiles.quaternion self t }
     {
         let axis = self.axis;
         let q0 = self.q0;
         let half = angles::sin_cos(0.5 * self.angle(t));
         match half {
-            Both::Are(s, c) => Turned::Is(q0.mul(Quat {
+            Some((s, c)) => Some(q0.mul(Quat {
                 w: c,
                 x: axis[0] * s,
                 y: axis[1] * s,
                 z: axis[2] * s,
             })),
-            Both::Outside => Turned::Outside,
+            None => None,
         }
     }
 }
@@ -134,22 +119,18 @@ fn box_turn(alpha: f64, jn: f64, limit: f64) -> f64
     }
 }
 
-fn acceleration_of(alpha: f64) -> Acceleration
+fn acceleration_of(alpha: f64) -> Option<f64>
     ensures { result ≡ Profiles.acceleration_of alpha }
 {
     if geom::is_positive(alpha) {
-        Acceleration::Is(alpha)
+        Some(alpha)
     } else {
-        Acceleration::Not
+        None
     }
 }
 
 // The acceleration about an axis that the torque limits allow.
-pub fn alpha_from_box(
-    inertia: [[f64; 3]; 3],
-    axis: [f64; 3],
-    torque_limit: [f64; 3],
-) -> Acceleration
+pub fn alpha_from_box(inertia: [[f64; 3]; 3], axis: [f64; 3], torque_limit: [f64; 3]) -> Option<f64>
     ensures { result ≡ Profiles.alpha_from_box inertia axis torque_limit }
 {
     let jn = geom::apply_tensor(inertia, axis);
@@ -162,25 +143,37 @@ pub fn alpha_from_box(
     acceleration_of(box_turn(b, jn[2], torque_limit[2]))
 }
 
-fn coasting(t_acc: f64, t_coast: f64, limit: f64) -> Switches
+fn coasting(t_acc: f64, t_coast: f64, limit: f64) -> Result<(f64, f64, f64), Refusal>
     ensures { result ≡ Profiles.coasting t_acc t_coast limit }
 {
     if !float::is_finite(t_coast) | (t_coast < 0.0) {
-        Switches::Refused(7, 2)
+        Err(Refusal {
+            number: 7,
+            place: 2,
+        })
     } else {
-        Switches::Are(t_acc, t_coast, limit)
+        Ok((t_acc, t_coast, limit))
     }
 }
 
 // The switch times under a slew limit. A planner has checked the limit before; alone, a limit that is not finite and above 0 is refusal 4.
-fn limited(theta: f64, alpha: f64, bang: f64, peak: f64, limit: f64) -> Switches
+fn limited(
+    theta: f64,
+    alpha: f64,
+    bang: f64,
+    peak: f64,
+    limit: f64,
+) -> Result<(f64, f64, f64), Refusal>
     ensures { result ≡ Profiles.limited theta alpha bang peak limit }
 {
     if !geom::is_positive(limit) {
-        return Switches::Refused(4, 0);
+        return Err(Refusal {
+            number: 4,
+            place: 0,
+        });
     }
     if peak <= limit {
-        return Switches::Are(bang, 0.0, peak);
+        return Ok((bang, 0.0, peak));
     }
     coasting(
         limit / alpha,
@@ -189,17 +182,21 @@ fn limited(theta: f64, alpha: f64, bang: f64, peak: f64, limit: f64) -> Switches
     )
 }
 
-pub fn switch_times(theta: f64, alpha: f64, slew_limit: Limit) -> Switches
+pub fn switch_times(
+    theta: f64,
+    alpha: f64,
+    slew_limit: Option<f64>,
+) -> Result<(f64, f64, f64), Refusal>
     ensures { result ≡ Profiles.switch_times theta alpha slew_limit }
 {
     let bang = float::sqrt(theta / alpha);
     match slew_limit {
-        Limit::Nothing => Switches::Are(bang, 0.0, alpha * bang),
-        Limit::At(limit) => limited(theta, alpha, bang, alpha * bang, limit),
+        None => Ok((bang, 0.0, alpha * bang)),
+        Some(limit) => limited(theta, alpha, bang, alpha * bang, limit),
     }
 }
 
-fn refused(fate: Fate) -> Profiled
+fn refused(fate: Result<(), Refusal>) -> Profiled
     ensures { result ≡ Profiles.refused fate }
 {
     let axis = [0.0; 3];
@@ -233,13 +230,13 @@ fn with_switches(
     axis: [f64; 3],
     theta: f64,
     alpha: f64,
-    times: Switches,
+    times: Result<(f64, f64, f64), Refusal>,
 ) -> Profiled
     ensures { result ≡ Profiles.with_switches q0 j axis theta alpha times }
 {
     match times {
-        Switches::Refused(n, k) => refused(Fate::Refused(n, k)),
-        Switches::Are(t_acc, t_coast, omega_peak) => {
+        Err(refusal) => refused(Err(refusal)),
+        Ok((t_acc, t_coast, omega_peak)) => {
             let inertia = geom::flatten(j);
             let profile = Profile {
                 theta: theta,
@@ -253,7 +250,7 @@ fn with_switches(
                 q0: q0,
             };
             Profiled {
-                fate: Fate::Going,
+                fate: Ok(()),
                 profile: profile,
             }
         }
@@ -265,21 +262,17 @@ fn with_alpha(
     j: [[f64; 3]; 3],
     axis: [f64; 3],
     theta: f64,
-    slew: Limit,
-    a: Acceleration,
+    slew: Option<f64>,
+    a: Option<f64>,
 ) -> Profiled
     ensures { result ≡ Profiles.with_alpha q0 j axis theta slew a }
 {
     match a {
-        Acceleration::Not => refused(Fate::Refused(7, 2)),
-        Acceleration::Is(alpha) => with_switches(
-            q0,
-            j,
-            axis,
-            theta,
-            alpha,
-            switch_times(theta, alpha, slew),
-        ),
+        None => refused(Err(Refusal {
+            number: 7,
+            place: 2,
+        })),
+        Some(alpha) => with_switches(q0, j, axis, theta, alpha, switch_times(theta, alpha, slew)),
     }
 }
 
@@ -289,12 +282,15 @@ fn with_theta(
     axis: [f64; 3],
     theta: f64,
     limit: [f64; 3],
-    slew: Limit,
+    slew: Option<f64>,
 ) -> Profiled
     ensures { result ≡ Profiles.with_theta q0 j axis theta limit slew }
 {
     if !geom::is_positive(theta) {
-        return refused(Fate::Refused(7, 0));
+        return refused(Err(Refusal {
+            number: 7,
+            place: 0,
+        }));
     }
     with_alpha(q0, j, axis, theta, slew, alpha_from_box(j, axis, limit))
 }
@@ -315,14 +311,17 @@ fn with_half(
     j: [[f64; 3]; 3],
     axis: [f64; 3],
     limit: [f64; 3],
-    slew: Limit,
-    half: Angle,
+    slew: Option<f64>,
+    half: Option<f64>,
 ) -> Profiled
     ensures { result ≡ Profiles.with_half q0 j axis limit slew half }
 {
     match half {
-        Angle::Outside => refused(Fate::Refused(11, 0)),
-        Angle::Is(a) => with_theta(q0, j, axis, 2.0 * a, limit, slew),
+        None => refused(Err(Refusal {
+            number: 11,
+            place: 0,
+        })),
+        Some(a) => with_theta(q0, j, axis, 2.0 * a, limit, slew),
     }
 }
 
@@ -332,7 +331,7 @@ pub fn bang_coast_bang(
     qf: Quat,
     inertia: [[f64; 3]; 3],
     torque_limit: [f64; 3],
-    slew: Limit,
+    slew: Option<f64>,
     tie: f64,
 ) -> Profiled
     ensures { result ≡ Profiles.bang_coast_bang q0 qf inertia torque_limit slew tie }
@@ -340,11 +339,17 @@ pub fn bang_coast_bang(
     let rel = relative(q0, qf);
     let n = geom::norm3([rel.x, rel.y, rel.z]);
     if n < 1.0e-18 {
-        return refused(Fate::Refused(7, 0));
+        return refused(Err(Refusal {
+            number: 7,
+            place: 0,
+        }));
     }
     let dotted = float::clamp(rel.w, -1.0, 1.0);
     if float::abs(dotted) <= tie {
-        return refused(Fate::Refused(7, 1));
+        return refused(Err(Refusal {
+            number: 7,
+            place: 1,
+        }));
     }
     let axis = [rel.x / n, rel.y / n, rel.z / n];
     with_half(q0, inertia, axis, torque_limit, slew, angles::acos(dotted))
@@ -386,18 +391,16 @@ pub fn sample_seed(p: Profile) -> Seed
     let duration = p.duration;
     let mut rates = [0.0; 51];
     let mut torques = [0.0; 51];
-    let mut i: usize = 0;
-    while i < SOLVER_NODES {
+    for i in 0..SOLVER_NODES {
         let t = node_time(duration, i);
         let next_rates = with_node(rates, i, p.omega_vec(t));
         rates = next_rates;
         let next_torques = with_node(torques, i, p.torque_vec(t));
         torques = next_torques;
-        i += 1;
     }
     Seed {
-        duration: duration,
-        rates: rates,
-        torques: torques,
+        duration,
+        rates,
+        torques,
     }
 }

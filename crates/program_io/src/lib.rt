@@ -9,6 +9,7 @@ use std::io;
 use std::io::Read;
 
 // Reads standard input until the buffer is full or the input ends, and answers how many bytes it put at the buffer's start.
+// A `for` would be no plainer: each turn goes on by as many bytes as were read.
 pub fn read_full(rt: &HostRuntime, buf: &mut [u8]) -> io::Result<usize>
     ensures { ReadsAtMost result buf.new }
 {

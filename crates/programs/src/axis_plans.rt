@@ -14,16 +14,15 @@ use std::io;
 use std::io::Print;
 
 // The answer to a text: its eigenaxis plan in 8,000 numbers, printed, and the sentence of a refusal.
+// One function for this and `plans::answer` would be no plainer: it would take the planning as a closure, with a clause as long as either.
 pub fn answer(text: &[u8], shape: Shape, out: &mut [u8], said: &mut [u8]) -> Answered
     ensures { AnswersBy (slew_eigenaxis text.now shape) out.old said.old result out.new said.new }
 {
     let mut ws = [0.0; 8000];
     let told = plan_eigenaxis_text(text, shape, &mut ws, out);
-    let fate = told.fate;
-    let sentence = explain_plan(fate, told.runs, said);
     Answered {
         bytes: told.bytes,
-        said: sentence,
+        said: explain_plan(told.fate, told.runs, said),
     }
 }
 
@@ -34,7 +33,7 @@ fn print_plan(rt: &HostRuntime, shape: Shape) -> io::Result<()> {
     let mut out = [0u8; 16384];
     let mut said = [0u8; 256];
     let answered = answer(&text[..length], shape, &mut out, &mut said);
-    show(rt, &out, answered.bytes, &said, answered.said)
+    show(rt, &out[..answered.bytes], &said[..answered.said])
 }
 
 pub fn run(rt: &HostRuntime) -> io::Result<()> {

@@ -9,7 +9,7 @@ ghost use Rattle.programs.specs.Programs as Programs;
 
 use crate::output::show;
 use crate::words::asks;
-use arguments::{Requested, read_requested};
+use arguments::read_requested;
 use board_text::write_numbers;
 use eigenaxis_samples::plan_eigenaxis_course;
 use eigenaxis_seed::Shape;
@@ -55,24 +55,7 @@ pub fn course(text: &[u8], way: Way) -> Course
     }
 }
 
-// Prints one sample, and answers whether another follows.
-fn print_sample(rt: &HostRuntime, c: Course, requested: usize, index: usize) -> io::Result<bool> {
-    let mut out = [0u8; 272];
-    let mut said = [0u8; 212];
-    let line = write_step(c, requested, c.alpha, index, &mut out, &mut said);
-    show(rt, &out, line.bytes, &said, line.said)?;
-    Ok(line.more)
-}
-
-// The same in the drive board's numbers.
-fn print_numbers(rt: &HostRuntime, c: Course, requested: usize, index: usize) -> io::Result<bool> {
-    let mut out = [0u8; 320];
-    let mut said = [0u8; 212];
-    let line = write_numbers(c, requested, c.alpha, index, &mut out, &mut said);
-    show(rt, &out, line.bytes, &said, line.said)?;
-    Ok(line.more)
-}
-
+// Prints one sample, in the drive board's numbers or not, and answers whether another follows.
 fn print_step(
     rt: &HostRuntime,
     board: bool,
@@ -80,20 +63,23 @@ fn print_step(
     requested: usize,
     index: usize,
 ) -> io::Result<bool> {
-    if board {
-        return print_numbers(rt, c, requested, index);
-    }
-    print_sample(rt, c, requested, index)
+    let mut out = [0u8; 320];
+    let mut said = [0u8; 212];
+    let line = if board {
+        write_numbers(c, requested, c.alpha, index, &mut out, &mut said)
+    } else {
+        write_step(c, requested, c.alpha, index, &mut out, &mut said)
+    };
+    show(rt, &out[..line.bytes], &said[..line.said])?;
+    Ok(line.more)
 }
 
 // No path has more than 100,000 samples.
 fn print_steps(rt: &HostRuntime, board: bool, c: Course, requested: usize) -> io::Result<()> {
-    let mut index: usize = 0;
-    while index < 100_000 {
+    for index in 0..100_000 {
         if !print_step(rt, board, c, requested, index)? {
-            return Ok(());
+            break;
         }
-        index += 1;
     }
     Ok(())
 }
@@ -105,9 +91,7 @@ pub fn print_text(
     requested: usize,
     wanted: Wanted,
 ) -> io::Result<()> {
-    let way = wanted.way;
-    let c = course(text, way);
-    print_steps(rt, wanted.board, c, requested)
+    print_steps(rt, wanted.board, course(text, wanted.way), requested)
 }
 
 // A text longer than 4,096 bytes is refused, so one byte more is all that is looked at.
@@ -123,20 +107,20 @@ fn way_at(rt: &HostRuntime, k: usize, board: bool) -> Wanted
 {
     if !asks(rt, k, b"eigenaxis") {
         return Wanted {
-            board: board,
+            board,
             way: Way::Search,
             end: k,
         };
     }
     if !asks(rt, k + 1, b"gentle") {
         return Wanted {
-            board: board,
+            board,
             way: Way::Eigenaxis(Shape::Fastest),
             end: k + 1,
         };
     }
     Wanted {
-        board: board,
+        board,
         way: Way::Eigenaxis(Shape::Gentle),
         end: k + 2,
     }
@@ -151,12 +135,12 @@ fn read_words(rt: &HostRuntime) -> Wanted {
 }
 
 // The number of samples asked for; none where a word stands behind those that are known.
-fn asked(rt: &HostRuntime, given: usize, end: usize) -> Requested {
+fn asked(rt: &HostRuntime, given: usize, end: usize) -> Option<usize> {
     if given < 2 {
-        return Requested::Of(17);
+        return Some(17);
     }
     if end < given {
-        return Requested::Not;
+        return None;
     }
     let mut word = [0u8; 64];
     let length = arg(rt, 1, &mut word);
@@ -165,10 +149,9 @@ fn asked(rt: &HostRuntime, given: usize, end: usize) -> Requested {
 
 pub fn run(rt: &HostRuntime) -> io::Result<()> {
     let w = read_words(rt);
-    let request = asked(rt, arg_count(rt), w.end);
-    match request {
-        Requested::Of(requested) => print_samples(rt, requested, w),
-        Requested::Not => rt.stderr().write_all(
+    match asked(rt, arg_count(rt), w.end) {
+        Some(requested) => print_samples(rt, requested, w),
+        None => rt.stderr().write_all(
             b"slew_samples takes the number of samples in decimal digits, behind it the word board for the drive board's numbers, eigenaxis for a slew about one axis, and gentle for its gentle shape.\n",
         ),
     }

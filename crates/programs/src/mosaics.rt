@@ -2,13 +2,13 @@
 // `slew` prints one. A refused leg is printed in the path's place, with a sentence on standard error, and is the last. Then come the sums of the legs that
 // stand. A text that is refused is answered as `slew` answers one. The word `eigenaxis` asks for legs about one axis, and behind it `gentle` for the gentle
 // shape. A program of this language has no exit status: other arguments show by their sentence, and by nothing on standard output.
-ghost use Rattle.std.specs.Prelude.{◌≡◌, ◌-◌, ◌≤◌, length, IfOk};
+ghost use Rattle.std.specs.Prelude.{◌≡◌, ◌-◌, IfOk};
 ghost use Rattle.mosaic.specs.Ways as Ways;
 ghost use Rattle.mosaic_answer.specs.MosaicAnswers as MosaicAnswers;
 
 use crate::output::show;
 use crate::words::asks;
-use common::Fate;
+use common::Refusal;
 use eigenaxis_seed::Shape;
 use mosaic::ways::Way;
 use mosaic::{Cursor, start};
@@ -21,20 +21,13 @@ use std::io;
 use std::io::Print;
 use text_writer::write_refused;
 
-// The first bytes to standard output.
-fn print(rt: &HostRuntime, out: &[u8], bytes: usize) -> io::Result<()>
-    requires { bytes ≤ length out.now }
-{
-    rt.stdout().write_all(&out[..bytes])
-}
-
 // A text that is refused, with 21 or 23.
 fn print_refused(rt: &HostRuntime, number: usize, place: usize) -> io::Result<()> {
     let mut out = [0u8; 100];
     let mut said = [0u8; 212];
     let bytes = write_refused(&mut out, number, place, 0);
     let told = explain(number, place, 0, false, &mut said);
-    show(rt, &out, bytes, &said, told)
+    show(rt, &out[..bytes], &said[..told])
 }
 
 // Plans the next leg in 8,000 numbers, and prints it.
@@ -46,26 +39,24 @@ fn print_leg(rt: &HostRuntime, m: ReadMosaic, way: Way, c: Cursor) -> io::Result
     let mut out = [0u8; 9970];
     let mut said = [0u8; 212];
     let leg = write_leg(m, way, c, &mut ws, &mut heading, &mut out, &mut said);
-    print(rt, &heading, leg.heading)?;
-    show(rt, &out, leg.bytes, &said, leg.said)?;
-    let cursor = leg.cursor;
-    Ok(cursor)
+    rt.stdout().write_all(&heading[..leg.heading])?;
+    show(rt, &out[..leg.bytes], &said[..leg.said])?;
+    Ok(leg.cursor)
 }
 
 // The sums of the legs that stand.
 fn print_total(rt: &HostRuntime, c: Cursor) -> io::Result<()> {
     let mut out = [0u8; 95];
     let bytes = write_total(&mut out, c.index, c.duration, c.runs);
-    print(rt, &out, bytes)
+    rt.stdout().write_all(&out[..bytes])
 }
 
 fn is_refused(c: Cursor) -> bool
     ensures { result ≡ MosaicAnswers.is_refused c.fate }
 {
-    let fate = c.fate;
-    match fate {
-        Fate::Refused(_, _) => true,
-        Fate::Going => false,
+    match c.fate {
+        Err(_) => true,
+        Ok(()) => false,
     }
 }
 
@@ -73,16 +64,12 @@ fn is_refused(c: Cursor) -> bool
 fn print_legs(rt: &HostRuntime, m: ReadMosaic, way: Way) -> io::Result<Cursor>
     ensures { IfOk result (λ c. c ≡ MosaicAnswers.cursor_at (Ways.planner_by way 8000) m (m.count - 1)) }
 {
-    let p = m.problem;
-    let momenta = p.momenta;
-    let mut c = start(momenta);
-    let mut k: usize = 1;
-    while k < m.count {
+    let mut c = start(m.problem.momenta);
+    for _ in 1..m.count {
         c = print_leg(rt, m, way, c)?;
         if is_refused(c) {
             return Ok(c);
         }
-        k += 1;
     }
     Ok(c)
 }
@@ -90,10 +77,9 @@ fn print_legs(rt: &HostRuntime, m: ReadMosaic, way: Way) -> io::Result<Cursor>
 // The answer to a mosaic's text, planned by a way.
 pub fn print_mosaic(rt: &HostRuntime, text: &[u8], way: Way) -> io::Result<()> {
     let m = read_counted(text);
-    let fate = m.fate;
-    match fate {
-        Fate::Refused(number, place) => print_refused(rt, number, place),
-        Fate::Going => print_total(rt, print_legs(rt, m, way)?),
+    match m.fate {
+        Err(refusal) => print_refused(rt, refusal.number, refusal.place),
+        Ok(()) => print_total(rt, print_legs(rt, m, way)?),
     }
 }
 

@@ -10,6 +10,7 @@ use refusal_text::explain_plan;
 use std::io;
 
 // How many bytes are for standard output, and how many for standard error.
+// Lengths and no slices: what may not change, `AnswersBy`, tells of the whole buffers that were lent.
 #[derive(Clone, Copy)]
 pub struct Answered {
     pub bytes: usize,
@@ -22,11 +23,9 @@ pub fn answer(text: &[u8], out: &mut [u8], said: &mut [u8]) -> Answered
 {
     let mut ws = [0.0; 8000];
     let told = plan_text(text, &mut ws, out);
-    let fate = told.fate;
-    let sentence = explain_plan(fate, told.runs, said);
     Answered {
         bytes: told.bytes,
-        said: sentence,
+        said: explain_plan(told.fate, told.runs, said),
     }
 }
 
@@ -37,5 +36,5 @@ pub fn run(rt: &HostRuntime) -> io::Result<()> {
     let mut out = [0u8; 16384];
     let mut said = [0u8; 256];
     let answered = answer(&text[..length], &mut out, &mut said);
-    show(rt, &out, answered.bytes, &said, answered.said)
+    show(rt, &out[..answered.bytes], &said[..answered.said])
 }

@@ -1,8 +1,7 @@
 -- docs/SPECIFICATION.md, "Examples": each example as what the definitions work out beside what is stated there, in one list, with one fact over all of
 -- it that the checker computes. Assumes nothing.
-use Rattle.std.specs.Prelude.{ℕ, ◌≡◌, refl, List, [], ◌∷◌, pos}
+use Rattle.std.specs.Prelude.{ℕ, ◌≡◌, refl, List, [], ◌∷◌, pos, Some, None}
 use lib.Ieee.{Float, binary64, neg, of_bits, of_int}
-use Rattle.common.specs.declared.Limit.TheVariants.{Nothing, At}
 use Rattle.common.specs.Answer.{Answer, Given, Refused}
 use Rattle.angles.specs.Arcs.{acos_of}
 use Rattle.angles.specs.Answers.{angle_answer}
@@ -73,9 +72,9 @@ examples =
     -- torque_excess, (2,-3,1) against ones: 2
     ∷ is (Numbers (Vec.torque_excess (f 2 ∷ neg (f 3) ∷ f 1 ∷ []) (f 1 ∷ f 1 ∷ f 1 ∷ []) ∷ [])) (Numbers (f 2 ∷ []))
     -- switch_times(4,1): no limit, limit 2, limit 1
-    ∷ is (numbers (of_switches (switch_times (f 4) (f 1) Nothing))) (Numbers (f 2 ∷ f 0 ∷ f 2 ∷ []))
-    ∷ is (numbers (of_switches (switch_times (f 4) (f 1) (At (f 2))))) (Numbers (f 2 ∷ f 0 ∷ f 2 ∷ []))
-    ∷ is (numbers (of_switches (switch_times (f 4) (f 1) (At (f 1))))) (Numbers (f 1 ∷ f 3 ∷ f 1 ∷ []))
+    ∷ is (numbers (of_switches (switch_times (f 4) (f 1) None))) (Numbers (f 2 ∷ f 0 ∷ f 2 ∷ []))
+    ∷ is (numbers (of_switches (switch_times (f 4) (f 1) (Some (f 2))))) (Numbers (f 2 ∷ f 0 ∷ f 2 ∷ []))
+    ∷ is (numbers (of_switches (switch_times (f 4) (f 1) (Some (f 1))))) (Numbers (f 1 ∷ f 3 ∷ f 1 ∷ []))
     -- rows (0,2),(4,0) with (6,8): (2,3)
     ∷ is (solution (solve_dense 2 ((f 0 ∷ f 2 ∷ []) ∷ (f 4 ∷ f 0 ∷ []) ∷ []) (f 6 ∷ f 8 ∷ []))) (Numbers (f 2 ∷ f 3 ∷ []))
     -- one row 0: singular; as the only row, and as one of two

@@ -1,7 +1,7 @@
 -- Where the body momentum is zero at each step that is begun, the published law and the planner's give the same run: the same refusal, or the same nodes and
 -- defect bit for bit, signs of zeros too. Assumes nothing.
 use Prim.Native.Nat.{ℕ, zero, suc, ◌≤◌}
-use Rattle.std.specs.Prelude.{◌≡◌, Bool, true, false, cond, T, eqb, Float}
+use Rattle.std.specs.Prelude.{◌≡◌, Bool, true, false, cond, T, eqb, Float, Option, Some, None, Result, Ok, Err}
 use Rattle.std.proofs.Math.Path.{refl, ap}
 use Rattle.std.proofs.Common.{sym, ◌∙◌, arith}
 use mathlib.Core.List.{List, [], ◌∷◌}
@@ -12,16 +12,10 @@ use Rattle.std.specs.Float.Ieee.Scale.{finite}
 use Rattle.common.specs.Floats as Floats
 use Rattle.common.specs.Iter.{iter}
 use Rattle.common.specs.Lists.{at, slice}
-use Rattle.common.specs.declared.Fate.{Fate}
-use Rattle.common.specs.declared.Fate.TheVariants.{Going, Refused}
 use Rattle.float_laws.specs.Zeros.{is_zero, zero_absorbed, times_zero, zero_times, zero_less}
 use Rattle.geom.specs.Vec as Vec
 use Rattle.geom.specs.Quats.{quat_mul, exp_so3, normalized}
 use Rattle.geom.specs.declared.Quat.{Quat}
-use Rattle.geom.specs.declared.Normal.{Normal}
-use Rattle.geom.specs.declared.Normal.TheVariants as Normal
-use Rattle.geom.specs.declared.Turned.{Turned}
-use Rattle.geom.specs.declared.Turned.TheVariants as Turned
 use Rattle.actuators.specs.Maps.{control_dim}
 use Rattle.control_rows.specs.Parts.{axes, wheel_by, wheel_part, parts_torque, row_torque}
 use Rattle.control_rows.specs.declared.WheelLaw.{WheelLaw}
@@ -29,7 +23,8 @@ use Rattle.control_rows.specs.declared.WheelLaw.TheVariants.{Once, Published}
 use Rattle.problem.specs.declared.Problem.{Problem}
 use Rattle.problem.specs.declared.CheckedProblem.{CheckedProblem}
 use Rattle.forward.specs.Decisions.{row_of, step_time}
-use Rattle.forward.specs.Steps.{Body, stop, matrix_at, rate_dot, rate_next, turn_of, defect_of, gimbal_row, step_gimbals, wheel_momenta_value, body_momentum, powered, gimbals_step, attitude_step, normed_step, turned_step, rated_step, torqued_step, matrix_step, step}
+use Rattle.forward.specs.Steps.{stop, matrix_at, rate_dot, rate_next, turn_of, defect_of, gimbal_row, step_gimbals, wheel_momenta_value, body_momentum, powered, gimbals_step, attitude_step, normed_step, turned_step, rated_step, torqued_step, matrix_step, step}
+use Rattle.forward.specs.declared.Body.{Body}
 use Rattle.forward.specs.Runs as Runs
 use Rattle.forward.specs.Runs.{Rollout, start_of, advance, rollout_by, rollout_turn, rollout, end_by_value, end_of, run_from, body_of, run_under}
 use Rattle.forward.specs.Reconstruct as Reconstruct
@@ -40,6 +35,10 @@ use Rattle.run_laws.specs.Attitudes.{exp_finite}
 use Rattle.run_laws.specs.Steps.{turn_back}
 use Rattle.published_law.specs.Published as Published
 use Rattle.published_law.specs.Published.{under, Still, rollout_at, Unladen, UnladenRun}
+use Rattle.common.specs.declared.Refusal.{Refusal}
+use Rattle.forward.specs.declared.GimbalStep.{GimbalStep}
+use Rattle.common.specs.Refusals.{Fate, going}
+use Rattle.actuators.specs.Pyramid.{Jacobian}
 
 -- ---- the torque of a row at a finite rate and no stored momentum
 minus_one_finite : T (finite Vec.minus_one)
@@ -86,21 +85,21 @@ module _ (b : Body) (l m : WheelLaw) (u : List Float) (k : ℕ) (s : BodyState) 
     unfolding powered wheel_momenta_value body_momentum
     powered_same q2 d = refl
 
-    gimbals_same : (x : Fate) (d : List Float) (q2 : Quat) → gimbals_step x d (under l b) u k s tau defect w2 q2 ≡ gimbals_step x d (under m b) u k s tau defect w2 q2
-    gimbals_same Going d q2 = powered_same q2 d
-    gimbals_same (Refused i j) d q2 = refl
+    gimbals_same : (x : Result GimbalStep Refusal) (q2 : Quat) → gimbals_step x (under l b) u k s tau defect w2 q2 ≡ gimbals_step x (under m b) u k s tau defect w2 q2
+    gimbals_same (Ok g) q2 = powered_same q2 g.delta
+    gimbals_same (Err why) q2 = refl
 
     attitude_same : (q2 : Quat) → attitude_step (under l b) u k s tau defect w2 q2 ≡ attitude_step (under m b) u k s tau defect w2 q2
     unfolding attitude_step
-    attitude_same q2 = let x = step_gimbals b.rig.cmgs (gimbal_row b.rig u) s.delta b.frame.dt k in gimbals_same x.fate x.delta q2
+    attitude_same q2 = gimbals_same (step_gimbals b.rig.cmgs (gimbal_row b.rig u) s.delta b.frame.dt k) q2
 
-    normed_same : (x : Normal) → normed_step x (under l b) u k s tau defect w2 ≡ normed_step x (under m b) u k s tau defect w2
-    normed_same Normal.Not = refl
-    normed_same (Normal.Is q2) = attitude_same q2
+    normed_same : (x : Option Quat) → normed_step x (under l b) u k s tau defect w2 ≡ normed_step x (under m b) u k s tau defect w2
+    normed_same None = refl
+    normed_same (Some q2) = attitude_same q2
 
-    turned_same : (x : Turned) → turned_step x (under l b) u k s tau defect w2 ≡ turned_step x (under m b) u k s tau defect w2
-    turned_same Turned.Outside = refl
-    turned_same (Turned.Is e) = normed_same (normalized b.frame.tolerance (quat_mul s.q e))
+    turned_same : (x : Option Quat) → turned_step x (under l b) u k s tau defect w2 ≡ turned_step x (under m b) u k s tau defect w2
+    turned_same None = refl
+    turned_same (Some e) = normed_same (normalized b.frame.tolerance (quat_mul s.q e))
 
   torqued_same : torqued_step (under l b) u k s tau ≡ torqued_step (under m b) u k s tau
   unfolding torqued_step rated_step
@@ -108,16 +107,16 @@ module _ (b : Body) (l m : WheelLaw) (u : List Float) (k : ℕ) (s : BodyState) 
 
 -- ---- a rate that is not finite is refused with 11, whatever the torque
 module _ (b : Body) (u : List Float) (k : ℕ) (s : BodyState) (tau : List Float) (bad : Fine3 s.w → ⊥) where
-  outside : (w2 : List Float) (x : Turned) → exp_so3 (turn_of s.w w2 b.frame.dt) ≡ x → x ≡ Turned.Outside
-  outside w2 Turned.Outside e = refl
-  outside w2 (Turned.Is q) e = absurd (bad (turn_back s.w w2 b.frame.dt (exp_finite (turn_of s.w w2 b.frame.dt) (rw e tt))).0)
+  outside : (w2 : List Float) (x : Option Quat) → exp_so3 (turn_of s.w w2 b.frame.dt) ≡ x → x ≡ None
+  outside w2 None e = refl
+  outside w2 (Some q) e = absurd (bad (turn_back s.w w2 b.frame.dt (exp_finite (turn_of s.w w2 b.frame.dt) (rw e tt))).0)
 
   torqued_outside : torqued_step b u k s tau ≡ stop 11 k s
   unfolding torqued_step rated_step
   torqued_outside =
       let wd = rate_dot b.frame.j b.frame.jinv s.w s.h tau in
       let w2 = rate_next s.w wd b.frame.dt in
-      ap (λ (x : Turned). turned_step x b u k s tau (defect_of b.frame.j s.w s.h tau wd) w2) (outside w2 (exp_so3 (turn_of s.w w2 b.frame.dt)) refl)
+      ap (λ (x : Option Quat). turned_step x b u k s tau (defect_of b.frame.j s.w s.h tau wd) w2) (outside w2 (exp_so3 (turn_of s.w w2 b.frame.dt)) refl)
 
 -- ---- ONE STEP from a state with no stored momentum, whatever its rate
 module _ (b : Body) (u : List Float) (k : ℕ) (s : BodyState) (S : Still s.h) where
@@ -139,11 +138,11 @@ module _ (b : Body) (u : List Float) (k : ℕ) (s : BodyState) (S : Still s.h) w
 
   pub step_agrees : step (under Published b) u k s ≡ step (under Once b) u k s
   unfolding step
-  step_agrees = go (matrix_at b.rig.cmgs s.delta).fate (matrix_at b.rig.cmgs s.delta).a
+  step_agrees = go (matrix_at b.rig.cmgs s.delta)
     where
-      go : (x : Fate) (a : List Float) → matrix_step x a (under Published b) u k s ≡ matrix_step x a (under Once b) u k s
-      go (Refused i j) a = refl
-      go Going a = torqued_agrees a
+      go : (x : Jacobian) → matrix_step x (under Published b) u k s ≡ matrix_step x (under Once b) u k s
+      go (Err why) = refl
+      go (Ok a) = torqued_agrees a
 
 -- ---- THE RUN
 module _ (b : Body) (n : ℕ) (z : List Float) (from : BodyState) where
@@ -152,8 +151,8 @@ module _ (b : Body) (n : ℕ) (z : List Float) (from : BodyState) where
   turn_agrees k x S = go x.fate S
     where
       go : (f : Fate) → (T (goes f) → Still x.s.h) → rollout_by f (under Published b) n z k x ≡ rollout_by f (under Once b) n z k x
-      go Going S = ap (advance b.frame.dt k x) (step_agrees b (row_of n z k) k x.s (S tt))
-      go (Refused i j) S = refl
+      go (Ok _) S = ap (advance b.frame.dt k x) (step_agrees b (row_of n z k) k x.s (S tt))
+      go (Err why) S = refl
 
   rollouts_agree : Unladen (under Once b) n z from → (k : ℕ) → k ≤ 16 → rollout_at (under Published b) n z from k ≡ rollout_at (under Once b) n z from k
   unfolding iter
@@ -166,8 +165,8 @@ module _ (b : Body) (n : ℕ) (z : List Float) (from : BodyState) where
   runs_agree U = ap (λ (c : Rollout). end_by_value c.fate (under Published b) c) (rollouts_agree U 16 (omega arith)) ∙ same (rollout (under Once b) n z from).fate _
     where
       same : (f : Fate) (c : Rollout) → end_by_value f (under Published b) c ≡ end_by_value f (under Once b) c
-      same Going c = refl
-      same (Refused i j) c = refl
+      same (Ok _) c = refl
+      same (Err why) c = refl
 
 -- of a checked problem
 pub run_agrees : (p : CheckedProblem) (z : List Float) → UnladenRun p z → Published.run_of p z ≡ Runs.run_of p z
@@ -175,10 +174,10 @@ unfolding run_under
 run_agrees p z U = runs_agree (body_of p (step_time z)) (control_dim p.map) z (start_of p) U
 
 -- RECONSTRUCT, as a user calls it: for every problem and decision, the problems that the checks refuse among them
-pub reconstruct_agrees : (p : Problem) (z : List Float) → ((admit p).fate ≡ Going → UnladenRun (admit p).problem z) → Published.reconstruct p z ≡ Reconstruct.reconstruct p z
+pub reconstruct_agrees : (p : Problem) (z : List Float) → ((admit p).fate ≡ going → UnladenRun (admit p).problem z) → Published.reconstruct p z ≡ Reconstruct.reconstruct p z
 unfolding reconstruct_under
 reconstruct_agrees p z U = go (admit p).fate refl
   where
     go : (f : Fate) → (admit p).fate ≡ f → reconstruct_by f Published (admit p).problem z ≡ reconstruct_by f Once (admit p).problem z
-    go Going e = λ i. record { runs = 1; run = run_agrees (admit p).problem z (U e) i }
-    go (Refused i j) e = refl
+    go (Ok _) e = λ i. record { runs = 1; run = run_agrees (admit p).problem z (U e) i }
+    go (Err why) e = refl

@@ -1,6 +1,6 @@
 -- Where the body momentum is zero at each step that is begun: in every run of a body without wheels, and in a run whose nodes 0 to 15 say so. Assumes nothing.
 use Prim.Native.Nat.{ℕ, zero, suc, ◌≤◌, ◌<◌}
-use Rattle.std.specs.Prelude.{◌≡◌, get_or, set, length, Float}
+use Rattle.std.specs.Prelude.{◌≡◌, get_or, set, length, Float, Ok, Err}
 use Rattle.std.proofs.Math.Path.{refl}
 use Rattle.std.proofs.Common.{ap, ◌∙◌, arith, length-set, get_or-set_same, get_or-set_other}
 use mathlib.Core.List.{List}
@@ -8,15 +8,14 @@ use Rattle.std.proofs.Math.Dec.{T}
 use Rattle.std.proofs.Math.ListN.{length-replicate}
 use Rattle.std.specs.Float.Ieee.{of_bits}
 use Rattle.common.specs.Iter.{iter}
-use Rattle.common.specs.declared.Fate.{Fate}
-use Rattle.common.specs.declared.Fate.TheVariants.{Going, Refused}
 use Rattle.float_laws.specs.Below.{below_none, below_next}
 use Rattle.geom.specs.Vec as Vec
 use Rattle.actuators.specs.Maps.{control_dim}
 use Rattle.control_rows.specs.Parts as Parts
 use Rattle.problem.specs.declared.Problem.{Problem}
 use Rattle.forward.specs.Decisions.{row_of, step_time}
-use Rattle.forward.specs.Steps.{Body, body_momentum, wheel_momenta_value, step}
+use Rattle.forward.specs.Steps.{body_momentum, wheel_momenta_value, step}
+use Rattle.forward.specs.declared.Body.{Body}
 use Rattle.forward.specs.Runs.{Rollout, start, start_of, start_rollout, blank_node, no_node, node_at, node_of, advance, rollout_by, rollout_turn, rollout, end_by_value, end_of, run_from, body_of, run_under}
 use Rattle.forward.specs.Reconstruct as Reconstruct
 use Rattle.forward.specs.Reconstruct.{admit, reconstruct_under}
@@ -27,6 +26,7 @@ use Rattle.run_laws.specs.Steps.{Once, step_goes}
 use Rattle.published_law.specs.Published as Published
 use Rattle.published_law.specs.Published.{Still, rollout_at, Unladen}
 use Rattle.published_law.proofs.Agreement.{reconstruct_agrees}
+use Rattle.common.specs.Refusals.{Fate}
 
 zero_still : Still Vec.zero3
 unfolding of_bits
@@ -44,8 +44,8 @@ module _ (b : Body) (n : ℕ) (z : List Float) (from : BodyState) where
   turn_still k x h t = go x.fate refl t
     where
       go : (f : Fate) → x.fate ≡ f → T (goes (rollout_by f b n z k x).fate) → Still (rollout_by f b n z k x).s.h
-      go Going e t = h x.s t
-      go (Refused i j) e t = absurd (rw e at t)
+      go (Ok _) e t = h x.s t
+      go (Err why) e t = absurd (rw e at t)
 
   -- NO WHEELS: a body without wheels stores none
   pub wheelless_unladen : b.rig.wheel_count ≡ 0 → Still from.h → Unladen b n z from
@@ -78,8 +78,8 @@ module _ (b : Body) (n : ℕ) (z : List Float) (from : BodyState) where
       momentum tau = unfold node_of in refl
 
       go : (f : Fate) → x.fate ≡ f → T (goes (rollout_by f b n z k x).fate) → Noted (suc k) (rollout_by f b n z k x)
-      go (Refused i j) e t = absurd (rw e at t)
-      go Going e t =
+      go (Err why) e t = absurd (rw e at t)
+      go (Ok _) e t =
           let M = N (rw e tt) in
           let tau = (step b (row_of n z k) k x.s).tau in
           record {
@@ -103,8 +103,8 @@ module _ (b : Body) (n : ℕ) (z : List Float) (from : BodyState) where
       c = rollout_at b n z from 16
 
       go : (f : Fate) → c.fate ≡ f → T (goes (end_by_value f b c).fate) → ((k : ℕ) → k < 16 → Still (node_at (end_by_value f b c).nodes k).h) → Unladen b n z from
-      go (Refused i j) e t S = absurd t
-      go Going e t S = λ k l g.
+      go (Err why) e t S = absurd t
+      go (Ok _) e t S = λ k l g.
           let same = ap (λ (y : Node). y.h) (get_or-set_other c.nodes 16 k (node_of b.frame.dt 16 c.s (node_at c.nodes 15).tau) no_node (λ (e : k ≡ 16). omega arith)) in
           rw (same ∙ (noted 16 (omega arith) (rw e tt)).notes k l) at (S k l)
 

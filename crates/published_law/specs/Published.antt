@@ -9,7 +9,7 @@ use Rattle.control_rows.specs.declared.WheelLaw.TheVariants as WheelLaw
 use Rattle.problem.specs.declared.Problem.{Problem}
 use Rattle.problem.specs.declared.CheckedProblem.{CheckedProblem}
 use Rattle.forward.specs.Decisions.{step_time}
-use Rattle.forward.specs.Steps.{Body}
+use Rattle.forward.specs.declared.Body.{Body}
 use Rattle.forward.specs.Runs.{Rollout, start_of, start_rollout, rollout_turn, body_of, run_under}
 use Rattle.forward.specs.Reconstruct.{reconstruct_under}
 use Rattle.forward.specs.declared.BodyState.{BodyState}

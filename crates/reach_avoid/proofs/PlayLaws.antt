@@ -1,14 +1,13 @@
 -- There is a play for every way of the other side: whoever follows an answer always can. Assumes nothing.
-use Rattle.std.specs.Prelude.{ℕ, zero, suc, ◌-◌, ◌≡◌, refl, true, ℤ, pos}
+use Rattle.std.specs.Prelude.{ℕ, zero, suc, ◌-◌, ◌≡◌, refl, true, Option, None, Some, Result, Ok, Err, ℤ, pos}
 use Rattle.std.proofs.Common.{arith, sym, ap, subst, ◌∙◌}
 use Rattle.reach_avoid.specs.Game.{Game, Play, state}
 use Rattle.reach_avoid.specs.Room.{within, State, room, outcome, reply}
 use Rattle.reach_avoid.specs.Promises.{Lawful, DriveFollows, DraughtFollows, OutcomePromise, ReplyPromise}
 use Rattle.reach_avoid.proofs.PromisesKept.{told_right, replied_right}
 use Rattle.reach_avoid.specs.declared.StartOutcome.{StartOutcome}
-use Rattle.reach_avoid.specs.declared.StartOutcome.TheVariants.{Home, Forced, HeldOff, Outside}
-use Rattle.reach_avoid.specs.declared.DraughtReply.{DraughtReply}
-use Rattle.reach_avoid.specs.declared.DraughtReply.TheVariants.{With, Without, Outside as Outside'}
+use Rattle.reach_avoid.specs.declared.StartOutcome.TheVariants.{Home, Forced, HeldOff}
+use Rattle.reach_avoid.specs.declared.OutOfRange.{OutOfRange}
 
 module _ {S U D : Type 0} (G : Game S U D) where
   -- the drive's choices by a rule on states, against given replies
@@ -32,27 +31,27 @@ module _ {S U D : Type 0} (G : Game S U D) where
       drawn_is τ (n - 1) (G.next s (us 0) (τ s n (us 0))) (λ j. us (suc j)) k ∙ ap (λ m. τ (state G s (record { us = us; ds = drawn τ n s us }) (suc k)) m (us (suc k))) e
 
 -- the choice that is told, and 0 where none is; so of the reply
-abbrev choice_in : StartOutcome → ℤ
-choice_in Home = pos 0
-choice_in (Forced n u) = u
-choice_in HeldOff = pos 0
-choice_in Outside = pos 0
+abbrev choice_in : Result StartOutcome OutOfRange → ℤ
+choice_in (Ok Home) = pos 0
+choice_in (Ok (Forced n u)) = u
+choice_in (Ok HeldOff) = pos 0
+choice_in (Err e) = pos 0
 
-abbrev reply_in : DraughtReply → ℤ
-reply_in (With d) = d
-reply_in Without = pos 0
-reply_in Outside' = pos 0
+abbrev reply_in : Result (Option ℤ) OutOfRange → ℤ
+reply_in (Ok (Some d)) = d
+reply_in (Ok None) = pos 0
+reply_in (Err e) = pos 0
 
-choice_lawful : (s : State) (r : StartOutcome) → OutcomePromise s r → within 2 (choice_in r) ≡ true
-choice_lawful s Home h = refl
-choice_lawful s (Forced n u) h = h.lawful
-choice_lawful s HeldOff h = refl
-choice_lawful s Outside h = refl
+choice_lawful : (s : State) (r : Result StartOutcome OutOfRange) → OutcomePromise s r → within 2 (choice_in r) ≡ true
+choice_lawful s (Ok Home) h = refl
+choice_lawful s (Ok (Forced n u)) h = h.lawful
+choice_lawful s (Ok HeldOff) h = refl
+choice_lawful s (Err e) h = refl
 
-reply_lawful : (s : State) (n : ℕ) (u : ℤ) (r : DraughtReply) → ReplyPromise s n u r → within 1 (reply_in r) ≡ true
-reply_lawful s n u (With d) h = h.lawful
-reply_lawful s n u Without h = refl
-reply_lawful s n u Outside' h = refl
+reply_lawful : (s : State) (n : ℕ) (u : ℤ) (r : Result (Option ℤ) OutOfRange) → ReplyPromise s n u r → within 1 (reply_in r) ≡ true
+reply_lawful s n u (Ok (Some d)) h = h.lawful
+reply_lawful s n u (Ok None) h = refl
+reply_lawful s n u (Err e) h = refl
 
 -- the drive can follow `outcome` against all replies
 pub can_drive : (s : State) (ds : ℕ → ℤ) → ((k : ℕ) → within 1 (ds k) ≡ true) → (p : Play ℤ ℤ) × (p.ds ≡ ds) × Lawful p × DriveFollows s p

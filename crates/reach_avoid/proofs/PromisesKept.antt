@@ -1,5 +1,5 @@
 -- The promises hold of what is told. Assumes nothing.
-use Rattle.std.specs.Prelude.{ℕ, zero, suc, ◌+◌, ◌-◌, ◌/◌, ◌%◌, ◌<◌, ◌≤◌, ◌≡◌, refl, Bool, true, false, cond, ◌&&◌, List, [], ◌∷◌, ◌++◌, ltb, leb, eqb, ℤ, pos, nat_abs, ◌+ℤ◌, get_or, take}
+use Rattle.std.specs.Prelude.{ℕ, zero, suc, ◌+◌, ◌-◌, ◌/◌, ◌%◌, ◌<◌, ◌≤◌, ◌≡◌, refl, Bool, true, false, cond, ◌&&◌, List, [], ◌∷◌, ◌++◌, Option, None, Some, Result, Ok, Err, ltb, leb, eqb, ℤ, pos, nat_abs, ◌+ℤ◌, get_or, take}
 use Rattle.std.proofs.Common.{arith, sym, ap, ap₂, subst, ◌∙◌, inl, inr, take-suc, take_all}
 use Rattle.std.proofs.Math.IntN.{sub_ℕ}
 use Rattle.std.specs.Int.Signed.{lt_z}
@@ -9,7 +9,7 @@ use Rattle.reach_avoid.specs.WholeLaws.{sub_is, is_one, within_in, within_of, wi
 use Rattle.reach_avoid.specs.Game.{Play, Fair, keeps, answer, choice, wins, fewest, HeldOffFor}
 use Rattle.reach_avoid.specs.GameLaws.{forces, holds, holds_lower, before_answer, has_answer, wins_home}
 use Rattle.reach_avoid.specs.FewestLaws.{fewest_wins, fewest_home}
-use Rattle.reach_avoid.specs.Room.{within, State, room, inside, home, next, telling, replying, outcome, reply, turns_of, state_at, turns_up_to, region}
+use Rattle.reach_avoid.specs.Room.{within, State, room, inside, home, next, telling, replying, out_of_range, outcome, reply, turns_of, state_at, turns_up_to, region}
 use Rattle.reach_avoid.specs.RoomLaws.{tell_forced, outcome_in, outcome_out, reply_with, reply_in_law, turns_few}
 use Rattle.reach_avoid.specs.Promises.{Lawful, DraughtFollows, Forces, HoldsOff, Right, OutcomePromise, Lost, ReplyPromise}
 use Rattle.common.specs.Answer.{Given, Refused}
@@ -17,9 +17,8 @@ use Rattle.reach_avoid.specs.Answers.{Prospect, of_start}
 use Rattle.reach_avoid.specs.TableInner.{Holds}
 use Rattle.reach_avoid.specs.TableLaws.{spot_inside}
 use Rattle.reach_avoid.specs.declared.StartOutcome.{StartOutcome}
-use Rattle.reach_avoid.specs.declared.StartOutcome.TheVariants.{Home, Forced, HeldOff, Outside}
-use Rattle.reach_avoid.specs.declared.DraughtReply.{DraughtReply}
-use Rattle.reach_avoid.specs.declared.DraughtReply.TheVariants.{With, Without, Outside as Outside'}
+use Rattle.reach_avoid.specs.declared.StartOutcome.TheVariants.{Home, Forced, HeldOff}
+use Rattle.reach_avoid.specs.declared.OutOfRange.{OutOfRange}
 
 last_true : (a b c d : Bool) → (a && b && c && d) ≡ true → d ≡ true
 last_true true true true d e = e
@@ -42,24 +41,24 @@ draught_in j h = within_in 1 (sub_is j 1) (omega arith) (omega arith)
 
 -- the answers advise what the theorems ask for
 drive_advised : (m : ℕ) (s : State) → m < 64 → inside s ≡ true → wins room m s ≡ false → wins room (suc m) s ≡ true
-    → (n : ℕ) × (outcome s ≡ Forced n (room.drive (choice room (wins room m) s)))
+    → (n : ℕ) × (outcome s ≡ Ok (Forced n (room.drive (choice room (wins room m) s))))
 drive_advised m s h i f t =
     let a : suc m ≤ fewest room 255 64 s = ltb-false _ _ (fewest_wins room 255 s 64 (omega arith) m (omega arith) ∙ f) in
     let b : fewest room 255 64 s < suc (suc m) = ltb-true _ _ (fewest_wins room 255 s 64 (omega arith) (suc m) (omega arith) ∙ t) in
     let z : m ≡ suc m - 1 = omega arith in
-    (suc m, sym (tell_forced s (omega arith) (λ q. omega arith) (λ q. omega arith) (ap (λ x. choice room (wins room x) s) z) ∙ outcome_in s i))
+    (suc m, sym (ap Ok (tell_forced s (omega arith) (λ q. omega arith) (λ q. omega arith) (ap (λ x. choice room (wins room x) s) z)) ∙ outcome_in s i))
 
 draught_advised : (n : ℕ) (s : State) (i : ℕ) → n < 64 → i < 5 → inside s ≡ true → home s ≡ false → answer room (wins room n) s (room.drive i) < 3
-    → reply s (suc n) (room.drive i) ≡ With (room.draught (answer room (wins room n) s (room.drive i)))
+    → reply s (suc n) (room.drive i) ≡ Ok (Some (room.draught (answer room (wins room n) s (room.drive i))))
 draught_advised n s i h l e o a =
     let z : n ≡ suc n - 1 = omega arith in
-    sym (reply_with (suc n) s (room.drive i) o (ap (λ x. answer room (wins room x) s (room.drive i)) z) a ∙ reply_in_law s (suc n) (room.drive i) e (drive_in i l) (omega arith) (omega arith))
+    sym (ap Ok (reply_with (suc n) s (room.drive i) o (ap (λ x. answer room (wins room x) s (room.drive i)) z) a) ∙ reply_in_law s (suc n) (room.drive i) e (drive_in i l) (omega arith) (omega arith))
 
 pub forced : (n : ℕ) (s : State) → n ≤ 64 → inside s ≡ true → wins room n s ≡ true → Forces n s
-forced n s h i w p l f = forces room (λ t u. (n : ℕ) × (outcome t ≡ Forced n u)) 64 drive_advised n s p h i w (fair p l) f
+forced n s h i w p l f = forces room (λ t u. (n : ℕ) × (outcome t ≡ Ok (Forced n u))) 64 drive_advised n s p h i w (fair p l) f
 
 pub held : (n : ℕ) (s : State) → n ≤ 64 → inside s ≡ true → wins room n s ≡ false → HoldsOff n s
-held n s h i w p l f = holds room (λ t m u d. reply t m u ≡ With d) 64 draught_advised n s p h i w (fair p l) f
+held n s h i w p l f = holds room (λ t m u d. reply t m u ≡ Ok (Some d)) 64 draught_advised n s p h i w (fair p l) f
 
 -- a start that is won in m + 1 turns and not in m
 module _ (m : ℕ) (s : State) (h : m < 64) (i : inside s ≡ true) (f : wins room m s ≡ false) (t : wins room (suc m) s ≡ true) where
@@ -70,7 +69,7 @@ module _ (m : ℕ) (s : State) (h : m < 64) (i : inside s ≡ true) (f : wins ro
   lower_held : (v : ℤ) → within 2 v ≡ true → lt_z v (room.drive (choice room (wins room m) s)) ≡ true → (p : Play ℤ ℤ) → Lawful p → p.us 0 ≡ v → DraughtFollows (suc m) s p → HeldOffFor room (suc m) s p
   lower_held v w l p a e d =
       let c = counted 2 v w in
-      holds_lower room (λ t m u d. reply t m u ≡ With d) 64 draught_advised m s p c.0 h (lt_of l (is_of c.0 2 c.2) (sub_is _ 2)) i (wins_home room m s f) (e ∙ c.2) (fair p a) d
+      holds_lower room (λ t m u d. reply t m u ≡ Ok (Some d)) 64 draught_advised m s p c.0 h (lt_of l (is_of c.0 2 c.2) (sub_is _ 2)) i (wins_home room m s f) (e ∙ c.2) (fair p a) d
 
   right : Right s (suc m) (room.drive (choice room (wins room m) s))
   right =
@@ -84,7 +83,7 @@ module _ (m : ℕ) (s : State) (h : m < 64) (i : inside s ≡ true) (f : wins ro
       }
 
 told_inside : (s : State) → inside s ≡ true → (n : ℕ) → n ≡ fewest room 255 64 s → (z h : Bool) → eqb n 0 ≡ z → eqb n 255 ≡ h
-    → OutcomePromise s (cond z Home (cond h HeldOff (Forced n (room.drive (choice room (wins room (n - 1)) s)))))
+    → OutcomePromise s (Ok (cond z Home (cond h HeldOff (Forced n (room.drive (choice room (wins room (n - 1)) s))))))
 told_inside s i n q true h e g = sym (fewest_home room 255 s 64 (omega arith)) ∙ lt-ltb (fewest room 255 64 s) 1 (let a : n ≡ 0 = eqb-true n 0 e in omega arith)
 told_inside s i n q false true e g =
     let a : n ≡ 255 = eqb-true n 255 g in
@@ -103,7 +102,7 @@ pub told_right : (s : State) → OutcomePromise s (outcome s)
 unfolding outcome
 told_right s = by (inside s) refl
   where
-    by : (b : Bool) → inside s ≡ b → OutcomePromise s (cond b (telling (fewest room 255 64 s) s) Outside)
+    by : (b : Bool) → inside s ≡ b → OutcomePromise s (cond b (Ok (telling (fewest room 255 64 s) s)) (Err out_of_range))
     by true e = told_inside s e (fewest room 255 64 s) refl (eqb (fewest room 255 64 s) 0) (eqb (fewest room 255 64 s) 255) refl refl
     by false e = e
 
@@ -118,17 +117,17 @@ home_inside s e =
     let y = within_of 2 r p.1 in
     rw (within_in 64 a (omega arith) (omega (arith, x.1))) (within_in 8 r (omega arith) (omega (arith, y.1)))
 
-home_told : (s : State) (r : StartOutcome) → OutcomePromise s r → home s ≡ true → r ≡ Home
-home_told s Home h e = refl
-home_told s (Forced n u) h e = absurd (clash e h.start.1)
-home_told s HeldOff h e = absurd (clash e h.1)
-home_told s Outside h e = absurd (clash (home_inside s e) h)
+home_told : (s : State) (r : Result StartOutcome OutOfRange) → OutcomePromise s r → home s ≡ true → r ≡ Ok Home
+home_told s (Ok Home) h e = refl
+home_told s (Ok (Forced n u)) h e = absurd (clash e h.start.1)
+home_told s (Ok HeldOff) h e = absurd (clash e h.1)
+home_told s (Err o) h e = absurd (clash (home_inside s e) h)
 
-pub home_only : (s : State) → home s ≡ true → outcome s ≡ Home
+pub home_only : (s : State) → home s ≡ true → outcome s ≡ Ok Home
 home_only s = home_told s (outcome s) (told_right s)
 
 -- what the entry ensures
-pub tells : (s : State) {r : StartOutcome} → r ≡ outcome s → (r ≡ outcome s) × OutcomePromise s r
+pub tells : (s : State) {r : Result StartOutcome OutOfRange} → r ≡ outcome s → (r ≡ outcome s) × OutcomePromise s r
 tells s e = (e, subst (OutcomePromise s) (sym e) (told_right s))
 
 -- the drive goes on to win
@@ -136,7 +135,7 @@ lost : (s : State) (n : ℕ) (u d : ℤ) → n ≤ 64 → keeps room (wins room 
 lost s n u d h e = let w = and_true (inside (next s u d)) _ e in (w.0, forced (n - 1) (next s u d) (omega arith) w.0 w.1)
 
 replied_inside : (s : State) (n : ℕ) (u : ℤ) → n ≤ 64 → (o b : Bool) → home s ≡ o → ltb (answer room (wins room (n - 1)) s u) 3 ≡ b
-    → ReplyPromise s n u (cond o Without (cond b (With (room.draught (answer room (wins room (n - 1)) s u))) Without))
+    → ReplyPromise s n u (Ok (cond o None (cond b (Some (room.draught (answer room (wins room (n - 1)) s u))) None)))
 replied_inside s n u h true b e q = inl e
 replied_inside s n u h false true e q =
     let l : answer room (wins room (n - 1)) s u < 3 = ltb-true _ _ q in
@@ -157,15 +156,15 @@ pub replied_right : (s : State) (n : ℕ) (u : ℤ) → ReplyPromise s n u (repl
 unfolding reply
 replied_right s n u = by (inside s && within 2 u && leb 1 n && leb n 64) refl
   where
-    by : (b : Bool) → (inside s && within 2 u && leb 1 n && leb n 64) ≡ b → ReplyPromise s n u (cond b (replying n s u) Outside')
+    by : (b : Bool) → (inside s && within 2 u && leb 1 n && leb n 64) ≡ b → ReplyPromise s n u (cond b (Ok (replying n s u)) (Err out_of_range))
     by true e = replied_inside s n u (leb-true n 64 (last_true (inside s) (within 2 u) (leb 1 n) (leb n 64) e)) (home s) (ltb (answer room (wins room (n - 1)) s u) 3) refl refl
     by false e = e
 
-pub replies : (s : State) (n : ℕ) (u : ℤ) {r : DraughtReply} → r ≡ reply s n u → (r ≡ reply s n u) × ReplyPromise s n u r
+pub replies : (s : State) (n : ℕ) (u : ℤ) {r : Result (Option ℤ) OutOfRange} → r ≡ reply s n u → (r ≡ reply s n u) × ReplyPromise s n u r
 replies s n u e = (e, subst (ReplyPromise s n u) (sym e) (replied_right s n u))
 
 -- the turns that are told of a start inside are the fewest
-turns_told : (n : ℕ) (s : State) (z h : Bool) → eqb n 0 ≡ z → eqb n 255 ≡ h → (u : ℤ) → turns_of (cond z Home (cond h HeldOff (Forced n u))) ≡ n
+turns_told : (n : ℕ) (s : State) (z h : Bool) → eqb n 0 ≡ z → eqb n 255 ≡ h → (u : ℤ) → turns_of (Ok (cond z Home (cond h HeldOff (Forced n u)))) ≡ n
 turns_told n s true h e g u = sym (eqb-true n 0 e)
 turns_told n s false true e g u = sym (eqb-true n 255 g)
 turns_told n s false false e g u = refl
@@ -188,11 +187,11 @@ region_right t h = sym (take_all 2193 t (omega (arith, h.size))) ∙ region_part
 pub outside_27 : (s : State) → inside s ≡ false → of_start (outcome s) ≡ Refused 27 0 0
 outside_27 s e = ap of_start (sym (outcome_out s e))
 
-given_by : (s : State) → inside s ≡ true → (r : StartOutcome) → OutcomePromise s r → (p : Prospect) × (of_start r ≡ Given p)
-given_by s i Home h = (_, refl)
-given_by s i (Forced n u) h = (_, refl)
-given_by s i HeldOff h = (_, refl)
-given_by s i Outside h = absurd (clash i h)
+given_by : (s : State) → inside s ≡ true → (r : Result StartOutcome OutOfRange) → OutcomePromise s r → (p : Prospect) × (of_start r ≡ Given p)
+given_by s i (Ok Home) h = (_, refl)
+given_by s i (Ok (Forced n u)) h = (_, refl)
+given_by s i (Ok HeldOff) h = (_, refl)
+given_by s i (Err e) h = absurd (clash i h)
 
 pub inside_given : (s : State) → inside s ≡ true → (p : Prospect) × (of_start (outcome s) ≡ Given p)
 inside_given s i = given_by s i (outcome s) (told_right s)

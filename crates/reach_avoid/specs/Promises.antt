@@ -1,13 +1,12 @@
 -- What the two answers promise, in plays by the rules alone. A play is two sequences of choices, so "every play in which one side follows our answer" leaves the
 -- other side free to choose by anything, the turns before and the future too. Definitions only.
-use Rattle.std.specs.Prelude.{ℕ, ◌-◌, ◌≤◌, ◌≡◌, true, false, ◌&&◌, ◌⊎◌, leb, ℤ}
+use Rattle.std.specs.Prelude.{ℕ, ◌-◌, ◌≤◌, ◌≡◌, true, false, ◌&&◌, ◌⊎◌, Option, None, Some, Result, Ok, Err, leb, ℤ}
 use Rattle.std.specs.Int.Signed.{lt_z}
 use Rattle.reach_avoid.specs.Game.{Play, DriveBy, DraughtBy, ForcedBy, HeldOffFor}
 use Rattle.reach_avoid.specs.Room.{within, State, room, inside, home, next, outcome, reply}
 use Rattle.reach_avoid.specs.declared.StartOutcome.{StartOutcome}
-use Rattle.reach_avoid.specs.declared.StartOutcome.TheVariants.{Home, Forced, HeldOff, Outside}
-use Rattle.reach_avoid.specs.declared.DraughtReply.{DraughtReply}
-use Rattle.reach_avoid.specs.declared.DraughtReply.TheVariants.{With, Without, Outside as Outside'}
+use Rattle.reach_avoid.specs.declared.StartOutcome.TheVariants.{Home, Forced, HeldOff}
+use Rattle.reach_avoid.specs.declared.OutOfRange.{OutOfRange}
 
 -- each side adds what it may, in every turn
 pub record Lawful (p : Play ℤ ℤ) : Type 0 where
@@ -16,11 +15,11 @@ pub record Lawful (p : Play ℤ ℤ) : Type 0 where
 
 -- the drive takes the first choice that `outcome` gives at each state
 abbrev pub DriveFollows : State → Play ℤ ℤ → Type 0
-DriveFollows s p = DriveBy room (λ t u. (n : ℕ) × (outcome t ≡ Forced n u)) s p
+DriveFollows s p = DriveBy room (λ t u. (n : ℕ) × (outcome t ≡ Ok (Forced n u))) s p
 
 -- the draught takes what `reply` gives at each state, turns left of n and drive's choice
 abbrev pub DraughtFollows : ℕ → State → Play ℤ ℤ → Type 0
-DraughtFollows n s p = DraughtBy room (λ t m u d. reply t m u ≡ With d) n s p
+DraughtFollows n s p = DraughtBy room (λ t m u d. reply t m u ≡ Ok (Some d)) n s p
 
 -- the drive that follows forces home within n turns, whatever the draught does
 abbrev pub Forces : ℕ → State → Type 0
@@ -40,11 +39,11 @@ pub record Right (s : State) (n : ℕ) (u : ℤ) : Type 0 where
   pub lowest : (v : ℤ) → within 2 v ≡ true → lt_z v u ≡ true → (p : Play ℤ ℤ) → Lawful p → p.us 0 ≡ v → DraughtFollows n s p → HeldOffFor room n s p
 
 -- what `outcome` promises
-abbrev pub OutcomePromise : State → StartOutcome → Type 0
-OutcomePromise s Home = home s ≡ true
-OutcomePromise s (Forced n u) = Right s n u
-OutcomePromise s HeldOff = (inside s ≡ true) × (home s ≡ false) × HoldsOff 64 s
-OutcomePromise s Outside = inside s ≡ false
+abbrev pub OutcomePromise : State → Result StartOutcome OutOfRange → Type 0
+OutcomePromise s (Ok Home) = home s ≡ true
+OutcomePromise s (Ok (Forced n u)) = Right s n u
+OutcomePromise s (Ok HeldOff) = (inside s ≡ true) × (home s ≡ false) × HoldsOff 64 s
+OutcomePromise s (Err e) = inside s ≡ false
 
 -- after u and d the drive forces home in the turns that are left of n, or the draught holds it off
 abbrev pub Lost : State → ℕ → ℤ → ℤ → Type 0
@@ -60,7 +59,7 @@ pub record Lowest (s : State) (n : ℕ) (u d : ℤ) : Type 0 where
   pub lower : (e : ℤ) → within 1 e ≡ true → lt_z e d ≡ true → Lost s n u e
 
 -- what `reply` promises
-abbrev pub ReplyPromise : State → ℕ → ℤ → DraughtReply → Type 0
-ReplyPromise s n u (With d) = Lowest s n u d
-ReplyPromise s n u Without = (home s ≡ true) ⊎ ((d : ℤ) → within 1 d ≡ true → Lost s n u d)
-ReplyPromise s n u Outside' = (inside s && within 2 u && leb 1 n && leb n 64) ≡ false
+abbrev pub ReplyPromise : State → ℕ → ℤ → Result (Option ℤ) OutOfRange → Type 0
+ReplyPromise s n u (Ok (Some d)) = Lowest s n u d
+ReplyPromise s n u (Ok None) = (home s ≡ true) ⊎ ((d : ℤ) → within 1 d ≡ true → Lost s n u d)
+ReplyPromise s n u (Err e) = (inside s && within 2 u && leb 1 n && leb n 64) ≡ false

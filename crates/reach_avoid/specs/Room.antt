@@ -1,12 +1,11 @@
 -- The rules of the room, and what is told of a start. Definitions only.
-use Rattle.std.specs.Prelude.{ℕ, zero, suc, ◌-◌, ◌/◌, ◌%◌, Bool, cond, ◌&&◌, List, [], ◌∷◌, ◌++◌, ltb, leb, eqb, ℤ, pos, neg_ℤ, ◌+ℤ◌, ◌-ℤ◌}
+use Rattle.std.specs.Prelude.{ℕ, zero, suc, ◌-◌, ◌/◌, ◌%◌, Bool, cond, ◌&&◌, List, [], ◌∷◌, ◌++◌, Option, None, Some, Result, Ok, Err, ltb, leb, eqb, ℤ, pos, neg_ℤ, ◌+ℤ◌, ◌-ℤ◌}
 use Rattle.std.proofs.Math.IntN.{sub_ℕ}
 use Rattle.std.specs.Int.Signed.{le_z}
 use Rattle.reach_avoid.specs.Game.{Game, answer, choice, wins, fewest}
 use Rattle.reach_avoid.specs.declared.StartOutcome.{StartOutcome}
-use Rattle.reach_avoid.specs.declared.StartOutcome.TheVariants.{Home, Forced, HeldOff, Outside}
-use Rattle.reach_avoid.specs.declared.DraughtReply.{DraughtReply}
-use Rattle.reach_avoid.specs.declared.DraughtReply.TheVariants.{With, Without, Outside as Outside'}
+use Rattle.reach_avoid.specs.declared.StartOutcome.TheVariants.{Home, Forced, HeldOff}
+use Rattle.reach_avoid.specs.declared.OutOfRange.{OutOfRange}
 
 -- z is from -m to m
 abbrev pub within : ℕ → ℤ → Bool
@@ -34,23 +33,27 @@ room = record { next = next; inside = inside; home = home; drive = λ i. pos i -
 abbrev pub telling : ℕ → State → StartOutcome
 telling n s = cond (eqb n 0) Home (cond (eqb n 255) HeldOff (Forced n (room.drive (choice room (wins room (n - 1)) s))))
 
-unfoldable pub outcome : State → StartOutcome
-outcome s = cond (inside s) (telling (fewest room 255 64 s) s) Outside
+-- the refusal (27)
+abbrev pub out_of_range : OutOfRange
+out_of_range = record {}
+
+unfoldable pub outcome : State → Result StartOutcome OutOfRange
+outcome s = cond (inside s) (Ok (telling (fewest room 255 64 s) s)) (Err out_of_range)
 
 -- what the draught replies to u at s with n turns left, this one counted
-abbrev pub replying : ℕ → State → ℤ → DraughtReply
-replying n s u = let j = answer room (wins room (n - 1)) s u in cond (home s) Without (cond (ltb j 3) (With (room.draught j)) Without)
+abbrev pub replying : ℕ → State → ℤ → Option ℤ
+replying n s u = let j = answer room (wins room (n - 1)) s u in cond (home s) None (cond (ltb j 3) (Some (room.draught j)) None)
 
 -- A start outside is refused. Of a choice beyond 2 and of turns left other than 1 to 64 the rules say nothing: the answer is free, and is the same refusal.
-unfoldable pub reply : State → ℕ → ℤ → DraughtReply
-reply s n u = cond (inside s && within 2 u && leb 1 n && leb n 64) (replying n s u) Outside'
+unfoldable pub reply : State → ℕ → ℤ → Result (Option ℤ) OutOfRange
+reply s n u = cond (inside s && within 2 u && leb 1 n && leb n 64) (Ok (replying n s u)) (Err out_of_range)
 
 -- the turns that are told of a start; 255 where it is held off
-abbrev pub turns_of : StartOutcome → ℕ
-turns_of Home = 0
-turns_of (Forced n u) = n
-turns_of HeldOff = 255
-turns_of Outside = 255
+abbrev pub turns_of : Result StartOutcome OutOfRange → ℕ
+turns_of (Ok Home) = 0
+turns_of (Ok (Forced n u)) = n
+turns_of (Ok HeldOff) = 255
+turns_of (Err e) = 255
 
 -- the state whose angle is x - 64 and whose rate is y - 8
 abbrev pub spot : ℕ → ℕ → State

@@ -1,7 +1,8 @@
 -- How the code keeps the states: a byte for each, at x * 17 + y with x = angle + 64 and y = rate + 8. Inner words, definitions only.
-use Rattle.std.specs.Prelude.{ℕ, ◌+◌, ◌*◌, ◌<◌, ◌≡◌, Bool, true, false, cond, List, ltb, eqb, pos, nat_abs, ◌+ℤ◌, length, get_or}
+use Rattle.std.specs.Prelude.{ℕ, ◌+◌, ◌*◌, ◌<◌, ◌≡◌, Bool, true, false, cond, List, Result, Ok, Err, ltb, eqb, pos, nat_abs, ◌+ℤ◌, length, get_or}
 use Rattle.reach_avoid.specs.Game.{choice, fewest}
 use Rattle.reach_avoid.specs.Room.{State, room, inside, state_at}
+use Rattle.reach_avoid.specs.declared.OutOfRange.{OutOfRange}
 
 -- the entry of a state; 255 outside
 unfoldable pub cell : List ℕ → State → ℕ
@@ -23,10 +24,10 @@ pub record Holds (m : ℕ) (t : List ℕ) : Type 0 where
   pub size : length t ≡ 2193
   pub entry : (k : ℕ) → k < 2193 → get_or t k 0 ≡ fewest room 255 m (state_at k)
 
--- r is the entry of s; 2193 outside
-pub record Start (s : State) (r : ℕ) : Type 0 where
-  pub outside : r ≡ 2193 → inside s ≡ false
-  pub entry : (r ≡ 2193 → ⊥) → (r < 2193) × (inside s ≡ true) × (s ≡ state_at r)
+-- r is the entry of s; refused outside
+abbrev pub Start : State → Result ℕ OutOfRange → Type 0
+Start s (Ok k) = (k < 2193) × (inside s ≡ true) × (s ≡ state_at k)
+Start s (Err e) = inside s ≡ false
 
 -- the fewest turns as the entries hold them
 abbrev pub turns_at_value : ℕ → ℕ → ℕ

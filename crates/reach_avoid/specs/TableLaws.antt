@@ -1,19 +1,20 @@
 -- The table against the game. Assumes nothing.
 use Prim.Native.Nat.{ℕ, suc, ◌+◌, ◌*◌, ◌-◌, ◌/◌, ◌%◌, ◌<◌, ◌≤◌}
 use Rattle.std.proofs.Common.{arith, ap, ap₂, ◌∙◌, inl, inr, length-set, get_or-set_same, get_or-set_other}
-use Rattle.std.specs.Prelude.{◌≡◌, Bool, not, ◌&&◌, ◌||◌, List, ◌⊎◌, ℤ, pos, nat_abs, ◌+ℤ◌, length, set}
+use Rattle.std.specs.Prelude.{◌≡◌, Bool, not, ◌&&◌, ◌||◌, List, Option, None, Some, Ok, Err, MatchOption, ◌⊎◌, ℤ, pos, nat_abs, ◌+ℤ◌, length, set}
 use Rattle.std.proofs.Math.Path.{refl, sym}
 use Rattle.std.proofs.Math.Bool.{true, false, cond, and-false}
 use Rattle.std.proofs.Math.Dec.{ltb, eqb}
 use Rattle.std.proofs.Math.IntN.{sub_ℕ}
 use Rattle.std.proofs.Math.ListN.{get_or}
 use borrow.Author.Tests.{ltb-true, ltb-false, lt-ltb, le-ltb, eqb-true, eqb-false, eq-eqb, ne_eqb}
-use Rattle.reach_avoid.specs.LeastLaws.{and_true}
+use Rattle.std.specs.Option.{is_some}
+use Rattle.reach_avoid.specs.LeastLaws.{clash, and_true}
 use Rattle.reach_avoid.specs.WholeLaws.{Is, sub_is, is_move, is_one, is_add, is_abs, within_in, within_of, within_is, Counted}
 use Rattle.reach_avoid.specs.Game.{keeps, answer, choice, wins, fewest}
 use Rattle.reach_avoid.specs.GameLaws.{answer_same, choice_same}
 use Rattle.reach_avoid.specs.FewestLaws.{fewest_wins, fewest_home}
-use Rattle.reach_avoid.specs.Room.{within, State, room, inside, home, next, spot, state_at}
+use Rattle.reach_avoid.specs.Room.{within, State, room, inside, home, next, spot, state_at, out_of_range}
 use Rattle.reach_avoid.specs.TableInner.{cell, entry_of, below, stepped, Holds, Start, turns_at_value}
 
 -- a state by its two differences
@@ -176,6 +177,15 @@ pub stepped_new : (t : List ℕ) (k n : ℕ) {i : ℕ} → get_or t k 0 ≡ 255 
 unfolding stepped
 stepped_new t k n e h = rw (eq-eqb (get_or t k 0) 255 e, h)
 
+-- what a search says that found nothing, or a number
+pub none_of : {P : Type 0} (Q : ℕ → Type 0) (o : Option ℕ) → is_some o ≡ false → MatchOption o P Q → P
+none_of Q None e m = m
+none_of Q (Some x) e m = absurd (clash refl e)
+
+pub some_of : (P : Type 0) (Q : ℕ → Type 0) (o : Option ℕ) → is_some o ≡ true → MatchOption o P Q → (x : ℕ) × Q x
+some_of P Q None e m = absurd (clash e refl)
+some_of P Q (Some x) e m = (x, m)
+
 -- the whole table
 module _ (t : List ℕ) (held : Holds 64 t) where
   pub held_wins : (n : ℕ) → 1 ≤ n → n ≤ 64 → (s : State) → inside s ≡ true → below t n s ≡ wins room (n - 1) s
@@ -199,17 +209,11 @@ module _ (t : List ℕ) (held : Holds 64 t) where
   held_away k h e = home_by k h ∙ le-ltb (get_or t k 0) 1 (omega arith)
 
 -- a start's entry from its two counts
-pub start_of : (s : State) {x y : ℕ} → Counted 64 s.angle x → Counted 8 s.rate y → (x ≡ 255 → ⊥) → (y ≡ 255 → ⊥) → Start s (x * 17 + y)
+pub start_of : (s : State) {x y : ℕ} → Counted 64 s.angle (Ok x) → Counted 8 s.rate (Ok y) → Start s (Ok (x * 17 + y))
 unfolding inside
-start_of s {x} {y} a b h l =
-    let p = a.inner h in
-    let q = b.inner l in
-    record {
-      outside = λ e. absurd (omega (arith, p.2, q.2));
-      entry = λ _. (omega (arith, p.2, q.2), rw p.0 q.0, spot_of p.1 q.1 ∙ sym (spot_at x y (omega (arith, q.2))));
-    }
+start_of s {x} {y} p q = (omega (arith, p.2, q.2), rw p.0 q.0, spot_of p.1 q.1 ∙ sym (spot_at x y (omega (arith, q.2))))
 
-pub start_out : (s : State) → (within 64 s.angle ≡ false) ⊎ (within 8 s.rate ≡ false) → Start s 2193
+pub start_out : (s : State) → (within 64 s.angle ≡ false) ⊎ (within 8 s.rate ≡ false) → Start s (Err out_of_range)
 unfolding inside
-start_out s (inl e) = record { outside = λ _. rw e; entry = λ h. absurd (h refl) }
-start_out s (inr e) = record { outside = λ _. rw e (and-false (within 64 s.angle)); entry = λ h. absurd (h refl) }
+start_out s (inl e) = rw e
+start_out s (inr e) = rw e (and-false (within 64 s.angle))

@@ -1,12 +1,13 @@
 -- Whole numbers as differences of two naturals, so that omega decides what is said of them. Assumes nothing.
-use Rattle.std.specs.Prelude.{ℕ, zero, suc, ◌+◌, ◌-◌, ◌<◌, ◌≤◌, ◌≡◌, refl, Bool, true, false, not, cond, T, ltb, leb, ℤ, pos, negsuc, neg_ℤ, nat_abs, ◌+ℤ◌}
+use Rattle.std.specs.Prelude.{ℕ, zero, suc, ◌+◌, ◌-◌, ◌<◌, ◌≤◌, ◌≡◌, refl, Bool, true, false, not, cond, T, Result, Ok, Err, ltb, leb, ℤ, pos, negsuc, neg_ℤ, nat_abs, ◌+ℤ◌}
 use Rattle.std.proofs.Common.{arith, sym, ap, subst, SFits, to_z, of_z, to_z-of_z, ltb-true, ltb-false, leb-true, le-leb}
 use Rattle.std.proofs.Math.IntN.{sub_ℕ}
 use Rattle.std.specs.Int.Signed.{le_z, lt_z, non_neg}
 use Rattle.std.specs.Int.{w64}
 use Rattle.std.proofs.lemmas.Bool.{lt-leb}
 use Rattle.reach_avoid.specs.LeastLaws.{clash, and_true}
-use Rattle.reach_avoid.specs.Room.{within}
+use Rattle.reach_avoid.specs.Room.{within, out_of_range}
+use Rattle.reach_avoid.specs.declared.OutOfRange.{OutOfRange}
 
 -- z + b = a
 abbrev Diff : ℤ → ℕ → ℕ → Type 0
@@ -120,23 +121,21 @@ small j h = to_z-of_z {w = w64} {z = pos j} (record { sfits = omega arith })
 pub sub_back : {z : ℤ} (a b : ℕ) → a ≤ 5 → b ≤ 5 → z ≡ sub_ℕ a b → to_z w64 (of_z w64 z) ≡ sub_ℕ a b
 sub_back a b h k e = rw e (to_z-of_z (sub-fits a b h k))
 
--- r is z counted from -m; 255 outside
-pub record Counted (m : ℕ) (z : ℤ) (r : ℕ) : Type 0 where
-  pub inner : (r ≡ 255 → ⊥) → (within m z ≡ true) × (Is z r m) × (r ≤ m + m)
-  pub outer : r ≡ 255 → within m z ≡ false
+-- r is z counted from -m; refused outside
+abbrev pub Counted : ℕ → ℤ → Result ℕ OutOfRange → Type 0
+Counted m z (Ok r) = (within m z ≡ true) × (Is z r m) × (r ≤ m + m)
+Counted m z (Err e) = within m z ≡ false
 
-counted_by_law : (m : ℕ) (z : ℤ) {r : ℕ} → m ≤ 64 → r ≡ cond (within m z) (nat_abs (z +ℤ pos m)) 255 → Counted m z r
-counted_by_law m z {r} l h = by (within m z) refl h
+pub counted_by_law : (m : ℕ) (z : ℤ) {r : Result ℕ OutOfRange} → m ≤ 64 → r ≡ cond (within m z) (Ok (nat_abs (z +ℤ pos m))) (Err out_of_range) → Counted m z r
+counted_by_law m z {r} l h = rw h (by (within m z) refl)
   where
-    by : (b : Bool) → within m z ≡ b → r ≡ cond b (nat_abs (z +ℤ pos m)) 255 → Counted m z r
-    by true e q =
-        let i : Is z r m = subst (λ x. Is z x m) (sym q) (within_is m z e) in
-        let w = within_of m i e in
-        record { inner = λ _. (e, i, omega (arith, w.1)); outer = λ g. absurd (omega (arith, w.1)) }
-    by false e q = record { inner = λ g. absurd (g q); outer = λ _. e }
+    by : (b : Bool) → within m z ≡ b → Counted m z (cond b (Ok (nat_abs (z +ℤ pos m))) (Err out_of_range))
+    by true e = let i = within_is m z e in (e, i, omega (arith, (within_of m i e).1))
+    by false e = e
 
 -- the same of a number that comes as a word
-pub counted_word : (m : ℕ) {z : ℤ} {r : ℕ} → m ≤ 64 → SFits w64 z → r ≡ cond (within m (to_z w64 (of_z w64 z))) (nat_abs (to_z w64 (of_z w64 z) +ℤ pos m)) 255 → Counted m z r
+pub counted_word : (m : ℕ) {z : ℤ} {r : Result ℕ OutOfRange} → m ≤ 64 → SFits w64 z
+    → r ≡ cond (within m (to_z w64 (of_z w64 z))) (Ok (nat_abs (to_z w64 (of_z w64 z) +ℤ pos m))) (Err out_of_range) → Counted m z r
 counted_word m {z} l f h = counted_by_law m z l (rw (to_z-of_z f) at h)
 
 -- so counted, it fits a word

@@ -1,20 +1,16 @@
 -- The actuators in one table. Definitions only.
-use Rattle.std.specs.Prelude.{ℕ, Bool, true, false, cond, List, [], ◌∷◌, eqb, ltb, get_or, replicate, set, Float}
+use Rattle.std.specs.Prelude.{ℕ, true, false, cond, List, [], ◌∷◌, eqb, ltb, get_or, replicate, set, Float, Option, Some, None, Result, Ok, Err}
 use Rattle.std.specs.Float.{binary64}
 use Rattle.std.specs.Float.Ieee.{of_bits}
 use Rattle.common.specs.Floats.{one, plus_zero}
 use Rattle.common.specs.Lists.{at}
-use Rattle.common.specs.declared.Fate.{Fate}
-use Rattle.common.specs.declared.Fate.TheVariants.{Going, Refused}
-use Rattle.common.specs.declared.Limit.{Limit}
-use Rattle.common.specs.declared.Limit.TheVariants.{Nothing, At}
 use Rattle.actuators.specs.Maps.{no_power_value}
-use Rattle.actuators.specs.declared.Power.{Power}
 use Rattle.actuators.specs.declared.ActuatorMap.{ActuatorMap}
-use Rattle.actuators.specs.declared.Cmgs.{Cmgs}
-use Rattle.actuators.specs.declared.Cmgs.TheVariants.{Without, With}
 use Rattle.control_rows.specs.Stored.{stored}
 use Rattle.reference.specs.declared.layout.Layout.{Layout}
+use Rattle.actuators.specs.declared.CmgPyramid.{CmgPyramid}
+use Rattle.common.specs.Refusals.{refusal}
+use Rattle.common.specs.declared.Refusal.{Refusal}
 
 abbrev pub copy_at : List Float → ℕ → Float → Float
 copy_at t k x = at t k
@@ -28,15 +24,15 @@ abbrev pub pad_to_twelve : List Float → List Float
 pad_to_twelve v = at v 0 ∷ at v 1 ∷ at v 2 ∷ at v 3 ∷ at v 4 ∷ at v 5 ∷ at v 6 ∷ at v 7 ∷ plus_zero ∷ plus_zero ∷ plus_zero ∷ plus_zero ∷ []
 
 -- a wheel's power limit; the largest f64 where none is declared
-abbrev pub power_limit : Limit → Float
-power_limit Nothing = of_bits binary64 0x7fef_ffff_ffff_ffff
-power_limit (At x) = x
+abbrev pub power_limit : Option Float → Float
+power_limit None = of_bits binary64 0x7fef_ffff_ffff_ffff
+power_limit (Some x) = x
 
-abbrev power_limit_at : List Power → ℕ → Float
-power_limit_at powers k = power_limit (get_or powers k no_power_value).limit
+abbrev power_limit_at : List (Option Float) → ℕ → Float
+power_limit_at powers k = power_limit (get_or powers k no_power_value)
 
 -- the power limits of eight wheels, then four zeros
-unfoldable pub power_limits_value : List Power → List Float
+unfoldable pub power_limits_value : List (Option Float) → List Float
 power_limits_value p =
     power_limit_at p 0
     ∷ power_limit_at p 1
@@ -63,7 +59,6 @@ body_limits v =
 
 unfoldable pub wheel_layout : ActuatorMap → List Float → Layout
 wheel_layout m momenta = record {
-  fate = Going;
   wheels = true;
   count = m.wheel_count;
   axes = pad_axes m.wheel_axes;
@@ -73,9 +68,8 @@ wheel_layout m momenta = record {
   start = pad_to_twelve momenta;
 }
 
-unfoldable pub thruster_layout : Fate → ℕ → List Float → List Float → Layout
-thruster_layout f n axes limits = record {
-  fate = f;
+unfoldable pub thruster_layout : ℕ → List Float → List Float → Layout
+thruster_layout n axes limits = record {
   wheels = false;
   count = n;
   axes = axes;
@@ -85,25 +79,29 @@ thruster_layout f n axes limits = record {
   start = replicate 12 plus_zero;
 }
 
-unfoldable pub no_layout : ℕ → ℕ → Layout
-no_layout n k = thruster_layout (Refused n k) 0 (replicate 36 plus_zero) (replicate 12 plus_zero)
+-- a table, or a refusal
+abbrev pub Made : Type 0
+Made = Result Layout Refusal
+
+abbrev pub no_layout : ℕ → ℕ → Made
+no_layout n k = Err (refusal n k)
 
 -- without wheels: the thrusters, or the body's own torques
-unfoldable pub without_wheels : ActuatorMap → List Float → Layout
+unfoldable pub without_wheels : ActuatorMap → List Float → Made
 without_wheels m box =
-    cond (eqb m.thruster_count 0) (thruster_layout Going 3 body_axes (body_limits box))
-    (cond (ltb m.thruster_count 3) (no_layout 6 1) (thruster_layout Going m.thruster_count m.thruster_axes m.thruster_torques))
+    cond (eqb m.thruster_count 0) (Ok (thruster_layout 3 body_axes (body_limits box)))
+    (cond (ltb m.thruster_count 3) (no_layout 6 1) (Ok (thruster_layout m.thruster_count m.thruster_axes m.thruster_torques)))
 
 -- with wheels: alone, and three or more
-unfoldable pub with_wheels : ActuatorMap → List Float → Layout
-with_wheels m momenta = cond (ltb 0 m.thruster_count) (no_layout 8 0) (cond (ltb m.wheel_count 3) (no_layout 6 1) (wheel_layout m momenta))
+unfoldable pub with_wheels : ActuatorMap → List Float → Made
+with_wheels m momenta = cond (ltb 0 m.thruster_count) (no_layout 8 0) (cond (ltb m.wheel_count 3) (no_layout 6 1) (Ok (wheel_layout m momenta)))
 
-unfoldable pub axes_layout : ActuatorMap → List Float → List Float → Layout
+unfoldable pub axes_layout : ActuatorMap → List Float → List Float → Made
 axes_layout m momenta box = cond (eqb m.wheel_count 0) (without_wheels m box) (with_wheels m momenta)
 
-abbrev pub layout_by : Cmgs → ActuatorMap → List Float → List Float → Layout
-layout_by (With p) m momenta box = no_layout 8 0
-layout_by Without m momenta box = axes_layout m momenta box
+abbrev pub layout_by : Option CmgPyramid → ActuatorMap → List Float → List Float → Made
+layout_by (Some p) m momenta box = no_layout 8 0
+layout_by None m momenta box = axes_layout m momenta box
 
-unfoldable pub layout_of : ActuatorMap → List Float → List Float → Layout
+unfoldable pub layout_of : ActuatorMap → List Float → List Float → Made
 layout_of m momenta box = layout_by m.cmgs m momenta box

@@ -1,11 +1,9 @@
 -- The shortest duration that doubling and bisection find. Definitions only.
-use Rattle.std.specs.Prelude.{ℕ, ◌+◌, ◌*◌, ◌≤◌, ◌≡◌, Bool, true, false, cond, Float}
+use Rattle.std.specs.Prelude.{ℕ, ◌+◌, ◌*◌, ◌≤◌, ◌≡◌, true, false, cond, Float, Ok, Err}
 use Rattle.std.specs.Float.{binary64}
 use Rattle.std.specs.Float.Ieee.{add, mul, of_bits}
 use Rattle.common.specs.Floats.{plus_zero}
 use Rattle.common.specs.Iter.{iter}
-use Rattle.common.specs.declared.Fate.{Fate}
-use Rattle.common.specs.declared.Fate.TheVariants.{Going, Refused}
 use Rattle.geom.specs.Vec.{half, two}
 use Rattle.reference_motion.specs.declared.Reference.{Reference}
 use Rattle.reference.specs.declared.search.Trials.{Trials}
@@ -13,18 +11,20 @@ use Rattle.reference.specs.declared.search.SearchResult.{SearchResult}
 use Rattle.reference.specs.Prepare.{with_times}
 use Rattle.reference_checks.specs.Checks.{verify}
 use Rattle.reference_checks.specs.Promises.{Promised}
+use Rattle.common.specs.Refusals.{Fate, refusal, going}
+use Rattle.common.specs.declared.Refusal.{Refusal}
 
 -- ---- one trial
 
-abbrev pub record_refusal : Trials → Float → Float → Fate → ℕ → Trials
-record_refusal s t next f n = record { found = s.found; low = t; next = next; best = s.best; fate = f; count = s.count + 1; samples = s.samples + n }
+abbrev pub record_refusal : Trials → Float → Float → Refusal → ℕ → Trials
+record_refusal s t next why n = record { found = s.found; low = t; next = next; best = s.best; fate = Err why; count = s.count + 1; samples = s.samples + n }
 
 abbrev pub record_pass : Trials → Float → ℕ → Trials
-record_pass s t n = record { found = true; low = s.low; next = s.next; best = t; fate = Going; count = s.count + 1; samples = s.samples + n }
+record_pass s t n = record { found = true; low = s.low; next = s.next; best = t; fate = going; count = s.count + 1; samples = s.samples + n }
 
 abbrev pub trial_by : Fate → ℕ → Trials → Float → Float → Trials
-trial_by Going n s t next = record_pass s t n
-trial_by (Refused m i) n s t next = record_refusal s t next (Refused m i) n
+trial_by (Ok _) n s t next = record_pass s t n
+trial_by (Err why) n s t next = record_refusal s t next why n
 
 -- the duration t, verified at so many steps
 unfoldable pub trial : Reference → ℕ → Trials → Float → Float → Trials
@@ -55,10 +55,10 @@ abbrev pub small_factor : Float
 small_factor = of_bits binary64 0x3ff0_4000_0000_0000
 
 abbrev pub initial_trials : Trials
-initial_trials = record { found = false; low = plus_zero; next = first_duration; best = plus_zero; fate = Refused 10 0; count = 0; samples = 0 }
+initial_trials = record { found = false; low = plus_zero; next = first_duration; best = plus_zero; fate = Err (refusal 10 0); count = 0; samples = 0 }
 
 abbrev pub fine_trials : Trials → Trials
-fine_trials s = record { found = false; low = s.low; next = s.best; best = s.best; fate = Refused 10 0; count = s.count; samples = s.samples }
+fine_trials s = record { found = false; low = s.low; next = s.best; best = s.best; fate = Err (refusal 10 0); count = s.count; samples = s.samples }
 
 abbrev pub result_of : Trials → SearchResult
 result_of s = record { fate = s.fate; duration = s.best; trials = s.count; samples = s.samples }
@@ -96,4 +96,4 @@ pub record Shortest (r : Reference) (coarse : ℕ) (x : SearchResult) : Type 0 w
   pub is : x ≡ shortest r coarse
   pub trials : x.trials ≤ 65
   pub samples : x.samples ≤ 33 * (coarse + 2) + 32 * (r.steps + 2)
-  pub promised : x.fate ≡ Going → Promised (with_times r x.duration r.steps)
+  pub promised : x.fate ≡ going → Promised (with_times r x.duration r.steps)

@@ -1,12 +1,10 @@
 -- The search: its turns, its bounds, and that the duration it answers was verified at every step. Assumes nothing.
-use Rattle.std.specs.Prelude.{ℕ, zero, suc, ◌+◌, ◌*◌, ◌≤◌, ◌≡◌, Bool, true, false, cond, Float}
+use Rattle.std.specs.Prelude.{ℕ, zero, suc, ◌+◌, ◌*◌, ◌≤◌, ◌≡◌, Bool, true, false, cond, Float, Ok, Err}
 use Rattle.std.proofs.Math.Path.{refl, ap}
 use Rattle.std.proofs.Common.{sym, ◌∙◌, zero-mul, suc-mul}
 use native.Mathlib.Omega.{arith}
 use Rattle.std.specs.Float.Ieee.{binary64, add, mul}
 use Rattle.common.specs.Iter.{iter}
-use Rattle.common.specs.declared.Fate.{Fate}
-use Rattle.common.specs.declared.Fate.TheVariants.{Going, Refused}
 use Rattle.float_laws.specs.Below.{below_turns}
 use Rattle.geom.specs.Vec.{half, two}
 use Rattle.reference_motion.specs.CaseLaws.{cond_yes, cond_no}
@@ -19,6 +17,8 @@ use Rattle.reference_checks.specs.StepLaws.{verify_few}
 use Rattle.reference_checks.specs.PromisesKept.{never}
 use Rattle.reference_checks.specs.declared.Verdict.{Verdict}
 use Rattle.reference.specs.Search as Search
+use Rattle.common.specs.Refusals.{Fate, going}
+use Rattle.common.specs.declared.Refusal.{Refusal}
 
 apart : {A : Type 0} → true ≡ false → A
 apart e = let z : ◌≡◌ {A = ℕ} 0 1 = ap (λ (b : Bool). cond b 0 1) e in absurd (omega arith)
@@ -67,21 +67,21 @@ module _ (r : Reference) (steps : ℕ) where
     meant : v ≡ verify (with_times r t steps)
     meant = is ∙ ap verify at-times
 
-    pub trial_passes : v.fate ≡ Going → Search.record_pass s t v.samples ≡ Search.trial r steps s t next
+    pub trial_passes : v.fate ≡ going → Search.record_pass s t v.samples ≡ Search.trial r steps s t next
     unfolding Search.trial
     trial_passes g = ap (λ (f : Fate). Search.trial_by f v.samples s t next) (sym g) ∙ ap By meant
 
-    pub trial_refused : {n i : ℕ} → v.fate ≡ Refused n i → Search.record_refusal s t next (Refused n i) v.samples ≡ Search.trial r steps s t next
+    pub trial_refused : {why : Refusal} → v.fate ≡ Err why → Search.record_refusal s t next why v.samples ≡ Search.trial r steps s t next
     unfolding Search.trial
     trial_refused g = ap (λ (f : Fate). Search.trial_by f v.samples s t next) (sym g) ∙ ap By meant
 
   count_by : (f : Fate) (n : ℕ) (s : Trials) (t next : Float) → (Search.trial_by f n s t next).count ≡ s.count + 1
-  count_by Going n s t next = refl
-  count_by (Refused m i) n s t next = refl
+  count_by (Ok _) n s t next = refl
+  count_by (Err why) n s t next = refl
 
   samples_by : (f : Fate) (n : ℕ) (s : Trials) (t next : Float) → (Search.trial_by f n s t next).samples ≡ s.samples + n
-  samples_by Going n s t next = refl
-  samples_by (Refused m i) n s t next = refl
+  samples_by (Ok _) n s t next = refl
+  samples_by (Err why) n s t next = refl
 
   trial_count : (s : Trials) (t next : Float) → (Search.trial r steps s t next).count ≡ s.count + 1
   unfolding Search.trial
@@ -114,11 +114,11 @@ module _ (r : Reference) (steps : ℕ) where
   -- ---- the duration that stands was verified, where the last trial was
 
   abbrev Stands : Trials → Type 0
-  Stands s = s.fate ≡ Going → (verify (with_times r s.best steps)).fate ≡ Going
+  Stands s = s.fate ≡ going → (verify (with_times r s.best steps)).fate ≡ going
 
   stands_by : (f : Fate) (n : ℕ) (s : Trials) (t next : Float) → (verify (with_times r t steps)).fate ≡ f → Stands (Search.trial_by f n s t next)
-  stands_by Going n s t next e g = e
-  stands_by (Refused m i) n s t next e g = never g
+  stands_by (Ok _) n s t next e g = e
+  stands_by (Err why) n s t next e g = never g
 
   trial_stands : (s : Trials) (t next : Float) → Stands (Search.trial r steps s t next)
   unfolding Search.trial
@@ -134,11 +134,11 @@ module _ (r : Reference) (steps : ℕ) where
   -- ---- where none was found, the last trial was refused
 
   abbrev Missed : Trials → Type 0
-  Missed s = s.found ≡ false → s.fate ≡ Going → ⊥
+  Missed s = s.found ≡ false → s.fate ≡ going → ⊥
 
   missed_by : (f : Fate) (n : ℕ) (s : Trials) (t next : Float) → Missed (Search.trial_by f n s t next)
-  missed_by Going n s t next e g = apart e
-  missed_by (Refused m i) n s t next e g = never g
+  missed_by (Ok _) n s t next e g = apart e
+  missed_by (Err why) n s t next e g = never g
 
   trial_missed : (s : Trials) (t next : Float) → Missed (Search.trial r steps s t next)
   unfolding Search.trial
@@ -165,13 +165,13 @@ module _ (r : Reference) (steps : ℕ) where
 -- ---- the answer
 
 module _ (r : Reference) where
-  finish_by : (b : Bool) (s : Trials) → (b ≡ false → s.fate ≡ Going → ⊥) → (x y : SearchResult) → x ≡ Search.result_of (iter (Search.lengthen_turn r r.steps Search.small_factor) (Search.fine_trials s) 32) → y ≡ Search.result_of s
-      → (cond b x y).fate ≡ Going → (verify (with_times r (cond b x y).duration r.steps)).fate ≡ Going
+  finish_by : (b : Bool) (s : Trials) → (b ≡ false → s.fate ≡ going → ⊥) → (x y : SearchResult) → x ≡ Search.result_of (iter (Search.lengthen_turn r r.steps Search.small_factor) (Search.fine_trials s) 32) → y ≡ Search.result_of s
+      → (cond b x y).fate ≡ going → (verify (with_times r (cond b x y).duration r.steps)).fate ≡ going
   finish_by true s h x y p q g = rw p (lengthened_stands r r.steps Search.small_factor (Search.fine_trials s) 32 (λ e. never e) (rw p at g))
   finish_by false s h x y p q g = absurd (h refl (rw q at g))
 
   -- THE DURATION ANSWERED was verified at every step
-  pub shortest_verified : (coarse : ℕ) → (Search.shortest r coarse).fate ≡ Going → (verify (with_times r (Search.shortest r coarse).duration r.steps)).fate ≡ Going
+  pub shortest_verified : (coarse : ℕ) → (Search.shortest r coarse).fate ≡ going → (verify (with_times r (Search.shortest r coarse).duration r.steps)).fate ≡ going
   unfolding Search.shortest Search.finish
   shortest_verified coarse g = finish_by (Search.coarse_trials r coarse).found (Search.coarse_trials r coarse) (coarse_missed r coarse) _ _ refl refl g
 

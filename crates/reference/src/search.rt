@@ -1,51 +1,50 @@
 // The shortest duration that doubling and bisection find on a coarse grid, then verified at every step and lengthened a little where that fails.
 ghost use Rattle.std.specs.Prelude.{◌≡◌, ◌+◌, ◌≤◌};
-ghost use Rattle.common.specs.declared.Fate.TheVariants.{Going};
 ghost use Rattle.common.specs.Iter.{iter};
 ghost use Rattle.reference.specs.Prepare as Prepare;
 ghost use Rattle.reference_checks.specs.Promises as Promises;
 ghost use Rattle.reference.specs.Search as Search;
 
 use crate::prepare::with_times;
-use common::Fate;
+use common::Refusal;
 use reference_checks::verify;
 use reference_motion::Reference;
 
 // The state of a search: whether a duration was verified, the longest one below it that was refused, the next one to try, the best one so far, how the last trial ended,
-// and how many trials and samples were evaluated.
+// and how many trials and samples were evaluated. `best` is no Option: the search at all steps begins with none verified and answers it beside a refusal too.
 #[derive(Clone, Copy)]
 pub struct Trials {
     pub found: bool,
     pub low: f64,
     pub next: f64,
     pub best: f64,
-    pub fate: Fate,
+    pub fate: Result<(), Refusal>,
     pub count: usize,
     pub samples: usize,
 }
 
-// What a search answers: the duration, or the last trial's refusal; and how many trials and samples were evaluated.
+// What a search answers: the duration, or the last trial's refusal; and how many trials and samples were evaluated. No Result: `slew_plan_reference_numbers` writes the duration and
+// the counts beside a refusal too.
 #[derive(Clone, Copy)]
 pub struct SearchResult {
-    pub fate: Fate,
+    pub fate: Result<(), Refusal>,
     pub duration: f64,
     pub trials: usize,
     pub samples: usize,
 }
 
 // The trial of a duration t was refused, after so many samples.
-fn record_refusal(s: Trials, t: f64, next: f64, fate: Fate, samples: usize) -> Trials
+fn record_refusal(s: Trials, t: f64, next: f64, why: Refusal, samples: usize) -> Trials
     requires { Search.Room s × (samples ≤ 100002) }
-    ensures { result ≡ Search.record_refusal s t next fate samples }
+    ensures { result ≡ Search.record_refusal s t next why samples }
 {
     Trials {
-        found: s.found,
         low: t,
-        next: next,
-        best: s.best,
-        fate: fate,
+        next,
+        fate: Err(why),
         count: s.count + 1,
         samples: s.samples + samples,
+        ..s
     }
 }
 
@@ -56,12 +55,11 @@ fn record_pass(s: Trials, t: f64, samples: usize) -> Trials
 {
     Trials {
         found: true,
-        low: s.low,
-        next: s.next,
         best: t,
-        fate: Fate::Going,
+        fate: Ok(()),
         count: s.count + 1,
         samples: s.samples + samples,
+        ..s
     }
 }
 
@@ -71,13 +69,9 @@ fn trial(r: Reference, steps: usize, s: Trials, t: f64, next: f64) -> Trials
     ensures { result ≡ Search.trial r steps s t next }
 {
     let verdict = verify(with_times(r, t, steps));
-    let fate = verdict.fate;
-    let samples = verdict.samples;
-    match fate {
-        Fate::Going => record_pass(s, t, samples),
-        Fate::Refused(number, place) => {
-            record_refusal(s, t, next, Fate::Refused(number, place), samples)
-        }
+    match verdict.fate {
+        Ok(()) => record_pass(s, t, verdict.samples),
+        Err(why) => record_refusal(s, t, next, why, verdict.samples),
     }
 }
 
@@ -109,10 +103,8 @@ fn lengthen_repeatedly(r: Reference, steps: usize, first: Trials, factor: f64, n
     ensures { (result ≡ iter (Search.lengthen_turn r steps factor) first n) × Search.Grown first result n }
 {
     let mut s = first;
-    let mut k: usize = 0;
-    while k < n {
+    for _ in 0..n {
         s = lengthen(r, steps, s, factor);
-        k += 1;
     }
     s
 }
@@ -123,10 +115,8 @@ fn bisect_repeatedly(r: Reference, steps: usize, first: Trials, n: usize) -> Tri
     ensures { (result ≡ iter (Search.bisect_turn r steps) first n) × Search.Grown first result n }
 {
     let mut s = first;
-    let mut k: usize = 0;
-    while k < n {
+    for _ in 0..n {
         s = bisect(r, steps, s);
-        k += 1;
     }
     s
 }
@@ -140,7 +130,10 @@ fn initial_trials() -> Trials
         low: 0.0,
         next: 0.0095367431640625,
         best: 0.0,
-        fate: Fate::Refused(10, 0),
+        fate: Err(Refusal {
+            number: 10,
+            place: 0,
+        }),
         count: 0,
         samples: 0,
     }
@@ -152,12 +145,12 @@ fn fine_trials(s: Trials) -> Trials
 {
     Trials {
         found: false,
-        low: s.low,
         next: s.best,
-        best: s.best,
-        fate: Fate::Refused(10, 0),
-        count: s.count,
-        samples: s.samples,
+        fate: Err(Refusal {
+            number: 10,
+            place: 0,
+        }),
+        ..s
     }
 }
 
@@ -165,9 +158,8 @@ fn fine_trials(s: Trials) -> Trials
 fn result_of(s: Trials) -> SearchResult
     ensures { result ≡ Search.result_of s }
 {
-    let fate = s.fate;
     SearchResult {
-        fate: fate,
+        fate: s.fate,
         duration: s.best,
         trials: s.count,
         samples: s.samples,
@@ -182,8 +174,7 @@ fn finish(r: Reference, s: Trials) -> SearchResult
     if !s.found {
         return result_of(s);
     }
-    let steps = r.steps;
-    result_of(lengthen_repeatedly(r, steps, fine_trials(s), 1.015625, 32))
+    result_of(lengthen_repeatedly(r, r.steps, fine_trials(s), 1.015625, 32))
 }
 
 // The shortest duration that 21 doublings and 12 bisections at `coarse` steps find, lengthened by a 64th at most 31 times until every step passes.

@@ -1,6 +1,6 @@
 -- A number that fits its limit does so as an exact number, with no slack. Assumes nothing.
-use Rattle.std.specs.Prelude.{ℕ, ◌*◌, ◌/◌, ◌^◌, ◌≤◌, ◌<◌, ◌≡◌, refl, Bool, true, false, ◌&&◌, ◌||◌, ℤ, pos, ◌≤ℤ◌, T, ltb, eqb, Float}
-use Rattle.std.proofs.Common.{sym, ap, ◌∙◌, le_refl, le_trans, le_of_eq, le_of_lt, mul_right_comm, mul-le-mul_right, le_of_mul-le-mul_right, div-mul-le_self, le-div_iff_mul-le, arith, ltb→lt, eqb→eq, le→leb}
+use Rattle.std.specs.Prelude.{ℕ, ◌*◌, ◌/◌, ◌^◌, ◌≤◌, ◌<◌, ◌≡◌, refl, Bool, true, false, ◌&&◌, ◌||◌, ◌≤ℤ◌, T, ltb, eqb, Float}
+use Rattle.std.proofs.Common.{le_trans, le_of_eq, le_of_lt, mul_right_comm, mul-le-mul_right, le_of_mul-le-mul_right, div-mul-le_self, le-div_iff_mul-le, ltb→lt, eqb→eq, le→leb}
 use Rattle.std.specs.Int.Signed.{le_z_yes}
 use Rattle.std.specs.Float.{nan, inf, fin, binary64}
 use Rattle.std.specs.Float.Ieee.{low, up, down, lt, eq, le}

@@ -1,23 +1,20 @@
 -- WHAT A VERIFIED REFERENCE PROMISES, sample by sample and step by step. Definitions only.
-use Rattle.std.specs.Prelude.{ℕ, ◌+◌, ◌<◌, ◌≤◌, ◌≡◌, true, List, [], ◌∷◌, T, ◌≤ℤ◌, Float}
+use Rattle.std.specs.Prelude.{ℕ, ◌+◌, ◌<◌, ◌≤◌, ◌≡◌, true, List, [], ◌∷◌, T, ◌≤ℤ◌, Float, Some}
 use Rattle.std.specs.Float.Ieee.{le, eq}
 use Rattle.std.specs.Float.Ieee.Scale.{finite}
 use Rattle.common.specs.Floats.{plus_zero}
 use Rattle.common.specs.Lists.{at}
-use Rattle.common.specs.declared.Fate.{Fate}
-use Rattle.common.specs.declared.Fate.TheVariants.{Going, Refused}
-use Rattle.common.specs.declared.Limit.TheVariants.{At}
 use Rattle.float.specs.Ops.{abs}
 use Rattle.float_laws.specs.Exact.{exact}
 use Rattle.geom.specs.Quats.{norm3}
 use Rattle.geom.specs.declared.Quat.{Quat}
-use Rattle.geom.specs.declared.Rotation.TheVariants as Rotation
 use Rattle.reference_motion.specs.declared.Reference.{Reference}
 use Rattle.reference_motion.specs.declared.Sample.{Sample}
 use Rattle.reference_motion.specs.Motion.{rotation_vector}
 use Rattle.reference_motion.specs.Momenta.{body_vector}
 use Rattle.reference_checks.specs.declared.Verdict.{Verdict}
 use Rattle.reference_checks.specs.Checks as Checks
+use Rattle.common.specs.Refusals.{going}
 
 -- x is at most the limit l in size, as exact numbers and with no slack: both sides are whole numbers of 2 ^ -1074
 pub record AtMost (x l : Float) : Type 0 where
@@ -33,8 +30,8 @@ pub record WheelsWithin (r : Reference) (s : Sample) : Type 0 where
 
 -- its sine and cosine are in range, the computed length of its rate is within the slew limit, its wheels are within theirs
 pub record SampleWithin (r : Reference) (s : Sample) : Type 0 where
-  pub goes : s.fate ≡ Going
-  pub rate : (limit : Float) → r.slew ≡ At limit → AtMost (norm3 s.w) limit
+  pub goes : s.fate ≡ going
+  pub rate : (limit : Float) → r.slew ≡ Some limit → AtMost (norm3 s.w) limit
   pub wheels : r.wheels ≡ true → WheelsWithin r s
 
 -- ---- a step
@@ -63,7 +60,7 @@ pub record AtEnd (s : Sample) (qf : Quat) : Type 0 where
   pub x : Float
   pub y : Float
   pub z : Float
-  pub error : rotation_vector s.q qf ≡ Rotation.By x y z
+  pub error : rotation_vector s.q qf ≡ Some (x, y, z)
   pub small : le (norm3 (x ∷ y ∷ z ∷ [])) Checks.tolerance ≡ true
 
 -- ---- THE PROMISE
@@ -84,4 +81,4 @@ pub record Counted (v meant : Verdict) (most : ℕ) : Type 0 where
 pub record Verified (r : Reference) (v : Verdict) : Type 0 where
   pub is : v ≡ Checks.verify r
   pub few : v.samples ≤ r.steps + 2
-  pub promised : v.fate ≡ Going → Promised r
+  pub promised : v.fate ≡ going → Promised r

@@ -1,5 +1,5 @@
 -- A verified reference keeps what it promises. Assumes nothing.
-use Rattle.std.specs.Prelude.{ℕ, zero, suc, ◌+◌, ◌<◌, ◌≤◌, ◌≡◌, Bool, cond, ◌&&◌, List, [], ◌∷◌, Float}
+use Rattle.std.specs.Prelude.{ℕ, zero, suc, ◌+◌, ◌<◌, ◌≤◌, ◌≡◌, Bool, cond, List, [], ◌∷◌, Float, Option, Some, None, Ok, Err}
 use Rattle.std.proofs.Math.Path.{refl}
 use Rattle.std.proofs.Common.{sym, ap, ◌∙◌, add-one, arith}
 use Rattle.std.proofs.Math.Bool.{true, false}
@@ -7,36 +7,30 @@ use Rattle.std.specs.Float.Ieee.{le, eq}
 use Rattle.common.specs.Floats.{plus_zero}
 use Rattle.common.specs.Iter.{iter}
 use Rattle.common.specs.Lists.{at}
-use Rattle.common.specs.declared.Fate.{Fate}
-use Rattle.common.specs.declared.Fate.TheVariants.{Going, Refused}
-use Rattle.common.specs.declared.Limit.{Limit}
-use Rattle.common.specs.declared.Limit.TheVariants.{Nothing, At}
 use Rattle.float_laws.specs.Below.{below_none, below_next, below_three}
 use Rattle.geom.specs.Quats.{norm3}
 use Rattle.geom.specs.declared.Quat.{Quat}
-use Rattle.geom.specs.declared.Rotation.{Rotation}
-use Rattle.geom.specs.declared.Rotation.TheVariants as Rotation
 use Rattle.reference_motion.specs.declared.Reference.{Reference}
 use Rattle.reference_motion.specs.declared.Sample.{Sample}
 use Rattle.reference_motion.specs.Motion.{rotation_vector}
 use Rattle.reference_motion.specs.Momenta.{body_vector}
-use Rattle.reference_checks.specs.declared.Verdict.{Verdict}
 use Rattle.reference_checks.specs.Checks as Checks
 use Rattle.reference_checks.specs.Promises.{AtMost, WheelsWithin, SampleWithin, StepWithin, AtRest, AtStart, AtEnd, Promised}
 use Rattle.reference_checks.specs.ExactLaws.{and_both, fits_exact}
+use Rattle.common.specs.Refusals.{Fate, refusal, going}
 
-pub never : {n i : ℕ} {A : Type 0} → Refused n i ≡ Going → A
+pub never : {n i : ℕ} {A : Type 0} → Err (refusal n i) ≡ going → A
 never e = let z : ◌≡◌ {A = ℕ} 0 1 = cc in absurd (omega arith)
 
 -- ---- tests
 
 -- a check that passes: its test held, and what comes after it passes
-past : (b : Bool) (f : Fate) (n i : ℕ) → cond b f (Refused n i) ≡ Going → (b ≡ true) × (f ≡ Going)
+past : (b : Bool) (f : Fate) (n i : ℕ) → cond b f (Err (refusal n i)) ≡ going → (b ≡ true) × (f ≡ going)
 past true f n i g = (refl, g)
 past false f n i g = never g
 
 -- a check that is made only where b holds
-where_so : (b : Bool) (f : Fate) → cond b f Going ≡ Going → b ≡ true → f ≡ Going
+where_so : (b : Bool) (f : Fate) → cond b f going ≡ going → b ≡ true → f ≡ going
 where_so true f g e = g
 where_so false f g e = let z : ◌≡◌ {A = Bool} false true = e in cc
 
@@ -71,39 +65,39 @@ rests w e =
     let b = and_both (eq (at w 1) plus_zero) _ a.1 in
     below_three (λ (i : ℕ). eq (at w i) plus_zero ≡ true) a.0 b.0 b.1
 
-rate_within : (limit : Float) (l : Limit) (w : List Float) → Checks.rate_fits l w ≡ true → l ≡ At limit → AtMost (norm3 w) limit
-rate_within limit l w e g = fits_exact (norm3 w) limit (ap (λ (x : Limit). Checks.rate_fits x w) (sym g) ∙ e)
+rate_within : (limit : Float) (l : Option Float) (w : List Float) → Checks.rate_fits l w ≡ true → l ≡ Some limit → AtMost (norm3 w) limit
+rate_within limit l w e g = fits_exact (norm3 w) limit (ap (λ (x : Option Float). Checks.rate_fits x w) (sym g) ∙ e)
 
 -- ---- a sample
 
-momenta_passed : (r : Reference) (s : Sample) (k : ℕ) → Checks.check_momenta r s k ≡ Going → WheelsWithin r s
+momenta_passed : (r : Reference) (s : Sample) (k : ℕ) → Checks.check_momenta r s k ≡ going → WheelsWithin r s
 unfolding Checks.check_momenta
 momenta_passed r s k g =
     let a = past (Checks.within s.h r.momentum_limits r.count) _ 19 k g in
     let b = past (Checks.is_balanced r s) _ 30 k a.1 in
     record { momenta = all_within _ _ _ a.0; balance = b.0 }
 
-limits_passed : (r : Reference) (s : Sample) (k : ℕ) → s.fate ≡ Going → Checks.check_limits r s k ≡ Going → SampleWithin r s
+limits_passed : (r : Reference) (s : Sample) (k : ℕ) → s.fate ≡ going → Checks.check_limits r s k ≡ going → SampleWithin r s
 unfolding Checks.check_limits Checks.check_wheels
 limits_passed r s k e g =
     let a = past (Checks.rate_fits r.slew s.w) (Checks.check_wheels r s k) 18 k g in
     record { goes = e; rate = λ limit h. rate_within limit r.slew s.w a.0 h; wheels = λ h. momenta_passed r s k (where_so r.wheels (Checks.check_momenta r s k) a.1 h) }
 
-sample_by_law : (f : Fate) (r : Reference) (s : Sample) (k : ℕ) → s.fate ≡ f → Checks.check_sample_by f r s k ≡ Going → SampleWithin r s
-sample_by_law (Refused n i) r s k e g = never g
-sample_by_law Going r s k e g = limits_passed r s k e g
+sample_by_law : (f : Fate) (r : Reference) (s : Sample) (k : ℕ) → s.fate ≡ f → Checks.check_sample_by f r s k ≡ going → SampleWithin r s
+sample_by_law (Err why) r s k e g = never g
+sample_by_law (Ok _) r s k e g = limits_passed r s k e g
 
-sample_passed : (r : Reference) (s : Sample) (k : ℕ) → Checks.check_sample r s k ≡ Going → SampleWithin r s
+sample_passed : (r : Reference) (s : Sample) (k : ℕ) → Checks.check_sample r s k ≡ going → SampleWithin r s
 unfolding Checks.check_sample
 sample_passed r s k g = sample_by_law s.fate r s k refl g
 
 -- ---- a step
 
-powers_passed : (r : Reference) (u : List Float) (k : ℕ) → Checks.check_powers r u k ≡ Going → r.wheels ≡ true → (i : ℕ) → i < r.count → AtMost (at (Checks.powers_of r u k) i) (at r.power_limits i)
+powers_passed : (r : Reference) (u : List Float) (k : ℕ) → Checks.check_powers r u k ≡ going → r.wheels ≡ true → (i : ℕ) → i < r.count → AtMost (at (Checks.powers_of r u k) i) (at r.power_limits i)
 unfolding Checks.check_powers Checks.powers_fit
-powers_passed r u k g e = all_within _ _ _ (past (Checks.powers_fit r u k) Going 13 k (where_so r.wheels _ g e)).0
+powers_passed r u k g e = all_within _ _ _ (past (Checks.powers_fit r u k) going 13 k (where_so r.wheels _ g e)).0
 
-controls_passed : (r : Reference) (u : List Float) (k : ℕ) → Checks.check_controls r u k ≡ Going → StepWithin r k u
+controls_passed : (r : Reference) (u : List Float) (k : ℕ) → Checks.check_controls r u k ≡ going → StepWithin r k u
 unfolding Checks.check_controls
 controls_passed r u k g =
     let a = past (Checks.within u r.limits r.count) _ 29 k g in
@@ -114,30 +108,30 @@ controls_passed r u k g =
 abbrev Passed : Reference → ℕ → Type 0
 Passed r k = SampleWithin r (Checks.sample_of r (k + 1)) × StepWithin r k (Checks.controls_of r k)
 
-step_by : (f : Fate) (r : Reference) (k : ℕ) → Checks.check_sample r (Checks.sample_of r (k + 1)) (k + 1) ≡ f → Checks.check_step_by f r k (Checks.sample_of r k).h (Checks.sample_of r (k + 1)).h ≡ Going → Passed r k
+step_by : (f : Fate) (r : Reference) (k : ℕ) → Checks.check_sample r (Checks.sample_of r (k + 1)) (k + 1) ≡ f → Checks.check_step_by f r k (Checks.sample_of r k).h (Checks.sample_of r (k + 1)).h ≡ going → Passed r k
 unfolding Checks.controls_of
-step_by (Refused n i) r k e g = never g
-step_by Going r k e g = (sample_passed r _ (k + 1) e, controls_passed r _ k g)
+step_by (Err why) r k e g = never g
+step_by (Ok _) r k e g = (sample_passed r _ (k + 1) e, controls_passed r _ k g)
 
-step_passed : (r : Reference) (k : ℕ) → Checks.check_step r k (Checks.sample_of r k) (Checks.sample_of r (k + 1)) ≡ Going → Passed r k
+step_passed : (r : Reference) (k : ℕ) → Checks.check_step r k (Checks.sample_of r k) (Checks.sample_of r (k + 1)) ≡ going → Passed r k
 unfolding Checks.check_step
 step_passed r k g = step_by (Checks.check_sample r (Checks.sample_of r (k + 1)) (k + 1)) r k refl g
 
-turn_both : (f : Fate) (r : Reference) (k n : ℕ) → (Checks.step_turn_by f r k n).fate ≡ Going → (f ≡ Going) × Passed r k
-turn_both Going r k n g = (refl, step_passed r k g)
-turn_both (Refused m i) r k n g = never g
+turn_both : (f : Fate) (r : Reference) (k n : ℕ) → (Checks.step_turn_by f r k n).fate ≡ going → (f ≡ going) × Passed r k
+turn_both (Ok _) r k n g = (refl, step_passed r k g)
+turn_both (Err why) r k n g = never g
 
-steps_passed : (r : Reference) (m : ℕ) → (iter (Checks.step_turn r) (Checks.verdict Going 1) m).fate ≡ Going → (k : ℕ) → k < m → Passed r k
+steps_passed : (r : Reference) (m : ℕ) → (iter (Checks.step_turn r) (Checks.verdict going 1) m).fate ≡ going → (k : ℕ) → k < m → Passed r k
 unfolding iter
 steps_passed r zero g = below_none (Passed r)
 steps_passed r (suc m) g =
-    let v = iter (Checks.step_turn r) (Checks.verdict Going 1) m in
+    let v = iter (Checks.step_turn r) (Checks.verdict going 1) m in
     let s = turn_both v.fate r m v.samples g in
     below_next (Passed r) m s.1 (steps_passed r m s.0)
 
 -- ---- the start and the end
 
-start_passed : (r : Reference) (s : Sample) → Checks.check_start r s ≡ Going → AtStart r s
+start_passed : (r : Reference) (s : Sample) → Checks.check_start r s ≡ going → AtStart r s
 unfolding Checks.check_start Checks.equal
 start_passed r s g =
     let a = past (Checks.at_rest_value s.w) _ 15 0 g in
@@ -145,19 +139,19 @@ start_passed r s g =
     let c = past (Checks.equal s.h r.start r.count) _ 30 0 b.1 in
     record { rest = rests s.w a.0; attitude = b.0; momenta = equal_each s.h r.start r.count c.0 }
 
-first_by : (f : Fate) (r : Reference) (s : Sample) → Checks.check_sample r s 0 ≡ f → Checks.check_first_by f r s ≡ Going → SampleWithin r s × AtStart r s
-first_by (Refused n i) r s e g = never g
-first_by Going r s e g = (sample_passed r s 0 e, start_passed r s g)
+first_by : (f : Fate) (r : Reference) (s : Sample) → Checks.check_sample r s 0 ≡ f → Checks.check_first_by f r s ≡ going → SampleWithin r s × AtStart r s
+first_by (Err why) r s e g = never g
+first_by (Ok _) r s e g = (sample_passed r s 0 e, start_passed r s g)
 
-first_passed : (r : Reference) (s : Sample) → Checks.check_first r s ≡ Going → SampleWithin r s × AtStart r s
+first_passed : (r : Reference) (s : Sample) → Checks.check_first r s ≡ going → SampleWithin r s × AtStart r s
 unfolding Checks.check_first
 first_passed r s g = first_by (Checks.check_sample r s 0) r s refl g
 
-end_by : (t : Rotation) (s : Sample) (qf : Quat) (n : ℕ) → AtRest s.w → rotation_vector s.q qf ≡ t → Checks.check_attitude_by t n ≡ Going → AtEnd s qf
-end_by Rotation.Outside s qf n h e g = never g
-end_by (Rotation.By a b c) s qf n h e g = record { rest = h; x = a; y = b; z = c; error = e; small = (past (le (norm3 (a ∷ b ∷ c ∷ [])) Checks.tolerance) Going 14 n g).0 }
+end_by : (t : Option (Float × Float × Float)) (s : Sample) (qf : Quat) (n : ℕ) → AtRest s.w → rotation_vector s.q qf ≡ t → Checks.check_attitude_by t n ≡ going → AtEnd s qf
+end_by None s qf n h e g = never g
+end_by (Some (a, b, c)) s qf n h e g = record { rest = h; x = a; y = b; z = c; error = e; small = (past (le (norm3 (a ∷ b ∷ c ∷ [])) Checks.tolerance) going 14 n g).0 }
 
-end_passed : (r : Reference) → Checks.check_end r ≡ Going → AtEnd (Checks.sample_of r r.steps) r.qf
+end_passed : (r : Reference) → Checks.check_end r ≡ going → AtEnd (Checks.sample_of r r.steps) r.qf
 unfolding Checks.check_end Checks.check_attitude
 end_passed r g =
     let s = Checks.sample_of r r.steps in
@@ -171,23 +165,23 @@ module _ (r : Reference) where
   all_samples first rest zero h = first
   all_samples first rest (suc k) h = rw add-one at (rest k (omega arith)).0
 
-  rest_by : Checks.times_fit r ≡ true → (f : Fate) (n : ℕ) → (Checks.check_steps r).fate ≡ f → SampleWithin r (Checks.sample_of r 0) × AtStart r (Checks.sample_of r 0) → (Checks.check_rest_by f r n).fate ≡ Going → Promised r
+  rest_by : Checks.times_fit r ≡ true → (f : Fate) (n : ℕ) → (Checks.check_steps r).fate ≡ f → SampleWithin r (Checks.sample_of r 0) × AtStart r (Checks.sample_of r 0) → (Checks.check_rest_by f r n).fate ≡ going → Promised r
   unfolding Checks.check_steps
-  rest_by t (Refused m i) n e first g = never g
-  rest_by t Going n e first g =
+  rest_by t (Err why) n e first g = never g
+  rest_by t (Ok _) n e first g =
       let rest = steps_passed r r.steps e in
       record { times = t; start = first.1; samples = all_samples first.0 rest; steps = λ k h. (rest k h).1; end = end_passed r g }
 
-  samples_by : Checks.times_fit r ≡ true → (f : Fate) → Checks.check_first r (Checks.sample_of r 0) ≡ f → (Checks.check_samples_by f r).fate ≡ Going → Promised r
+  samples_by : Checks.times_fit r ≡ true → (f : Fate) → Checks.check_first r (Checks.sample_of r 0) ≡ f → (Checks.check_samples_by f r).fate ≡ going → Promised r
   unfolding Checks.check_rest
-  samples_by t (Refused m i) e g = never g
-  samples_by t Going e g = rest_by t (Checks.check_steps r).fate (Checks.check_steps r).samples refl (first_passed r _ e) g
+  samples_by t (Err why) e g = never g
+  samples_by t (Ok _) e g = rest_by t (Checks.check_steps r).fate (Checks.check_steps r).samples refl (first_passed r _ e) g
 
-  times_by : (b : Bool) → Checks.times_fit r ≡ b → (cond b (Checks.check_samples r) (Checks.verdict (Refused 10 0) 0)).fate ≡ Going → Promised r
+  times_by : (b : Bool) → Checks.times_fit r ≡ b → (cond b (Checks.check_samples r) (Checks.verdict (Err (refusal 10 0)) 0)).fate ≡ going → Promised r
   unfolding Checks.check_samples
   times_by false e g = never g
   times_by true e g = samples_by e (Checks.check_first r (Checks.sample_of r 0)) refl g
 
-  pub verified : (Checks.verify r).fate ≡ Going → Promised r
+  pub verified : (Checks.verify r).fate ≡ going → Promised r
   unfolding Checks.verify
   verified g = times_by (Checks.times_fit r) refl g

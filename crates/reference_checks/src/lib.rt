@@ -7,8 +7,8 @@ ghost use Rattle.std.specs.Prelude.{◌≡◌, ◌+◌, ◌≤◌};
 ghost use Rattle.reference_checks.specs.Checks as Checks;
 ghost use Rattle.reference_checks.specs.Promises as Promises;
 
-use common::{Fate, Limit};
-use geom::{Quat, Rotation, is_positive, norm3, sub3};
+use common::Refusal;
+use geom::{Quat, is_positive, norm3, sub3};
 use reference_motion::{
     Reference, Sample, body_vector, controls, fraction, mid_fraction, rate_at, required_momentum,
     rotation_vector, sample_at,
@@ -17,10 +17,10 @@ use reference_motion::{
 // The largest error of the momentum balance, over 1 + |H₀|, and of the attitude at the end.
 const TOLERANCE: f64 = 1.0e-9;
 
-// How the checks ended, and how many samples they evaluated.
+// How the checks ended, and how many samples they evaluated: no Result, since these are counted beside a refusal too.
 #[derive(Clone, Copy)]
 pub struct Verdict {
-    pub fate: Fate,
+    pub fate: Result<(), Refusal>,
     pub samples: usize,
 }
 
@@ -37,11 +37,8 @@ fn within(v: &[f64; 12], limits: &[f64; 12], n: usize) -> bool
     ensures { result ≡ Checks.within v.now limits.now n }
 {
     let mut all = true;
-    let mut i: usize = 0;
-    while i < n {
-        let here = fits(v[i], limits[i]);
-        all = all & here;
-        i += 1;
+    for i in 0..n {
+        all &= fits(v[i], limits[i]);
     }
     all
 }
@@ -52,11 +49,8 @@ fn equal(v: &[f64; 12], u: &[f64; 12], n: usize) -> bool
     ensures { result ≡ Checks.equal v.now u.now n }
 {
     let mut all = true;
-    let mut i: usize = 0;
-    while i < n {
-        let here = v[i] == u[i];
-        all = all & here;
-        i += 1;
+    for i in 0..n {
+        all &= v[i] == u[i];
     }
     all
 }
@@ -83,12 +77,12 @@ fn in_box(tau: [f64; 3], limit: [f64; 3]) -> bool
 }
 
 // Whether a rate is at most the slew limit, where there is one.
-fn rate_fits(slew: Limit, w: [f64; 3]) -> bool
+fn rate_fits(slew: Option<f64>, w: [f64; 3]) -> bool
     ensures { result ≡ Checks.rate_fits slew w }
 {
     match slew {
-        Limit::Nothing => true,
-        Limit::At(limit) => fits(norm3(w), limit),
+        None => true,
+        Some(limit) => fits(norm3(w), limit),
     }
 }
 
@@ -97,12 +91,8 @@ fn imbalance(r: Reference, s: Sample) -> [f64; 3]
     requires { r.count ≤ 12 }
     ensures { result ≡ Checks.imbalance r s }
 {
-    let axes = r.axes;
-    let h = s.h;
-    let w = s.w;
-    let rotation = s.rotation;
-    let held = body_vector(&axes, r.count, &h);
-    sub3(held, required_momentum(r, rotation, w))
+    let held = body_vector(&r.axes, r.count, &s.h);
+    sub3(held, required_momentum(r, s.rotation, s.w))
 }
 
 // Whether that is small.
@@ -110,59 +100,62 @@ fn is_balanced(r: Reference, s: Sample) -> bool
     requires { r.count ≤ 12 }
     ensures { result ≡ Checks.is_balanced r s }
 {
-    let total = r.total;
-    norm3(imbalance(r, s)) <= TOLERANCE * (1.0 + norm3(total))
+    norm3(imbalance(r, s)) <= TOLERANCE * (1.0 + norm3(r.total))
 }
 
 // The wheels' momenta in sample k against their limits and the momentum balance.
-fn check_momenta(r: Reference, s: Sample, k: usize) -> Fate
+fn check_momenta(r: Reference, s: Sample, k: usize) -> Result<(), Refusal>
     requires { r.count ≤ 12 }
     ensures { result ≡ Checks.check_momenta r s k }
 {
-    let limits = r.momentum_limits;
-    let h = s.h;
-    if !within(&h, &limits, r.count) {
-        return Fate::Refused(19, k);
+    if !within(&s.h, &r.momentum_limits, r.count) {
+        return Err(Refusal {
+            number: 19,
+            place: k,
+        });
     }
     if !is_balanced(r, s) {
-        return Fate::Refused(30, k);
+        return Err(Refusal {
+            number: 30,
+            place: k,
+        });
     }
-    Fate::Going
+    Ok(())
 }
 
 // The same, where there are wheels.
-fn check_wheels(r: Reference, s: Sample, k: usize) -> Fate
+fn check_wheels(r: Reference, s: Sample, k: usize) -> Result<(), Refusal>
     requires { r.count ≤ 12 }
     ensures { result ≡ Checks.check_wheels r s k }
 {
     if !r.wheels {
-        return Fate::Going;
+        return Ok(());
     }
     check_momenta(r, s, k)
 }
 
 // Sample k, whose sine and cosine are in range, against the slew limit and the wheels' limits.
-fn check_limits(r: Reference, s: Sample, k: usize) -> Fate
+fn check_limits(r: Reference, s: Sample, k: usize) -> Result<(), Refusal>
     requires { r.count ≤ 12 }
     ensures { result ≡ Checks.check_limits r s k }
 {
-    let slew = r.slew;
-    let w = s.w;
-    if !rate_fits(slew, w) {
-        return Fate::Refused(18, k);
+    if !rate_fits(r.slew, s.w) {
+        return Err(Refusal {
+            number: 18,
+            place: k,
+        });
     }
     check_wheels(r, s, k)
 }
 
 // Sample k.
-pub fn check_sample(r: Reference, s: Sample, k: usize) -> Fate
+pub fn check_sample(r: Reference, s: Sample, k: usize) -> Result<(), Refusal>
     requires { r.count ≤ 12 }
     ensures { result ≡ Checks.check_sample r s k }
 {
-    let fate = s.fate;
-    match fate {
-        Fate::Refused(number, _) => Fate::Refused(number, k),
-        Fate::Going => check_limits(r, s, k),
+    match s.fate {
+        Err(why) => Err(Refusal { place: k, ..why }),
+        Ok(()) => check_limits(r, s, k),
     }
 }
 
@@ -172,11 +165,8 @@ fn powers(axes: &[f64; 36], n: usize, u: [f64; 12], w: [f64; 3]) -> [f64; 12]
     ensures { result ≡ Checks.powers axes.now n u w }
 {
     let mut out = u;
-    let mut i: usize = 0;
-    while i < n {
-        let speed = w[0] * axes[3 * i] + w[1] * axes[3 * i + 1] + w[2] * axes[3 * i + 2];
-        out[i] = out[i] * speed;
-        i += 1;
+    for i in 0..n {
+        out[i] *= w[0] * axes[3 * i] + w[1] * axes[3 * i + 1] + w[2] * axes[3 * i + 2];
     }
     out
 }
@@ -186,61 +176,54 @@ fn powers_fit(r: Reference, u: [f64; 12], k: usize) -> bool
     requires { (r.count ≤ 12) × ((k ≤ 100000) × (r.steps ≤ 100000)) }
     ensures { result ≡ Checks.powers_fit r u k }
 {
-    let steps = r.steps;
-    let axes = r.axes;
-    let limits = r.power_limits;
-    let w = rate_at(r, mid_fraction(k, steps));
-    let p = powers(&axes, r.count, u, w);
-    within(&p, &limits, r.count)
+    let w = rate_at(r, mid_fraction(k, r.steps));
+    within(&powers(&r.axes, r.count, u, w), &r.power_limits, r.count)
 }
 
 // The wheels' powers in step k; the problem declares none for thrusters.
-fn check_powers(r: Reference, u: [f64; 12], k: usize) -> Fate
+fn check_powers(r: Reference, u: [f64; 12], k: usize) -> Result<(), Refusal>
     requires { (r.count ≤ 12) × ((k ≤ 100000) × (r.steps ≤ 100000)) }
     ensures { result ≡ Checks.check_powers r u k }
 {
     if !r.wheels {
-        return Fate::Going;
+        return Ok(());
     }
     if !powers_fit(r, u, k) {
-        return Fate::Refused(13, k);
+        return Err(Refusal {
+            number: 13,
+            place: k,
+        });
     }
-    Fate::Going
+    Ok(())
 }
 
 // The controls of step k against their limits, their body torque against the box, the wheels' powers.
-pub fn check_controls(r: Reference, u: [f64; 12], k: usize) -> Fate
+pub fn check_controls(r: Reference, u: [f64; 12], k: usize) -> Result<(), Refusal>
     requires { (r.count ≤ 12) × ((k ≤ 100000) × (r.steps ≤ 100000)) }
     ensures { result ≡ Checks.check_controls r u k }
 {
-    let limits = r.limits;
-    if !within(&u, &limits, r.count) {
-        return Fate::Refused(29, k);
+    if !within(&u, &r.limits, r.count) {
+        return Err(Refusal {
+            number: 29,
+            place: k,
+        });
     }
-    let axes = r.axes;
-    let torque_limit = r.torque_limit;
-    let tau = body_vector(&axes, r.count, &u);
-    if !in_box(tau, torque_limit) {
-        return Fate::Refused(17, k);
+    if !in_box(body_vector(&r.axes, r.count, &u), r.torque_limit) {
+        return Err(Refusal {
+            number: 17,
+            place: k,
+        });
     }
     check_powers(r, u, k)
 }
 
 // Step k, from the sample at its start to the one at its end, which is checked first.
-pub fn check_step(r: Reference, k: usize, last: Sample, next: Sample) -> Fate
+pub fn check_step(r: Reference, k: usize, last: Sample, next: Sample) -> Result<(), Refusal>
     requires { (r.count ≤ 12) × ((k + 1 ≤ 100000) × (r.steps ≤ 100000)) }
     ensures { result ≡ Checks.check_step r k last next }
 {
-    let fate = check_sample(r, next, k + 1);
-    match fate {
-        Fate::Refused(number, place) => Fate::Refused(number, place),
-        Fate::Going => {
-            let a = last.h;
-            let b = next.h;
-            let u = controls(r, k, a, b);
-            check_controls(r, u, k)
-        }
-    }
+    check_sample(r, next, k + 1)?;
+    check_controls(r, controls(r, k, last.h, next.h), k)
 }
 
 // Sample k.
@@ -248,42 +231,42 @@ pub fn sample_of(r: Reference, k: usize) -> Sample
     requires { (r.count ≤ 12) × ((k ≤ 100000) × (r.steps ≤ 100000)) }
     ensures { result ≡ Checks.sample_of r k }
 {
-    let steps = r.steps;
-    sample_at(r, fraction(k, steps))
+    sample_at(r, fraction(k, r.steps))
 }
 
 // Sample 0 is the start: no rate, the attitude q0, the start momenta.
-fn check_start(r: Reference, s: Sample) -> Fate
+fn check_start(r: Reference, s: Sample) -> Result<(), Refusal>
     requires { r.count ≤ 12 }
     ensures { result ≡ Checks.check_start r s }
 {
-    let w = s.w;
-    let q = s.q;
-    let q0 = r.q0;
-    let h = s.h;
-    let start = r.start;
-    if !at_rest(w) {
-        return Fate::Refused(15, 0);
+    if !at_rest(s.w) {
+        return Err(Refusal {
+            number: 15,
+            place: 0,
+        });
     }
-    if !equal_attitudes(q, q0) {
-        return Fate::Refused(14, 0);
+    if !equal_attitudes(s.q, r.q0) {
+        return Err(Refusal {
+            number: 14,
+            place: 0,
+        });
     }
-    if !equal(&h, &start, r.count) {
-        return Fate::Refused(30, 0);
+    if !equal(&s.h, &r.start, r.count) {
+        return Err(Refusal {
+            number: 30,
+            place: 0,
+        });
     }
-    Fate::Going
+    Ok(())
 }
 
 // Sample 0, as every sample and as the start.
-fn check_first(r: Reference, s: Sample) -> Fate
+fn check_first(r: Reference, s: Sample) -> Result<(), Refusal>
     requires { r.count ≤ 12 }
     ensures { result ≡ Checks.check_first r s }
 {
-    let fate = check_sample(r, s, 0);
-    match fate {
-        Fate::Refused(number, place) => Fate::Refused(number, place),
-        Fate::Going => check_start(r, s),
-    }
+    check_sample(r, s, 0)?;
+    check_start(r, s)
 }
 
 // Every step in its order; the first refusal stays.
@@ -291,62 +274,58 @@ fn check_steps(r: Reference, first: Sample) -> Verdict
     requires { (r.count ≤ 12) × ((r.steps ≤ 100000) × (first ≡ Checks.sample_of r 0)) }
     ensures { Promises.Counted result (Checks.check_steps r) (r.steps + 1) }
 {
-    let steps = r.steps;
     let mut last = first;
-    let mut k: usize = 0;
-    while k < steps {
+    for k in 0..r.steps {
         let next = sample_of(r, k + 1);
-        let fate = check_step(r, k, last, next);
-        match fate {
-            Fate::Refused(number, place) => {
-                return Verdict {
-                    fate: Fate::Refused(number, place),
-                    samples: k + 2,
-                };
-            }
-            Fate::Going => {}
+        if let Err(why) = check_step(r, k, last, next) {
+            return Verdict {
+                fate: Err(why),
+                samples: k + 2,
+            };
         }
         last = next;
-        k += 1;
     }
     Verdict {
-        fate: Fate::Going,
-        samples: k + 1,
+        fate: Ok(()),
+        samples: r.steps + 1,
     }
 }
 
 // The attitude q at the end against qf.
-fn check_attitude(r: Reference, q: Quat) -> Fate
+fn check_attitude(r: Reference, q: Quat) -> Result<(), Refusal>
     ensures { result ≡ Checks.check_attitude r q }
 {
     let steps = r.steps;
-    let qf = r.qf;
-    let left = rotation_vector(q, qf);
-    match left {
-        Rotation::Outside => Fate::Refused(11, steps),
-        Rotation::By(x, y, z) => {
-            if norm3([x, y, z]) <= TOLERANCE {
-                Fate::Going
-            } else {
-                Fate::Refused(14, steps)
-            }
-        }
+    let Some((x, y, z)) = rotation_vector(q, r.qf) else {
+        return Err(Refusal {
+            number: 11,
+            place: steps,
+        });
+    };
+    if norm3([x, y, z]) <= TOLERANCE {
+        Ok(())
+    } else {
+        Err(Refusal {
+            number: 14,
+            place: steps,
+        })
     }
 }
 
 // The last sample is the end: no rate, the attitude qf.
-fn check_end(r: Reference) -> Fate
+fn check_end(r: Reference) -> Result<(), Refusal>
     requires { (r.count ≤ 12) × (r.steps ≤ 100000) }
     ensures { result ≡ Checks.check_end r }
 {
     let steps = r.steps;
     let last = sample_of(r, steps);
-    let q = last.q;
-    let w = last.w;
-    if !at_rest(w) {
-        return Fate::Refused(15, steps);
+    if !at_rest(last.w) {
+        return Err(Refusal {
+            number: 15,
+            place: steps,
+        });
     }
-    check_attitude(r, q)
+    check_attitude(r, last.q)
 }
 
 // Every step, then the end.
@@ -355,20 +334,12 @@ fn check_rest(r: Reference, first: Sample) -> Verdict
     ensures { Promises.Counted result (Checks.check_rest r) (r.steps + 2) }
 {
     let verdict = check_steps(r, first);
-    let fate = verdict.fate;
-    let samples = verdict.samples;
-    match fate {
-        Fate::Refused(number, place) => Verdict {
-            fate: Fate::Refused(number, place),
-            samples: samples,
+    match verdict.fate {
+        Err(_) => verdict,
+        Ok(()) => Verdict {
+            fate: check_end(r),
+            samples: verdict.samples + 1,
         },
-        Fate::Going => {
-            let end = check_end(r);
-            Verdict {
-                fate: end,
-                samples: samples + 1,
-            }
-        }
     }
 }
 
@@ -378,13 +349,12 @@ fn check_samples(r: Reference) -> Verdict
     ensures { Promises.Counted result (Checks.check_samples r) (r.steps + 2) }
 {
     let first = sample_of(r, 0);
-    let fate = check_first(r, first);
-    match fate {
-        Fate::Refused(number, place) => Verdict {
-            fate: Fate::Refused(number, place),
+    match check_first(r, first) {
+        Err(why) => Verdict {
+            fate: Err(why),
             samples: 1,
         },
-        Fate::Going => check_rest(r, first),
+        Ok(()) => check_rest(r, first),
     }
 }
 
@@ -402,7 +372,10 @@ pub fn verify(r: Reference) -> Verdict
 {
     if !times_fit(r) {
         return Verdict {
-            fate: Fate::Refused(10, 0),
+            fate: Err(Refusal {
+                number: 10,
+                place: 0,
+            }),
             samples: 0,
         };
     }

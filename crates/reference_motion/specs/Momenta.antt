@@ -1,23 +1,20 @@
 -- Wheel momenta by the conservation of the total angular momentum, A h = Rᵀ H₀ - J w; controls; a sample. One rounding an operation. Definitions only.
-use Rattle.std.specs.Prelude.{ℕ, Bool, cond, List, [], ◌∷◌, replicate, Float}
+use Rattle.std.specs.Prelude.{ℕ, cond, List, [], ◌∷◌, replicate, Float, Option, Some, None, Err}
 use Rattle.std.specs.Float.{binary64}
 use Rattle.std.specs.Float.Ieee.{add, sub, mul, div}
 use Rattle.common.specs.Floats.{plus_zero}
 use Rattle.common.specs.Iter.{iter}
 use Rattle.common.specs.Lists.{at}
-use Rattle.common.specs.declared.Fate.{Fate}
-use Rattle.common.specs.declared.Fate.TheVariants.{Going, Refused}
 use Rattle.geom.specs.Vec.{add3, sub3, scale3, cross, dot3, tensor, apply_tensor, euler_lhs, two, zero3}
 use Rattle.geom.specs.Quats.{quat_mul, part}
 use Rattle.geom.specs.declared.Quat.{Quat}
-use Rattle.geom.specs.declared.Turned.{Turned}
-use Rattle.geom.specs.declared.Turned.TheVariants as Turned
 use Rattle.actuators.specs.Maps.{axis_at}
 use Rattle.control_rows.specs.Parts.{axes}
 use Rattle.control_rows.specs.Stored.{stored}
 use Rattle.reference_motion.specs.declared.Reference.{Reference}
 use Rattle.reference_motion.specs.declared.Sample.{Sample}
 use Rattle.reference_motion.specs.Motion.{to_float, mid_fraction, shape, rotation_at, rate_at, acceleration_at}
+use Rattle.common.specs.Refusals.{refusal, going}
 
 -- ---- from space to the body
 
@@ -105,9 +102,9 @@ momenta_at r q w s =
 
 -- ---- a sample
 
-abbrev pub sample_by : Turned → Reference → Float → Sample
-sample_by Turned.Outside r x = record { fate = Refused 11 0; q = r.q0; rotation = r.q0; w = rate_at r x; a = acceleration_at r x; h = r.start }
-sample_by (Turned.Is t) r x = record { fate = Going; q = quat_mul r.q0 t; rotation = t; w = rate_at r x; a = acceleration_at r x; h = momenta_at r t (rate_at r x) (shape x) }
+abbrev pub sample_by : Option Quat → Reference → Float → Sample
+sample_by None r x = record { fate = Err (refusal 11 0); q = r.q0; rotation = r.q0; w = rate_at r x; a = acceleration_at r x; h = r.start }
+sample_by (Some t) r x = record { fate = going; q = quat_mul r.q0 t; rotation = t; w = rate_at r x; a = acceleration_at r x; h = momenta_at r t (rate_at r x) (shape x) }
 
 unfoldable pub sample_at : Reference → Float → Sample
 sample_at r x = sample_by (rotation_at r x) r x

@@ -1,5 +1,5 @@
 -- A smooth rotation about one axis: its shape, its rotation vector, rate and acceleration, one rounding an operation. Definitions only.
-use Rattle.std.specs.Prelude.{ℕ, List, [], ◌∷◌, pos, Float}
+use Rattle.std.specs.Prelude.{ℕ, List, [], ◌∷◌, pos, Float, Option, Some, None}
 use Rattle.std.specs.Float.{binary64}
 use Rattle.std.specs.Float.Ieee.{add, sub, mul, div, of_int, of_bits}
 use Rattle.common.specs.Floats.{one}
@@ -7,10 +7,6 @@ use Rattle.common.specs.Lists.{at}
 use Rattle.geom.specs.Vec.{scale3, half, two}
 use Rattle.geom.specs.Quats.{conj, quat_mul, exp_so3, rotation_between}
 use Rattle.geom.specs.declared.Quat.{Quat}
-use Rattle.geom.specs.declared.Turned.{Turned}
-use Rattle.geom.specs.declared.Turned.TheVariants as Turned
-use Rattle.geom.specs.declared.Rotation.{Rotation}
-use Rattle.geom.specs.declared.Rotation.TheVariants as Rotation
 use Rattle.reference_motion.specs.declared.Reference.{Reference}
 
 -- ---- time
@@ -56,35 +52,32 @@ shape_acceleration x = mul binary64 (mul binary64 (mul binary64 sixty x) (sub bi
 -- ---- the rotation vector from q0 to qf
 
 -- phi plus what is left of the rotation, about the same axis: 2 w v is the sine of its angle times the axis, for either sign of the quaternion
-abbrev pub add_remainder : List Float → Quat → Rotation
+abbrev pub add_remainder : List Float → Quat → Float × Float × Float
 add_remainder phi left =
-    Rotation.By
-    (add binary64 (at phi 0) (mul binary64 (mul binary64 two left.w) left.x))
-    (add binary64 (at phi 1) (mul binary64 (mul binary64 two left.w) left.y))
-    (add binary64 (at phi 2) (mul binary64 (mul binary64 two left.w) left.z))
+    (add binary64 (at phi 0) (mul binary64 (mul binary64 two left.w) left.x), add binary64 (at phi 1) (mul binary64 (mul binary64 two left.w) left.y), add binary64 (at phi 2) (mul binary64 (mul binary64 two left.w) left.z))
 
 -- what is left of q after the rotation `done` by phi is added to phi
-unfoldable pub correct_log : List Float → Quat → Quat → Rotation
+unfoldable pub correct_log : List Float → Quat → Quat → Float × Float × Float
 correct_log phi q done = add_remainder phi (quat_mul (conj done) q)
 
-abbrev pub refine_log_by : Turned → List Float → Quat → Rotation
-refine_log_by Turned.Outside phi q = Rotation.Outside
-refine_log_by (Turned.Is done) phi q = correct_log phi q done
+abbrev pub refine_log_by : Option Quat → List Float → Quat → Option (Float × Float × Float)
+refine_log_by None phi q = None
+refine_log_by (Some done) phi q = Some (correct_log phi q done)
 
-unfoldable pub refine_log : List Float → Quat → Rotation
+unfoldable pub refine_log : List Float → Quat → Option (Float × Float × Float)
 refine_log phi q = refine_log_by (exp_so3 phi) phi q
 
-abbrev pub rotation_vector_by : Rotation → Quat → Rotation
-rotation_vector_by Rotation.Outside q = Rotation.Outside
-rotation_vector_by (Rotation.By x y z) q = refine_log (x ∷ y ∷ z ∷ []) q
+abbrev pub rotation_vector_by : Option (Float × Float × Float) → Quat → Option (Float × Float × Float)
+rotation_vector_by None q = None
+rotation_vector_by (Some (x, y, z)) q = refine_log (x ∷ y ∷ z ∷ []) q
 
 -- the rotation vector from q0 to qf: the logarithm, then one correction
-unfoldable pub rotation_vector : Quat → Quat → Rotation
+unfoldable pub rotation_vector : Quat → Quat → Option (Float × Float × Float)
 rotation_vector q0 qf = rotation_vector_by (rotation_between q0 qf) (quat_mul (conj q0) qf)
 
 -- ---- the motion at the fraction x of the duration
 
-unfoldable pub rotation_at : Reference → Float → Turned
+unfoldable pub rotation_at : Reference → Float → Option Quat
 rotation_at r x = exp_so3 (scale3 r.phi (shape x))
 
 unfoldable pub rate_at : Reference → Float → List Float

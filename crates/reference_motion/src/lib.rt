@@ -8,8 +8,8 @@ ghost use Rattle.std.specs.Float.Ieee.{of_int};
 ghost use Rattle.reference_motion.specs.Motion as Motion;
 ghost use Rattle.reference_motion.specs.Momenta as Momenta;
 
-use common::{Fate, Limit};
-use geom::{Quat, Rotation, Turned, add3, apply_tensor, cross, scale3, sub3, tensor};
+use common::Refusal;
+use geom::{Quat, add3, apply_tensor, cross, scale3, sub3, tensor};
 
 // A rotation from q0 to qf by the rotation vector phi in a duration, sampled at `steps` equal steps, with the body and its actuators: `count` axes A, three numbers an axis, the
 // inverse of A Aᵀ, the limits of the controls, and of the wheels the limits of momentum and power, the start momenta h₀, their body momentum A h₀ = H₀, and the part of them
@@ -23,7 +23,7 @@ pub struct Reference {
     pub steps: usize,
     pub inertia: [f64; 9],
     pub torque_limit: [f64; 3],
-    pub slew: Limit,
+    pub slew: Option<f64>,
     pub wheels: bool,
     pub count: usize,
     pub axes: [f64; 36],
@@ -36,10 +36,11 @@ pub struct Reference {
     pub null_momenta: [f64; 12],
 }
 
-// A sample: whether its sine and cosine are in range, the attitude, the rotation from q0, the rate, its derivative, the wheels' momenta.
+// A sample: whether its sine and cosine are in range, the attitude, the rotation from q0, the rate, its derivative, the wheels' momenta. No Result: what stands beside a refusal is
+// read too, since `slew_plan_reference_numbers` writes the momenta of a refused sample.
 #[derive(Clone, Copy)]
 pub struct Sample {
-    pub fate: Fate,
+    pub fate: Result<(), Refusal>,
     pub q: Quat,
     pub rotation: Quat,
     pub w: [f64; 3],
@@ -94,12 +95,12 @@ pub fn shape_acceleration(x: f64) -> f64
 }
 
 // The rotation vector phi plus what is left of the rotation q after the rotation `done` by phi, both about one axis.
-fn correct_log(phi: [f64; 3], q: Quat, done: Quat) -> Rotation
+fn correct_log(phi: [f64; 3], q: Quat, done: Quat) -> (f64, f64, f64)
     ensures { result ≡ Motion.correct_log phi q done }
 {
     let left = done.conjugate().mul(q);
     let s = 2.0 * left.w;
-    Rotation::By(
+    (
         phi[0] + s * left.x,
         phi[1] + s * left.y,
         phi[2] + s * left.z,
@@ -107,49 +108,39 @@ fn correct_log(phi: [f64; 3], q: Quat, done: Quat) -> Rotation
 }
 
 // The rotation vector phi of the rotation q, with the logarithm's error taken out: the arc cosine is coarse near 1.
-fn refine_log(phi: [f64; 3], q: Quat) -> Rotation
+fn refine_log(phi: [f64; 3], q: Quat) -> Option<(f64, f64, f64)>
     ensures { result ≡ Motion.refine_log phi q }
 {
-    let turned = geom::exp_so3(phi);
-    match turned {
-        Turned::Outside => Rotation::Outside,
-        Turned::Is(done) => correct_log(phi, q, done),
-    }
+    Some(correct_log(phi, q, geom::exp_so3(phi)?))
 }
 
 // The rotation vector from q0 to qf.
-pub fn rotation_vector(q0: Quat, qf: Quat) -> Rotation
+pub fn rotation_vector(q0: Quat, qf: Quat) -> Option<(f64, f64, f64)>
     ensures { result ≡ Motion.rotation_vector q0 qf }
 {
-    let rotation = geom::rotation_between(q0, qf);
-    match rotation {
-        Rotation::Outside => Rotation::Outside,
-        Rotation::By(x, y, z) => refine_log([x, y, z], q0.conjugate().mul(qf)),
-    }
+    let (x, y, z) = geom::rotation_between(q0, qf)?;
+    refine_log([x, y, z], q0.conjugate().mul(qf))
 }
 
 // The rotation from q0 at the fraction x of the duration.
-fn rotation_at(r: Reference, x: f64) -> Turned
+fn rotation_at(r: Reference, x: f64) -> Option<Quat>
     ensures { result ≡ Motion.rotation_at r x }
 {
-    let phi = r.phi;
-    geom::exp_so3(scale3(phi, shape(x)))
+    geom::exp_so3(scale3(r.phi, shape(x)))
 }
 
 // The rate there: phi s'(x) / T.
 pub fn rate_at(r: Reference, x: f64) -> [f64; 3]
     ensures { result ≡ Motion.rate_at r x }
 {
-    let phi = r.phi;
-    scale3(phi, shape_rate(x) / r.duration)
+    scale3(r.phi, shape_rate(x) / r.duration)
 }
 
 // The rate's derivative there: phi s''(x) / T².
 pub fn acceleration_at(r: Reference, x: f64) -> [f64; 3]
     ensures { result ≡ Motion.acceleration_at r x }
 {
-    let phi = r.phi;
-    scale3(phi, shape_acceleration(x) / (r.duration * r.duration))
+    scale3(r.phi, shape_acceleration(x) / (r.duration * r.duration))
 }
 
 // The vector v, fixed in space, in the axes of a body that was turned by q: Rᵀ v.
@@ -167,12 +158,11 @@ pub fn gram_matrix(axes: &[f64; 36], n: usize) -> [f64; 9]
     ensures { result ≡ Momenta.gram_matrix axes.now n }
 {
     let mut g = [0.0; 9];
-    let mut i: usize = 0;
-    while i < n {
+    for i in 0..n {
         let x = axes[3 * i];
         let y = axes[3 * i + 1];
         let z = axes[3 * i + 2];
-        let next = [
+        g = [
             g[0] + x * x,
             g[1] + x * y,
             g[2] + x * z,
@@ -183,8 +173,6 @@ pub fn gram_matrix(axes: &[f64; 36], n: usize) -> [f64; 9]
             g[7] + z * y,
             g[8] + z * z,
         ];
-        g = next;
-        i += 1;
     }
     g
 }
@@ -195,11 +183,8 @@ fn add_projections(start: [f64; 12], axes: &[f64; 36], n: usize, y: [f64; 3]) ->
     ensures { result ≡ Momenta.add_projections start axes.now n y }
 {
     let mut out = start;
-    let mut i: usize = 0;
-    while i < n {
-        let x = axes[3 * i] * y[0] + axes[3 * i + 1] * y[1] + axes[3 * i + 2] * y[2];
-        out[i] = out[i] + x;
-        i += 1;
+    for i in 0..n {
+        out[i] += axes[3 * i] * y[0] + axes[3 * i + 1] * y[1] + axes[3 * i + 2] * y[2];
     }
     out
 }
@@ -250,9 +235,10 @@ pub fn body_vector(axes: &[f64; 36], n: usize, u: &[f64; 12]) -> [f64; 3]
 pub fn required_momentum(r: Reference, q: Quat, w: [f64; 3]) -> [f64; 3]
     ensures { result ≡ Momenta.required_momentum r q w }
 {
-    let total = r.total;
-    let inertia = r.inertia;
-    sub3(rotate_to_body(q, total), apply_tensor(tensor(inertia), w))
+    sub3(
+        rotate_to_body(q, r.total),
+        apply_tensor(tensor(r.inertia), w),
+    )
 }
 
 // The wheels' momenta after the rotation q at the rate w, where the fraction s of the rotation is done: h₀ - s ν + A⁺ (Rᵀ H₀ - J w - H₀), with ν the null-space part of h₀.
@@ -261,17 +247,12 @@ pub fn momenta_at(r: Reference, q: Quat, w: [f64; 3], s: f64) -> [f64; 12]
     requires { r.count ≤ 12 }
     ensures { result ≡ Momenta.momenta_at r q w s }
 {
-    let start = r.start;
     if !r.wheels {
-        return start;
+        return r.start;
     }
-    let axes = r.axes;
-    let inverse = r.inverse;
-    let total = r.total;
-    let null_momenta = r.null_momenta;
-    let rest = subtract_scaled(start, null_momenta, s);
-    let change = sub3(required_momentum(r, q, w), total);
-    allocate(&axes, r.count, inverse, rest, change)
+    let rest = subtract_scaled(r.start, r.null_momenta, s);
+    let change = sub3(required_momentum(r, q, w), r.total);
+    allocate(&r.axes, r.count, r.inverse, rest, change)
 }
 
 // The sample at the fraction x of the duration.
@@ -281,30 +262,28 @@ pub fn sample_at(r: Reference, x: f64) -> Sample
 {
     let w = rate_at(r, x);
     let a = acceleration_at(r, x);
-    let q0 = r.q0;
-    let start = r.start;
-    let turned = rotation_at(r, x);
-    match turned {
-        Turned::Outside => Sample {
-            fate: Fate::Refused(11, 0),
-            q: q0,
-            rotation: q0,
-            w: w,
-            a: a,
-            h: start,
-        },
-        Turned::Is(rotation) => {
-            let q = q0.mul(rotation);
-            let h = momenta_at(r, rotation, w, shape(x));
-            Sample {
-                fate: Fate::Going,
-                q: q,
-                rotation: rotation,
-                w: w,
-                a: a,
-                h: h,
-            }
-        }
+    let Some(rotation) = rotation_at(r, x) else {
+        let h = r.start;
+        return Sample {
+            fate: Err(Refusal {
+                number: 11,
+                place: 0,
+            }),
+            q: r.q0,
+            rotation: r.q0,
+            w,
+            a,
+            h,
+        };
+    };
+    let h = momenta_at(r, rotation, w, shape(x));
+    Sample {
+        fate: Ok(()),
+        q: r.q0.mul(rotation),
+        rotation,
+        w,
+        a,
+        h,
     }
 }
 
@@ -333,15 +312,10 @@ fn thrusts_at(r: Reference, x: f64) -> [f64; 12]
     requires { r.count ≤ 12 }
     ensures { result ≡ Momenta.thrusts_at r x }
 {
-    let inertia = r.inertia;
-    let none = [0.0; 3];
-    let zeros = [0.0; 12];
-    let axes = r.axes;
-    let inverse = r.inverse;
     let a = acceleration_at(r, x);
     let w = rate_at(r, x);
-    let torque = geom::euler_lhs(tensor(inertia), a, w, none);
-    allocate(&axes, r.count, inverse, zeros, torque)
+    let torque = geom::euler_lhs(tensor(r.inertia), a, w, [0.0; 3]);
+    allocate(&r.axes, r.count, r.inverse, [0.0; 12], torque)
 }
 
 // The controls of step k, from the momenta at its two ends: the wheels' torques, or the thrusters' in the middle of the step.
@@ -349,10 +323,9 @@ pub fn controls(r: Reference, k: usize, a: [f64; 12], b: [f64; 12]) -> [f64; 12]
     requires { (r.count ≤ 12) × ((k ≤ 100000) × (r.steps ≤ 100000)) }
     ensures { result ≡ Momenta.controls r k a b }
 {
-    let steps = r.steps;
     if r.wheels {
-        wheel_torques(a, b, r.duration / to_float(steps))
+        wheel_torques(a, b, r.duration / to_float(r.steps))
     } else {
-        thrusts_at(r, mid_fraction(k, steps))
+        thrusts_at(r, mid_fraction(k, r.steps))
     }
 }

@@ -1,11 +1,10 @@
 -- What each refusal means, in words: a table of sentences, and which of them is told. Definitions only.
-use Rattle.std.specs.Prelude.{ℕ, ◌+◌, ◌-◌, ◌*◌, Bool, false, cond, ◌&&◌, ◌||◌, List, [], ◌∷◌, ◌++◌, eqb, leb, length, drop, get_or}
+use Rattle.std.specs.Prelude.{ℕ, ◌+◌, ◌-◌, ◌*◌, Bool, false, cond, ◌&&◌, ◌||◌, List, [], ◌∷◌, ◌++◌, eqb, leb, length, drop, get_or, Ok, Err}
 use Rattle.common.specs.Iter.{iter}
-use Rattle.common.specs.declared.Fate.{Fate}
-use Rattle.common.specs.declared.Fate.TheVariants.{Going, Refused}
 use Rattle.text.specs.Bytes.{bytes}
 use Rattle.text_writer.specs.Puts.{Puts}
 use Rattle.text_writer.specs.Texts.{digits}
+use Rattle.common.specs.Refusals.{Fate, refusal}
 
 -- A line for each sentence. Before it stand four numbers of two digits: the refusal's; when it was met (00 whenever, 01 before any run, 02 in a run or after it, 03 in a dense sample); the
 -- first place that the sentence is for; and what is taken from the place to be told where the sentence has `#`. Where several lines are for a refusal, the last of them is told.
@@ -110,5 +109,5 @@ explain n place runs sampled = sentence_for table n place (met runs sampled)
 
 -- what a plan's refusal means; of a path nothing
 abbrev pub explain_plan : Fate → ℕ → List ℕ
-explain_plan (Refused n place) runs = explain n place runs false
-explain_plan Going runs = []
+explain_plan (Err why) runs = explain why.number why.place runs false
+explain_plan (Ok _) runs = []

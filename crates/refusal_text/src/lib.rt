@@ -6,7 +6,7 @@ ghost use Rattle.text_writer.specs.Puts.{Puts};
 ghost use Rattle.refusal_text.specs.Sentences as Sentences;
 ghost use Rattle.refusal_text.specs.Sentences.{Tells};
 
-use common::Fate;
+use common::Refusal;
 use text::hex::byte;
 use text_writer::put::{put_all, put_byte, put_digits};
 
@@ -77,13 +77,11 @@ fn number_at(t: &[u8], k: usize) -> usize
 }
 
 // Whether a line begins at k.
+#[tactic(auto, unfolding(crate::specs::Sentences::begins))]
 fn begins(t: &[u8], k: usize) -> bool
     ensures { result ≡ Sentences.begins t.now k }
 {
-    if k == 0 {
-        return true;
-    }
-    byte(t, k - 1) == b'\n'
+    k == 0 || byte(t, k - 1) == b'\n'
 }
 
 // When a refusal was met.
@@ -97,35 +95,29 @@ fn met(runs: usize, sampled: bool) -> usize
 }
 
 // Whether the line at k is for a refusal.
+#[tactic(auto, unfolding(crate::specs::Sentences::serves))]
 fn serves(t: &[u8], n: usize, place: usize, when: usize, k: usize) -> bool
     requires { k < 2 ^ 31 }
     ensures { result ≡ Sentences.serves t.now n place when k }
 {
-    if number_at(t, k) != n {
-        return false;
-    }
-    if place < number_at(t, k + 6) {
+    if number_at(t, k) != n || place < number_at(t, k + 6) {
         return false;
     }
     let asked = number_at(t, k + 3);
-    if asked == 0 {
-        return true;
-    }
-    asked == when
+    asked == 0 || asked == when
 }
 
 // The line at k where it is for a refusal, else the one that was found before it.
+#[tactic(auto, unfolding(crate::specs::Sentences::later))]
 fn later(t: &[u8], n: usize, place: usize, when: usize, k: usize, found: usize) -> usize
     requires { k < 2 ^ 31 }
     ensures { result ≡ Sentences.later t.now n place when k found }
 {
-    if !begins(t, k) {
-        return found;
+    if begins(t, k) && serves(t, n, place, when, k) {
+        k
+    } else {
+        found
     }
-    if serves(t, n, place, when, k) {
-        return k;
-    }
-    found
 }
 
 // Where the last line for a refusal begins.
@@ -134,10 +126,8 @@ fn line_for(t: &[u8], n: usize, place: usize, when: usize) -> usize
     ensures { (result ≡ Sentences.line_for t.now n place when) × (result ≤ length t.now) }
 {
     let mut found: usize = 0;
-    let mut k: usize = 0;
-    while k < t.len() {
+    for k in 0..t.len() {
         found = later(t, n, place, when, k, found);
-        k += 1;
     }
     found
 }
@@ -159,36 +149,25 @@ fn put_line(out: &mut [u8], t: &[u8], from: usize, count: usize) -> usize
     ensures { Tells out.old (Sentences.told count (drop from t.now)) out.new result }
 {
     let mut at: usize = 0;
-    let mut k = from;
-    while k < t.len() {
+    for k in from..t.len() {
         let b = t[k];
         if b == b'\n' {
             return put_byte(out, at, b);
         }
         at = put_marked(out, at, count, b);
-        k += 1;
     }
     at
 }
 
-// How far a place lies above a number.
-fn above(place: usize, least: usize) -> usize
-    ensures { result ≡ place - least }
-{
-    if place < least {
-        return 0;
-    }
-    place - least
-}
-
 // The sentence for a refusal in a table.
+#[tactic(auto, unfolding(crate::specs::Sentences::sentence))]
 fn put_sentence(out: &mut [u8], t: &[u8], n: usize, place: usize, when: usize) -> usize
     requires { length t.now < 2 ^ 16 }
     ensures { Tells out.old (Sentences.sentence_for t.now n place when) out.new result }
 {
     let k = line_for(t, n, place, when);
     let least = number_at(t, k + 9);
-    put_line(out, t, k + 12, above(place, least))
+    put_line(out, t, k + 12, place.saturating_sub(least))
 }
 
 // What a refusal means: what was wrong, with which item, and what to change. `runs` are the forward runs begun; `sampled` is whether a dense sample was refused
@@ -200,12 +179,12 @@ pub fn explain(number: usize, place: usize, runs: usize, sampled: bool, out: &mu
 }
 
 // What a plan's refusal means; of a path nothing.
-pub fn explain_plan(fate: Fate, runs: usize, out: &mut [u8]) -> usize
+pub fn explain_plan(fate: Result<(), Refusal>, runs: usize, out: &mut [u8]) -> usize
     ensures { Puts out.old 0 (Sentences.explain_plan fate runs) 212 out.new result }
 {
     match fate {
-        Fate::Refused(number, place) => explain(number, place, runs, false, out),
-        Fate::Going => 0,
+        Err(refusal) => explain(refusal.number, refusal.place, runs, false, out),
+        Ok(()) => 0,
     }
 }
 

@@ -1,42 +1,32 @@
 // A test program: a letter for each of some starts and replies. `stdout` comes from the minimax of the comparison (oracle/drive/src/region.rs), never from here.
 #![tactic(auto)]
 
-use reach_avoid::{DraughtReply, StartOutcome};
+use reach_avoid::{OutOfRange, StartOutcome};
 use std::io;
 use std::io::Print;
 
 // The first choice as 0 to 4, H home, X held off, O outside.
 fn start(angle: i64, rate: i64) -> u8 {
     match reach_avoid::outcome(angle, rate) {
-        StartOutcome::Home => b'H',
-        StartOutcome::HeldOff => b'X',
-        StartOutcome::Outside => b'O',
-        StartOutcome::Forced(_, u) => if u == -2 {
-            b'0'
-        } else if u == -1 {
-            b'1'
-        } else if u == 0 {
-            b'2'
-        } else if u == 1 {
-            b'3'
-        } else {
-            b'4'
-        },
+        Ok(StartOutcome::Home) => b'H',
+        Ok(StartOutcome::HeldOff) => b'X',
+        Ok(StartOutcome::Forced(_, -2)) => b'0',
+        Ok(StartOutcome::Forced(_, -1)) => b'1',
+        Ok(StartOutcome::Forced(_, 0)) => b'2',
+        Ok(StartOutcome::Forced(_, 1)) => b'3',
+        Ok(StartOutcome::Forced(_, _)) => b'4',
+        Err(OutOfRange) => b'O',
     }
 }
 
 // The reply as a to c, - none, O outside.
 fn reply(angle: i64, rate: i64, left: usize, choice: i64) -> u8 {
     match reach_avoid::reply(angle, rate, left, choice) {
-        DraughtReply::Without => b'-',
-        DraughtReply::Outside => b'O',
-        DraughtReply::With(d) => if d == -1 {
-            b'a'
-        } else if d == 0 {
-            b'b'
-        } else {
-            b'c'
-        },
+        Ok(None) => b'-',
+        Ok(Some(-1)) => b'a',
+        Ok(Some(0)) => b'b',
+        Ok(Some(_)) => b'c',
+        Err(OutOfRange) => b'O',
     }
 }
 

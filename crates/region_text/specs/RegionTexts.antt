@@ -1,5 +1,5 @@
 -- What is printed of the room's game, byte for byte. Definitions only.
-use Rattle.std.specs.Prelude.{ℕ, ◌+◌, ◌*◌, false, List, [], ◌++◌, ℤ, get_or}
+use Rattle.std.specs.Prelude.{ℕ, ◌+◌, ◌*◌, false, List, [], ◌++◌, Option, None, Some, Result, Ok, Err, ℤ, get_or}
 use Rattle.std.proofs.Math.IntN.{sub_ℕ}
 use Rattle.common.specs.Answer.{Answer, Given, Refused}
 use Rattle.text.specs.Bytes.{bytes}
@@ -9,9 +9,8 @@ use Rattle.refusal_text.specs.Sentences.{explain}
 use Rattle.reach_avoid.specs.Answers.{of_start, of_reply}
 use Rattle.reach_avoid.specs.Room.{outcome, reply}
 use Rattle.reach_avoid.specs.declared.StartOutcome.{StartOutcome}
-use Rattle.reach_avoid.specs.declared.StartOutcome.TheVariants as StartOutcome
-use Rattle.reach_avoid.specs.declared.DraughtReply.{DraughtReply}
-use Rattle.reach_avoid.specs.declared.DraughtReply.TheVariants as DraughtReply
+use Rattle.reach_avoid.specs.declared.StartOutcome.TheVariants.{Home, Forced, HeldOff}
+use Rattle.reach_avoid.specs.declared.OutOfRange.{OutOfRange}
 use Rattle.region_text.specs.declared.Printed.{Printed}
 
 -- ---- a start and a reply
@@ -23,16 +22,16 @@ forced n u = counted (bytes "(start\n (turns ") n ++ bytes "\n (choice " ++ whol
 unfoldable pub adds : ℤ → List ℕ
 adds d = bytes "(reply\n (adds " ++ whole d ++ bytes "))\n"
 
-abbrev pub start_form : StartOutcome → List ℕ
-start_form StartOutcome.Home = bytes "(start\n (home))\n"
-start_form (StartOutcome.Forced n u) = forced n u
-start_form StartOutcome.HeldOff = bytes "(start\n (held-off))\n"
-start_form StartOutcome.Outside = []
+abbrev pub start_form : Result StartOutcome OutOfRange → List ℕ
+start_form (Ok Home) = bytes "(start\n (home))\n"
+start_form (Ok (Forced n u)) = forced n u
+start_form (Ok HeldOff) = bytes "(start\n (held-off))\n"
+start_form (Err e) = []
 
-abbrev pub reply_form : DraughtReply → List ℕ
-reply_form (DraughtReply.With d) = adds d
-reply_form DraughtReply.Without = bytes "(reply\n (none))\n"
-reply_form DraughtReply.Outside = []
+abbrev pub reply_form : Result (Option ℤ) OutOfRange → List ℕ
+reply_form (Ok (Some d)) = adds d
+reply_form (Ok None) = bytes "(reply\n (none))\n"
+reply_form (Err e) = []
 
 -- an answer is printed in its form, or as a refusal with its numbers; a refusal's sentence goes to standard error
 abbrev pub printed : {A : Type 0} → Answer A → List ℕ → List ℕ

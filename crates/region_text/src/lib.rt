@@ -9,7 +9,7 @@ ghost use Rattle.refusal_text.specs.Sentences as Sentences;
 ghost use Rattle.region_text.specs.RegionTexts as RegionTexts;
 ghost use Rattle.region_text.specs.RegionTexts.{Prints};
 
-use reach_avoid::{DraughtReply, StartOutcome, outcome, region, reply};
+use reach_avoid::{OutOfRange, StartOutcome, outcome, region, reply};
 use refusal_text::explain;
 use text_writer::forms::put_counted;
 use text_writer::put::{put_all, put_byte, put_digits, put_less};
@@ -58,42 +58,21 @@ fn refuse(out: &mut [u8], said: &mut [u8]) -> Printed
     ensures { Prints (refused 27 0 0) (Sentences.explain 27 0 0 false) out.old said.old result out.new said.new }
 {
     let bytes = write_refused(out, 27, 0, 0);
-    let told = explain(27, 0, 0, false, said);
-    Printed {
-        bytes: bytes,
-        said: told,
-    }
+    let said = explain(27, 0, 0, false, said);
+    Printed { bytes, said }
 }
 
 // What is told of a start.
 pub fn write_start(angle: i64, rate: i64, out: &mut [u8], said: &mut [u8]) -> Printed
     ensures { RegionTexts.PrintsStart angle rate out.old said.old result out.new said.new }
 {
-    let s = outcome(angle, rate);
-    match s {
-        StartOutcome::Home => {
-            let home = put_all(out, 0, b"(start\n (home))\n");
-            Printed {
-                bytes: home,
-                said: 0,
-            }
-        }
-        StartOutcome::Forced(n, u) => {
-            let forced = put_forced(out, n, u);
-            Printed {
-                bytes: forced,
-                said: 0,
-            }
-        }
-        StartOutcome::HeldOff => {
-            let held = put_all(out, 0, b"(start\n (held-off))\n");
-            Printed {
-                bytes: held,
-                said: 0,
-            }
-        }
-        StartOutcome::Outside => refuse(out, said),
-    }
+    let bytes = match outcome(angle, rate) {
+        Ok(StartOutcome::Home) => put_all(out, 0, b"(start\n (home))\n"),
+        Ok(StartOutcome::Forced(n, u)) => put_forced(out, n, u),
+        Ok(StartOutcome::HeldOff) => put_all(out, 0, b"(start\n (held-off))\n"),
+        Err(OutOfRange) => return refuse(out, said),
+    };
+    Printed { bytes, said: 0 }
 }
 
 // What the draught replies.
@@ -107,24 +86,12 @@ pub fn write_reply(
 ) -> Printed
     ensures { RegionTexts.PrintsReply angle rate left choice out.old said.old result out.new said.new }
 {
-    let d = reply(angle, rate, left, choice);
-    match d {
-        DraughtReply::With(x) => {
-            let with = put_with(out, x);
-            Printed {
-                bytes: with,
-                said: 0,
-            }
-        }
-        DraughtReply::Without => {
-            let without = put_all(out, 0, b"(reply\n (none))\n");
-            Printed {
-                bytes: without,
-                said: 0,
-            }
-        }
-        DraughtReply::Outside => refuse(out, said),
-    }
+    let bytes = match reply(angle, rate, left, choice) {
+        Ok(Some(d)) => put_with(out, d),
+        Ok(None) => put_all(out, 0, b"(reply\n (none))\n"),
+        Err(OutOfRange) => return refuse(out, said),
+    };
+    Printed { bytes, said: 0 }
 }
 
 // A blank and the turns of one start.
@@ -142,10 +109,8 @@ fn put_rates(b: &mut [u8], at: usize, t: &[u8; 2193], x: usize) -> usize
     ensures { Puts b.old at (times (RegionTexts.turns_at_value t.now x) 17) 68 b.new result }
 {
     let mut i = at;
-    let mut y: usize = 0;
-    while y < 17 {
+    for y in 0..17 {
         i = put_turns(b, i, t[x * 17 + y]);
-        y += 1;
     }
     i
 }
@@ -167,10 +132,8 @@ fn put_angles(b: &mut [u8], at: usize, t: &[u8; 2193]) -> usize
     ensures { Puts b.old at (times (RegionTexts.angle_line t.now) 129) 12771 b.new result }
 {
     let mut i = at;
-    let mut x: usize = 0;
-    while x < 129 {
+    for x in 0..129 {
         i = put_angle(b, i, t, x);
-        x += 1;
     }
     i
 }

@@ -1,37 +1,32 @@
 // Dense samples and their count beside what is stored. A sample's case: inertia, norm tolerance, duration, 17 nodes of 22 numbers, the count asked for,
 // alpha, the index.
-use cases::read::{at, nine, real, reals22, same14};
+use cases::read::{at, real, reals, same_all};
 use common::SOLVER_NODES;
 use export::sampled::{slew_sample_count, slew_sample_path};
 
 fn nodes(v: &[u64; 1024]) -> [[f64; 22]; SOLVER_NODES] {
-    let mut rows = [[0.0; 22]; 17];
-    let mut k: usize = 0;
-    while k < 17 {
-        let row = reals22(v, 11 + 22 * k);
-        rows[k] = row;
-        k += 1;
+    let mut rows = [[0.0; 22]; SOLVER_NODES];
+    for (k, row) in rows.iter_mut().enumerate() {
+        *row = reals(v, 11 + 22 * k);
     }
     rows
 }
 
 fn sample(v: &[u64; 1024]) -> bool {
-    let requested = at(v, 385) as usize;
-    let index = at(v, 387) as usize;
     let mut x = [0.0; 14];
     let mut place: usize = 0;
     let refused = slew_sample_path(
-        &nine(v, 0),
+        &reals(v, 0),
         real(v, 9),
         real(v, 10),
         &nodes(v),
-        requested,
+        at(v, 385) as usize,
         real(v, 386),
-        index,
+        at(v, 387) as usize,
         &mut x,
         &mut place,
     );
-    at(v, 388) == refused as u64 && at(v, 389) == place as u64 && same14(v, 390, &x)
+    at(v, 388) == refused as u64 && at(v, 389) == place as u64 && same_all(v, 390, &x)
 }
 
 // A refused count is not written: 0 is stored.

@@ -5,97 +5,62 @@
 mod dense_samples;
 mod runs;
 
-use cases::read::Case;
-use cases::tally::Tally;
-use cases::{read, tally};
-use program_io::read_full;
+use cases::tally::{Group, Tally};
+use cases::{blocks, read};
 use std::io;
 
-// Whether the port gives what is stored: the words that go in first, then those that come out.
-fn holds(number: u64, v: &[u64; 1024]) -> bool {
-    if number < 100 {
-        return leaf_cases::holds(number, v);
-    }
-    if number < 200 {
-        return rig_cases::holds(number, v);
-    }
-    if number < 250 {
-        return runs::holds(number, v);
-    }
-    dense_samples::holds(number, v)
-}
+// What is added to the number of a function whose answer is stored wrong on purpose.
+const PLANTED: u64 = 0x1000;
 
 // The group of a function: fifty numbers a group, those of whole plans and systems left out.
-fn group(number: u64) -> u64 {
+fn group(number: u64) -> Group {
     match number {
-        0..=249 => number / 50,
-        350..=399 => 5,
-        _ => 7,
+        0..=49 => Group::Leaves,
+        50..=99 => Group::Shapes,
+        100..=149 => Group::Rigs,
+        150..=199 => Group::Courses,
+        200..=249 => Group::Runs,
+        350..=399 => Group::Samples,
+        _ => Group::Unknown,
     }
 }
 
-// One line more. A line that does not end where its words do is wrong. 0x1000 added to a function's number marks an answer that is stored wrong on purpose.
-fn turn(s: &[u8], c: Case, t: Tally) -> Tally {
+// Whether the port gives what is stored: the words that go in first, then those that come out.
+// A stored function's number is matched where the function is called: an enum between would list the same arms twice, and be no plainer.
+fn holds(group: Group, number: u64, v: &[u64; 1024]) -> bool {
+    match group {
+        Group::Leaves | Group::Shapes => leaf_cases::holds(number, v),
+        Group::Rigs | Group::Courses => rig_cases::holds(number, v),
+        Group::Runs => runs::holds(number, v),
+        Group::Samples => dense_samples::holds(number, v),
+        _ => false,
+    }
+}
+
+// The line at a place, and the tally with it. A line that does not end where its words do is wrong.
+fn run_line(s: &[u8], at: usize, t: Tally) -> Tally {
+    let c = read::head(s, at);
     let mut words = [0u64; 1024];
     let n = read::words(s, c.next, c.count, &mut words);
-    let number = c.number % 0x1000;
+    let number = c.number % PLANTED;
+    let group = group(number);
     let whole = read::stands_before(s, n, b'\n');
-    let same = holds(number, &words);
-    if c.number < 0x1000 {
-        return t.with(group(number), whole && same, n);
+    let same = holds(group, number, &words);
+    if c.number < PLANTED {
+        return t.with(group, whole && same, n);
     }
-    t.with_planted(whole && group(number) < 7 && !same, n)
+    t.with_planted(whole && group != Group::Unknown && !same, n)
 }
 
 // The line at the tally's place, if there is one; an empty line is passed over.
 fn line(s: &[u8], t: Tally) -> Tally {
-    let at = t.at;
-    if at >= s.len() {
-        return t;
+    match s.get(t.at) {
+        None => t,
+        Some(b'\n') => t.from(t.at + 1),
+        Some(_) => run_line(s, t.at, t),
     }
-    if s[at] == b'\n' {
-        return t.from(at + 1);
-    }
-    turn(s, read::head(s, at), t)
-}
-
-// Every line of a block: no more than it has bytes.
-fn run(s: &[u8], start: Tally) -> Tally {
-    let mut t = start;
-    let mut k: usize = 0;
-    while k < 65536 {
-        t = line(s, t);
-        k += 1;
-    }
-    t
-}
-
-// The next block of the input.
-fn block(rt: &HostRuntime, t: Tally) -> io::Result<Tally> {
-    let mut space = [0u8; 65536];
-    let n = read_full(rt, &mut space)?;
-    Ok(run(&space[..n], t.from(0)))
-}
-
-// All groups' lines, and the last.
-fn print(rt: &HostRuntime, t: Tally) -> io::Result<()> {
-    let c = t.cases;
-    let w = t.wrong;
-    tally::print_group(rt, b"whole root, floats, angles: ", c[0], w[0])?;
-    tally::print_group(rt, b"attitudes, vectors, tensors: ", c[1], w[1])?;
-    tally::print_group(rt, b"actuators, control rows: ", c[2], w[2])?;
-    tally::print_group(rt, b"profile and seed: ", c[3], w[3])?;
-    tally::print_group(rt, b"forward runs, residuals: ", c[4], w[4])?;
-    tally::print_group(rt, b"dense samples: ", c[5], w[5])?;
-    tally::print_total(rt, t)
 }
 
 fn main(rt: HostRuntime) -> io::Result<()> {
-    let mut t = tally::none();
-    let mut k: usize = 0;
-    while k < 64 {
-        t = block(&rt, t)?;
-        k += 1;
-    }
-    print(&rt, t)
+    blocks::run(&rt, line)
 }

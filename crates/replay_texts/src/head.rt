@@ -1,5 +1,5 @@
 // The head of a stored text: what is asked of it, how many words go with it, and where its parts stand in the block.
-ghost use Rattle.std.specs.Prelude.{◌≤◌, length};
+ghost use Rattle.std.specs.Prelude.{◌≤◌, length, IfSome};
 ghost use Rattle.replay_texts.specs.Heads as Heads;
 
 use cases::read::{Word, stands_before, word_at, words};
@@ -11,98 +11,81 @@ pub struct Head {
     pub text: usize,
     pub answer: usize,
     pub end: usize,
-    pub whole: bool,
 }
 
-// No head: a byte is missing, or another stands there.
-fn wrong() -> Head
-    ensures { Heads.Ordered 0 result }
-{
-    Head {
-        kind: 0,
-        words: 0,
-        text: 0,
-        answer: 0,
-        end: 0,
-        whole: false,
+// What a head's line says: what is asked, how many bytes of the text, words and bytes of the answer there are; and where the line ends.
+#[derive(Clone, Copy)]
+struct HeadLine {
+    kind: u64,
+    text: u64,
+    words: u64,
+    answer: u64,
+    end: usize,
+}
+
+// The word at a position, if b ends it.
+fn word_before(s: &[u8], at: usize, b: u8) -> Option<Word> {
+    let w = word_at(s, at);
+    if !w.going && stands_before(s, w.next, b) {
+        Some(w)
+    } else {
+        None
     }
+}
+
+// The head's line at a position, if it is whole.
+fn line(s: &[u8], at: usize) -> Option<HeadLine> {
+    let kind = word_before(s, at, b' ')?;
+    let text = word_before(s, kind.next, b' ')?;
+    let words = word_before(s, text.next, b' ')?;
+    let answer = word_before(s, words.next, b'\n')?;
+    Some(HeadLine {
+        kind: kind.value,
+        text: text.value,
+        words: words.value,
+        answer: answer.value,
+        end: answer.next,
+    })
 }
 
 // A length or a place, at most a block's size: a case that reaches there does not end within its block.
 fn within_block(n: u64) -> usize
     ensures { result ≤ 65536 }
 {
-    if n < 65536 { n as usize } else { 65536 }
+    n.min(65536) as usize
 }
 
-// The parts of a case whose text starts at `text`: t bytes, then a of the answer, then a line feed.
-fn parts(s: &[u8], kind: u64, words: usize, text: usize, t: u64, a: u64) -> Head
-    requires { words ≤ 1000 }
-    ensures { Heads.Ordered (length s.now) result }
+// The parts of a case whose text starts at `text`, if a line feed stands behind its answer.
+fn parts(s: &[u8], line: HeadLine, text: usize) -> Option<Head>
+    requires { line.words ≤ 1000 }
+    ensures { IfSome result (Heads.Ordered (length s.now)) }
 {
     let text = within_block(text as u64);
-    let answer = text + within_block(t);
-    let end = answer + within_block(a);
-    if end >= s.len() {
-        return wrong();
+    let answer = text + within_block(line.text);
+    let end = answer + within_block(line.answer);
+    if end >= s.len() || s[end] != b'\n' {
+        return None;
     }
-    Head {
-        kind: kind,
-        words: words,
-        text: text,
-        answer: answer,
-        end: end,
-        whole: s[end] == b'\n',
-    }
+    Some(Head {
+        kind: line.kind,
+        words: line.words as usize,
+        text,
+        answer,
+        end,
+    })
 }
 
-// The head whose line ends at `line`, with its words, which are read into v. The line of no words is there, and empty.
-fn with_words(
-    s: &[u8],
-    kind: u64,
-    count: u64,
-    line: usize,
-    t: u64,
-    a: u64,
-    v: &mut [u64; 1024],
-) -> Head
-    ensures { Heads.Ordered (length s.now) result }
+// The head at a position, if it is whole, and its words, which are read into v. The line of no words is there, and empty.
+pub fn read(s: &[u8], at: usize, v: &mut [u64; 1024]) -> Option<Head>
+    ensures { IfSome result (Heads.Ordered (length s.now)) }
 {
-    if count > 1000 {
-        return wrong();
+    let line = line(s, at)?;
+    if line.words > 1000 {
+        return None;
     }
-    let read = if count == 0 { 1 } else { count };
-    let text = words(s, line, read, v);
+    let text = words(s, line.end, line.words.max(1), v);
     if !stands_before(s, text, b'\n') {
-        return wrong();
+        return None;
     }
-    parts(s, kind, count as usize, text, t, a)
-}
-
-// Whether a word has ended in b.
-fn ends_in(s: &[u8], w: Word, b: u8) -> bool {
-    !w.going && stands_before(s, w.next, b)
-}
-
-// The head at a position, and its words.
-pub fn read(s: &[u8], at: usize, v: &mut [u64; 1024]) -> Head
-    ensures { Heads.Ordered (length s.now) result }
-{
-    let kind = word_at(s, at);
-    let text = word_at(s, kind.next);
-    let count = word_at(s, text.next);
-    let answer = word_at(s, count.next);
-    let spaced = ends_in(s, kind, b' ') && ends_in(s, text, b' ') && ends_in(s, count, b' ');
-    if !spaced || !ends_in(s, answer, b'\n') {
-        return wrong();
-    }
-    with_words(
-        s,
-        kind.value,
-        count.value,
-        answer.next,
-        text.value,
-        answer.value,
-        v,
-    )
+    parts(s, line, text)
 }

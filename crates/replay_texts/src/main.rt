@@ -5,90 +5,47 @@
 mod answers;
 mod head;
 
-ghost use Rattle.std.specs.Prelude.{length};
-ghost use Rattle.replay_texts.specs.Heads as Heads;
-
-use cases::tally;
-use cases::tally::Tally;
-use head::Head;
-use program_io::read_full;
+use cases::blocks;
+use cases::tally::{Group, Tally};
 use std::io;
 
+// What is added to the kind of a case whose answer is stored wrong on purpose.
+const PLANTED: u64 = 16;
+
 // The group of what is asked.
-fn group(kind: u64) -> u64 {
+fn group(kind: u64) -> Group {
     match kind {
-        1..=3 => kind - 1,
-        _ => 7,
+        1 => Group::Planned,
+        2 => Group::Seeded,
+        3 => Group::Sampled,
+        _ => Group::Unknown,
     }
 }
 
-// A case with its head h and its words v. After a head that is wrong nothing of the block can be read: it counts as a case that differs. 16 added to a kind
-// marks an answer that is stored wrong on purpose.
-fn run_case(s: &[u8], h: Head, v: &[u64; 1024], t: Tally) -> Tally
-    requires { Heads.Ordered (length s.now) h }
-{
-    if !h.whole {
-        return t.with(7, false, s.len());
+// The case at a place, and the tally with it. After a head that is wrong nothing of the block can be read: it counts as a case that differs.
+fn run_case(s: &[u8], at: usize, t: Tally) -> Tally {
+    let mut words = [0u64; 1024];
+    let Some(h) = head::read(s, at, &mut words) else {
+        return t.with(Group::Unknown, false, s.len());
+    };
+    let group = group(h.kind % PLANTED);
+    let text = &s[h.text..h.answer];
+    let same = answers::holds(group, text, &words, h.words, &s[h.answer..h.end]);
+    if h.kind < PLANTED {
+        return t.with(group, same, h.end);
     }
-    let text = h.text;
-    let answer = h.answer;
-    let end = h.end;
-    let kind = h.kind % 16;
-    let same = answers::holds(kind, &s[text..answer], v, h.words, &s[answer..end]);
-    if h.kind < 16 {
-        return t.with(group(kind), same, end);
-    }
-    t.with_planted(group(kind) < 7 && !same, end)
+    t.with_planted(group != Group::Unknown && !same, h.end)
 }
 
 // The case at the tally's place, if there is one; a line feed is passed over.
 fn case(s: &[u8], t: Tally) -> Tally {
-    let at = t.at;
-    if at >= s.len() {
-        return t;
+    match s.get(t.at) {
+        None => t,
+        Some(b'\n') => t.from(t.at + 1),
+        Some(_) => run_case(s, t.at, t),
     }
-    if s[at] == b'\n' {
-        return t.from(at + 1);
-    }
-    let mut words = [0u64; 1024];
-    let h = head::read(s, at, &mut words);
-    run_case(s, h, &words, t)
-}
-
-// Every case of a block: no more than it has bytes.
-fn run(s: &[u8], start: Tally) -> Tally {
-    let mut t = start;
-    let mut k: usize = 0;
-    while k < 65536 {
-        t = case(s, t);
-        k += 1;
-    }
-    t
-}
-
-// The next block of the input.
-fn block(rt: &HostRuntime, t: Tally) -> io::Result<Tally> {
-    let mut space = [0u8; 65536];
-    let n = read_full(rt, &mut space)?;
-    Ok(run(&space[..n], t.from(0)))
-}
-
-// All groups' lines, and the last.
-fn print(rt: &HostRuntime, t: Tally) -> io::Result<()> {
-    let c = t.cases;
-    let w = t.wrong;
-    tally::print_group(rt, b"texts planned: ", c[0], w[0])?;
-    tally::print_group(rt, b"texts planned from a seed: ", c[1], w[1])?;
-    tally::print_group(rt, b"texts sampled: ", c[2], w[2])?;
-    tally::print_total(rt, t)
 }
 
 fn main(rt: HostRuntime) -> io::Result<()> {
-    let mut t = tally::none();
-    let mut k: usize = 0;
-    while k < 64 {
-        t = block(&rt, t)?;
-        k += 1;
-    }
-    print(&rt, t)
+    blocks::run(&rt, case)
 }

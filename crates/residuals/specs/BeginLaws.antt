@@ -1,9 +1,7 @@
 -- One step more of what is known after a run's first steps, and the residuals of a run into rows. Assumes nothing.
-use Rattle.std.specs.Prelude.{ℕ, ◌+◌, ◌-◌, ◌≤◌, ◌<◌, ◌≡◌, refl, List, [], length, set, Float}
+use Rattle.std.specs.Prelude.{ℕ, ◌+◌, ◌-◌, ◌≤◌, ◌<◌, ◌≡◌, refl, List, [], length, set, Float, Err}
 use Rattle.std.proofs.Common.{sym, ◌∙◌, arith, get_or-set_same, get_or-set_other, below_more}
 use Rattle.std.proofs.Math.Path.{ap}
-use Rattle.common.specs.declared.Fate.{Fate}
-use Rattle.common.specs.declared.Fate.TheVariants.{Going, Refused}
 use Rattle.geom.specs.declared.Quat.{Quat}
 use Rattle.problem.specs.declared.CheckedProblem.{CheckedProblem}
 use Rattle.forward.specs.Runs.{run_of}
@@ -17,6 +15,7 @@ use Rattle.forward.specs.Runs.{node_at}
 use Rattle.residuals.specs.Sums.{energy_of, energy_turn, smooth_of, smooth_turn}
 use Rattle.residuals.specs.Residuals.{error_of, refused_residuals, of_nodes, of_run, target_of, residuals_of}
 use Rattle.residuals.specs.Begins.{error_in, ErrorsKept}
+use Rattle.common.specs.Refusals.{refusal, going}
 
 module _ (v : List (List Float)) (dt : Float) where
   pub energy_turns : (k : ℕ) (e : Float) → k < length v → energy_of (node_from (row_at v k)) dt e ≡ energy_turn (nodes_from v) dt k e
@@ -40,10 +39,10 @@ errors_next qf ns k errors e h q o =
 
 -- ---- the residuals of a run into rows
 module _ (p : CheckedProblem) (z : List Float) (w : Went) (v : List (List Float)) (e : told w v ≡ run_of p z) where
-  pub told_refused : {n place : ℕ} → w.fate ≡ Refused n place → refused_residuals n place ≡ residuals_of p z
+  pub told_refused : {n place : ℕ} → w.fate ≡ Err (refusal n place) → refused_residuals n place ≡ residuals_of p z
   unfolding residuals_of of_run told
   told_refused f = ap (λ (x : Run). of_run (target_of p) z x) (rw f at e)
 
-  pub told_going : w.fate ≡ Going → of_nodes (target_of p) z (nodes_from v) ≡ residuals_of p z
+  pub told_going : w.fate ≡ going → of_nodes (target_of p) z (nodes_from v) ≡ residuals_of p z
   unfolding residuals_of of_run told
   told_going f = ap (λ (x : Run). of_run (target_of p) z x) (rw f at e)

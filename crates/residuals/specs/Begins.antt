@@ -1,14 +1,10 @@
 -- What is known of a run's residuals after its first steps. Definitions only.
-use Rattle.std.specs.Prelude.{ℕ, ◌+◌, ◌-◌, ◌*◌, ◌≤◌, ◌<◌, ◌≡◌, true, List, length, Float}
+use Rattle.std.specs.Prelude.{ℕ, ◌+◌, ◌-◌, ◌*◌, ◌≤◌, ◌<◌, ◌≡◌, true, List, length, Float, Option, Some, Ok, Err}
 use Rattle.std.specs.Float.Ieee.{lt}
 use Rattle.common.specs.Floats as Floats
 use Rattle.common.specs.Lists.{at}
-use Rattle.common.specs.declared.Fate.{Fate}
-use Rattle.common.specs.declared.Fate.TheVariants.{Going, Refused}
 use Rattle.geom.specs.Vec as Vec
 use Rattle.geom.specs.declared.Quat.{Quat}
-use Rattle.geom.specs.declared.Rotation.{Rotation}
-use Rattle.geom.specs.declared.Rotation.TheVariants as Rotation
 use Rattle.forward.specs.Rows.{nodes_from, row_at}
 use Rattle.forward.specs.declared.Node.{Node}
 use Rattle.forward.specs.Runs.{node_at}
@@ -17,10 +13,11 @@ use Rattle.residuals.specs.Residuals.{error_of, pointing, refused_residuals}
 use Rattle.residuals.specs.declared.Begun.{Begun}
 use Rattle.residuals.specs.declared.Target.{Target}
 use Rattle.residuals.specs.declared.ResidualVector.{ResidualVector}
+use Rattle.common.specs.Refusals.{Fate}
 
 -- a pointing error that is kept as three numbers
-abbrev pub error_in : List Float → Rotation
-error_in e = Rotation.By (at e 0) (at e 1) (at e 2)
+abbrev pub error_in : List Float → Option (Float × Float × Float)
+error_in e = Some (at e 0, at e 1, at e 2)
 
 -- the errors of the first k nodes are kept
 abbrev pub ErrorsKept : Quat → List Node → ℕ → List (List Float) → Type 0
@@ -58,5 +55,5 @@ pub record Fits (t : Target) (z : List Float) : Type 0 where
 
 -- pointing rows, by how they ended
 abbrev pub rows_by : Fate → List Float → ResidualVector
-rows_by Going r = pointing r
-rows_by (Refused n place) r = refused_residuals n place
+rows_by (Ok _) r = pointing r
+rows_by (Err why) r = refused_residuals why.number why.place

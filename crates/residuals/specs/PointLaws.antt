@@ -1,15 +1,11 @@
 -- The loop over the pointing rows: one node's turn, the early way out, and the residuals after it. Assumes nothing.
-use Rattle.std.specs.Prelude.{ℕ, ◌+◌, ◌≤◌, ◌<◌, ◌≡◌, List, Float}
+use Rattle.std.specs.Prelude.{ℕ, ◌+◌, ◌≤◌, ◌<◌, ◌≡◌, List, Float, Option}
 use Rattle.std.proofs.Math.Path.{refl, ap}
 use Rattle.std.proofs.Common.{arith}
 use Rattle.common.specs.Iter.{iter}
 use Rattle.common.specs.IterLaws.{iter_next, iter_stays}
-use Rattle.common.specs.declared.Fate.{Fate}
-use Rattle.common.specs.declared.Fate.TheVariants.{Going, Refused}
 use Rattle.geom.specs.Vec as Vec
 use Rattle.geom.specs.declared.Quat.{Quat}
-use Rattle.geom.specs.declared.Rotation.{Rotation}
-use Rattle.geom.specs.declared.Rotation.TheVariants as Rotation
 use Rattle.forward.specs.declared.Node.{Node}
 use Rattle.forward.specs.Runs.{node_at}
 use Rattle.residuals.specs.Residuals as Residuals
@@ -48,4 +44,4 @@ module _ (t : Target) (z : List Float) (ns : List Node) (r : List Float) where
       → Residuals.pointing (Residuals.closing t z ns 74 (Residuals.put3 out 71 (Vec.scale3 error scale))) ≡ Residuals.with_pointing t z ns r
   unfolding Residuals.with_pointing Residuals.pointed
   with_going out error p e =
-      ap (λ (x : ResidualVector). Residuals.close_by x.fate t z ns x) (rows_next scale ns t.qf r 16 out p (ap (λ (x : Rotation). Residuals.point_by x scale 16 out) e))
+      ap (λ (x : ResidualVector). Residuals.close_by x.fate t z ns x) (rows_next scale ns t.qf r 16 out p (ap (λ (x : Option (Float × Float × Float)). Residuals.point_by x scale 16 out) e))

@@ -1,18 +1,14 @@
 -- The residuals of a decision, term by term in the order of scvx.rs. Definitions only.
-use Rattle.std.specs.Prelude.{ℕ, ◌+◌, ◌*◌, Bool, cond, List, [], ◌∷◌, set, replicate, Float}
+use Rattle.std.specs.Prelude.{ℕ, ◌+◌, ◌*◌, Bool, cond, List, [], ◌∷◌, set, replicate, Float, Option, Some, None, Ok, Err}
 use Rattle.std.specs.Float.{binary64}
 use Rattle.std.specs.Float.Ieee.{mul, div, lt, of_bits}
 use Rattle.common.specs.Floats as Floats
 use Rattle.common.specs.Iter.{iter}
 use Rattle.common.specs.Lists.{at}
-use Rattle.common.specs.declared.Fate.{Fate}
-use Rattle.common.specs.declared.Fate.TheVariants.{Going, Refused}
 use Rattle.float.specs.Sqrt.{sqrt}
 use Rattle.geom.specs.Vec as Vec
 use Rattle.geom.specs.Quats.{rotation_between}
 use Rattle.geom.specs.declared.Quat.{Quat}
-use Rattle.geom.specs.declared.Rotation.{Rotation}
-use Rattle.geom.specs.declared.Rotation.TheVariants as Rotation
 use Rattle.actuators.specs.Maps.{control_dim}
 use Rattle.problem.specs.declared.Weights.{Weights}
 use Rattle.problem.specs.declared.CheckedProblem.{CheckedProblem}
@@ -24,9 +20,10 @@ use Rattle.forward.specs.Runs.{node_at}
 use Rattle.residuals.specs.Sums.{norm_slice, effort, energy, smooth}
 use Rattle.residuals.specs.declared.Target.{Target}
 use Rattle.residuals.specs.declared.ResidualVector.{ResidualVector}
+use Rattle.common.specs.Refusals.{Fate, refusal, going}
 
 -- the turn that is left from the attitude q to qf
-abbrev pub error_of : Quat → Quat → Rotation
+abbrev pub error_of : Quat → Quat → Option (Float × Float × Float)
 error_of q qf = rotation_between q qf
 
 -- ---- the residuals stand in a list of 79, whose numbers past the count are +0
@@ -37,7 +34,7 @@ put3 r i v = set (set (set r i (at v 0)) (i + 1) (at v 1)) (i + 2) (at v 2)
 
 -- an 11 in a residual has place 0; a refused run's number and place are handed on
 abbrev pub refused_residuals : ℕ → ℕ → ResidualVector
-refused_residuals n place = record { fate = Refused n place; count = 0; r = replicate 79 Floats.plus_zero }
+refused_residuals n place = record { fate = Err (refusal n place); count = 0; r = replicate 79 Floats.plus_zero }
 
 -- 400.0
 abbrev pub end_scale : Float
@@ -77,17 +74,17 @@ closing t z ns i r =
 
 -- residuals so far, with a pointing weight
 abbrev pub pointing : List Float → ResidualVector
-pointing r = record { fate = Going; count = 79; r = r }
+pointing r = record { fate = going; count = 79; r = r }
 
 -- Node k's rows with a pointing weight: its keep-out row at 6 + 4k, which stays +0.0, and its pointing error after it, scaled.
-abbrev pub point_by : Rotation → Float → ℕ → List Float → ResidualVector
-point_by Rotation.Outside scale k r = refused_residuals 11 0
-point_by (Rotation.By x y z) scale k r = pointing (put3 r (7 + 4 * k) (Vec.scale3 (x ∷ y ∷ z ∷ []) scale))
+abbrev pub point_by : Option (Float × Float × Float) → Float → ℕ → List Float → ResidualVector
+point_by None scale k r = refused_residuals 11 0
+point_by (Some (x, y, z)) scale k r = pointing (put3 r (7 + 4 * k) (Vec.scale3 (x ∷ y ∷ z ∷ []) scale))
 
 -- a refused logarithm ends the rows
 abbrev pub point_turn_by : Fate → Float → List Node → Quat → ℕ → ResidualVector → ResidualVector
-point_turn_by (Refused n i) scale ns qf k e = e
-point_turn_by Going scale ns qf k e = point_by (error_of (node_at ns k).q qf) scale k e.r
+point_turn_by (Err why) scale ns qf k e = e
+point_turn_by (Ok _) scale ns qf k e = point_by (error_of (node_at ns k).q qf) scale k e.r
 
 unfoldable pub point_turn : Float → List Node → Quat → ℕ → ResidualVector → ResidualVector
 point_turn scale ns qf k e = point_turn_by e.fate scale ns qf k e
@@ -97,8 +94,8 @@ unfoldable pub pointed : Float → List Node → Quat → List Float → Residua
 pointed scale ns qf r = iter (point_turn scale ns qf) (pointing r) 17
 
 abbrev pub close_by : Fate → Target → List Float → List Node → ResidualVector → ResidualVector
-close_by (Refused n i) t z ns e = e
-close_by Going t z ns e = pointing (closing t z ns 74 e.r)
+close_by (Err why) t z ns e = e
+close_by (Ok _) t z ns e = pointing (closing t z ns 74 e.r)
 
 -- 17.0
 abbrev pub seventeen : Float
@@ -113,13 +110,13 @@ with_pointing t z ns r = close_by (pointed (point_scale t.weights) ns t.qf r).fa
 
 -- without a pointing weight each node has its keep-out row alone, at 6 + k
 unfoldable pub without_pointing : Target → List Float → List Node → List Float → ResidualVector
-without_pointing t z ns r = record { fate = Going; count = 28; r = closing t z ns 23 r }
+without_pointing t z ns r = record { fate = going; count = 28; r = closing t z ns 23 r }
 
 -- ---- the residuals of a run
 
-abbrev pub error_by : Rotation → Target → List Float → List Node → ResidualVector
-error_by Rotation.Outside t z ns = refused_residuals 11 0
-error_by (Rotation.By a b c) t z ns =
+abbrev pub error_by : Option (Float × Float × Float) → Target → List Float → List Node → ResidualVector
+error_by None t z ns = refused_residuals 11 0
+error_by (Some (a, b, c)) t z ns =
     cond (lt Floats.plus_zero t.weights.pointing)
     (with_pointing t z ns (ends (a ∷ b ∷ c ∷ []) (node_at ns 16).w))
     (without_pointing t z ns (ends (a ∷ b ∷ c ∷ []) (node_at ns 16).w))
@@ -128,8 +125,8 @@ unfoldable pub of_nodes : Target → List Float → List Node → ResidualVector
 of_nodes t z ns = error_by (error_of (node_at ns 16).q t.qf) t z ns
 
 abbrev pub of_run_by : Fate → Target → List Float → List Node → ResidualVector
-of_run_by (Refused n place) t z ns = refused_residuals n place
-of_run_by Going t z ns = of_nodes t z ns
+of_run_by (Err why) t z ns = refused_residuals why.number why.place
+of_run_by (Ok _) t z ns = of_nodes t z ns
 
 unfoldable pub of_run : Target → List Float → Run → ResidualVector
 of_run t z run = of_run_by run.fate t z run.nodes

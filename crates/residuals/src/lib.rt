@@ -5,7 +5,7 @@
 ghost use Rattle.std.specs.Prelude.{◌≡◌};
 ghost use Rattle.residuals.specs.MeasuredResiduals as MeasuredResiduals;
 
-use common::{Decision, Fate, ResidualNumbers};
+use common::{Decision, Refusal, ResidualNumbers};
 use forward::admit;
 use geom::Quat;
 use problem::{Problem, Weights};
@@ -25,7 +25,7 @@ pub struct Target {
 // Residuals: the first `count` numbers of r; none where the run or a logarithm is refused.
 #[derive(Clone, Copy)]
 pub struct ResidualVector {
-    pub fate: Fate,
+    pub fate: Result<(), Refusal>,
     pub count: usize,
     pub r: ResidualNumbers,
 }
@@ -51,11 +51,11 @@ pub fn residuals(p: Problem, z: Decision) -> Measured
     let checked = admit(p);
     let fate = checked.fate;
     match fate {
-        Fate::Refused(number, place) => Measured {
+        Err(refusal) => Measured {
             runs: 0,
-            residuals: terms::refused_residuals(number, place),
+            residuals: terms::refused_residuals(refusal.number, refusal.place),
         },
-        Fate::Going => {
+        Ok(()) => {
             let problem = checked.problem;
             Measured {
                 runs: 1,

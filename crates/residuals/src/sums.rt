@@ -16,10 +16,8 @@ pub fn norm_slice(r: &[f64], n: usize) -> f64
     ensures { result ≡ Sums.norm_slice r.now n }
 {
     let mut sum = 0.0;
-    let mut k: usize = 0;
-    while k < n {
-        sum = sum + r[k] * r[k];
-        k += 1;
+    for k in 0..n {
+        sum += r[k] * r[k];
     }
     sqrt(sum)
 }
@@ -30,11 +28,9 @@ pub fn effort(z: &[f64], n: usize) -> f64
     ensures { result ≡ Sums.effort z.now n }
 {
     let mut sum = 0.0;
-    let mut k: usize = 0;
-    while k < n {
+    for k in 0..n {
         let x = z[k + 1];
-        sum = sum + x * x;
-        k += 1;
+        sum += x * x;
     }
     sum
 }
@@ -54,10 +50,8 @@ pub fn energy(nodes: &[[f64; 22]; SOLVER_NODES], dt: f64, k: usize, e: f64) -> f
     ensures { result ≡ Sums.energy (nodes_from nodes.now) dt }
 {
     let mut sum = e;
-    let mut i: usize = k;
-    while i < STEPS {
+    for i in k..STEPS {
         sum = energy_turn(nodes[i], dt, sum);
-        i += 1;
     }
     sum
 }
@@ -78,10 +72,8 @@ pub fn smooth(nodes: &[[f64; 22]; SOLVER_NODES], dt: f64, k: usize, e: f64) -> f
     ensures { result ≡ Sums.smooth (nodes_from nodes.now) dt }
 {
     let mut sum = e;
-    let mut i: usize = k;
-    while i < STEPS {
+    for i in k..STEPS {
         sum = smooth_turn(nodes[i], nodes[i + 1], dt, sum);
-        i += 1;
     }
     sum
 }

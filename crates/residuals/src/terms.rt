@@ -12,12 +12,12 @@ ghost use Rattle.residuals.specs.Residuals as Residuals;
 
 use super::sums::{effort, energy, norm_slice, smooth};
 use super::{Begun, ResidualVector, Target};
-use common::{Decision, Fate, RESIDUAL_NUMBERS, ResidualNumbers, SOLVER_NODES, STEPS};
+use common::{Decision, RESIDUAL_NUMBERS, Refusal, ResidualNumbers, SOLVER_NODES, STEPS};
 use control_rows::WheelLaw;
 use float::sqrt;
 use forward::rows::{attitude_in, momenta_in, rate_in};
 use forward::runs::run_into;
-use geom::{Quat, Rotation};
+use geom::Quat;
 use problem::CheckedProblem;
 
 // Residuals that are refused.
@@ -26,7 +26,7 @@ pub fn refused_residuals(number: usize, place: usize) -> ResidualVector
 {
     let r = [0.0; RESIDUAL_NUMBERS];
     ResidualVector {
-        fate: Fate::Refused(number, place),
+        fate: Err(Refusal { number, place }),
         count: 0,
         r: r,
     }
@@ -103,7 +103,7 @@ fn closing(
 }
 
 // The turn that is left from the attitude in a row to qf.
-pub fn error_in(row: [f64; 22], qf: Quat) -> Rotation
+pub fn error_in(row: [f64; 22], qf: Quat) -> Option<(f64, f64, f64)>
     ensures { result ≡ Residuals.error_of (node_from row).q qf }
 {
     let q = attitude_in(row);
@@ -124,8 +124,8 @@ pub fn keep_error(
     if weights.pointing > 0.0 {
         let error = error_in(nodes[k], t.qf);
         match error {
-            Rotation::Outside => return false,
-            Rotation::By(x, y, z) => {
+            None => return false,
+            Some((x, y, z)) => {
                 let e = [x, y, z];
                 errors[k] = e;
                 return true;
@@ -142,26 +142,34 @@ fn error_at(
     k: usize,
     errors: &[[f64; 3]; 16],
     j: usize,
-) -> Rotation
+) -> Option<(f64, f64, f64)>
     requires { (j < 16) × ((length nodes.now ≡ 17) × ErrorsKept qf (nodes_from nodes.now) k errors.now) }
     ensures { result ≡ Residuals.error_of (node_at (nodes_from nodes.now) j).q qf }
 {
     if j < k {
-        return Rotation::By(errors[j][0], errors[j][1], errors[j][2]);
+        return Some((errors[j][0], errors[j][1], errors[j][2]));
     }
     error_in(nodes[j], qf)
 }
 
 // Node j's pointing error, scaled, into its three rows.
-fn point(error: Rotation, scale: f64, j: usize, r: &mut ResidualNumbers) -> Fate
+fn point(
+    error: Option<(f64, f64, f64)>,
+    scale: f64,
+    j: usize,
+    r: &mut ResidualNumbers,
+) -> Result<(), Refusal>
     requires { j < 17 }
     ensures { rows_by result r.new ≡ Residuals.point_by error scale j r.old }
 {
     match error {
-        Rotation::Outside => Fate::Refused(11, 0),
-        Rotation::By(x, y, z) => {
+        None => Err(Refusal {
+            number: 11,
+            place: 0,
+        }),
+        Some((x, y, z)) => {
             put3(r, 7 + 4 * j, geom::scale3([x, y, z], scale));
-            Fate::Going
+            Ok(())
         }
     }
 }
@@ -174,20 +182,14 @@ fn pointed(
     k: usize,
     errors: &[[f64; 3]; 16],
     r: &mut ResidualNumbers,
-) -> Fate
+) -> Result<(), Refusal>
     requires { (length nodes.now ≡ 17) × ErrorsKept qf (nodes_from nodes.now) k errors.now }
     ensures { Rows scale (nodes_from nodes.now) qf r.old (rows_by result r.new) 16 }
 {
-    let mut j: usize = 0;
-    while j < STEPS {
-        let fate = point(error_at(nodes, qf, k, errors, j), scale, j, r);
-        match fate {
-            Fate::Refused(_, _) => return fate,
-            Fate::Going => {}
-        }
-        j += 1;
+    for j in 0..STEPS {
+        point(error_at(nodes, qf, k, errors, j), scale, j, r)?;
     }
-    Fate::Going
+    Ok(())
 }
 
 // Residuals with a pointing weight above 0: 79. The error is that of the last node.
@@ -210,13 +212,13 @@ fn with_pointing(
     let mut out = r;
     let fate = pointed(scale, nodes, qf, k, errors, &mut out);
     match fate {
-        Fate::Refused(number, place) => return refused_residuals(number, place),
-        Fate::Going => {}
+        Err(refusal) => return refused_residuals(refusal.number, refusal.place),
+        Ok(()) => {}
     }
     put3(&mut out, 71, geom::scale3(error, scale));
     closing(t, z, nodes, k, s, 74, &mut out);
     ResidualVector {
-        fate: Fate::Going,
+        fate: Ok(()),
         count: 79,
         r: out,
     }
@@ -237,7 +239,7 @@ fn without_pointing(
     let mut out = r;
     closing(t, z, nodes, k, s, 23, &mut out);
     ResidualVector {
-        fate: Fate::Going,
+        fate: Ok(()),
         count: 28,
         r: out,
     }
@@ -257,8 +259,8 @@ pub fn of_rows(
 {
     let error = error_in(nodes[STEPS], t.qf);
     match error {
-        Rotation::Outside => refused_residuals(11, 0),
-        Rotation::By(a, b, c) => {
+        None => refused_residuals(11, 0),
+        Some((a, b, c)) => {
             let end = [a, b, c];
             let r = ends(end, rate_in(nodes[STEPS]));
             let weights = t.weights;
@@ -296,8 +298,8 @@ pub fn residuals_of(p: CheckedProblem, z: Decision) -> ResidualVector
     let w = run_into(WheelLaw::Once, p, &z, &mut nodes);
     let fate = w.fate;
     match fate {
-        Fate::Refused(number, place) => refused_residuals(number, place),
-        Fate::Going => {
+        Err(refusal) => refused_residuals(refusal.number, refusal.place),
+        Ok(()) => {
             let none = [0.0; 3];
             let errors = [none; 16];
             let s = Begun {

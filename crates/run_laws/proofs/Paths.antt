@@ -1,12 +1,10 @@
 -- A forward run with nodes is a path, as `reconstruct` gives it. Assumes nothing.
-use Rattle.std.specs.Prelude.{◌≡◌, refl, Bool, true, false, cond, List, ℕ, ◌+◌, ◌-◌, ◌*◌, ◌<◌, T, ltb, Float}
+use Rattle.std.specs.Prelude.{◌≡◌, refl, Bool, true, false, cond, List, ℕ, ◌+◌, ◌-◌, ◌*◌, ◌<◌, T, ltb, Float, Ok, Err}
 use Rattle.std.proofs.Common.{arith}
 use Rattle.std.specs.Float.{binary64}
 use Rattle.std.specs.Float.Ieee.{fits}
 use Rattle.common.specs.Lists.{at}
 use Rattle.float_laws.specs.Finite.{div_finite}
-use Rattle.common.specs.declared.Fate.{Fate}
-use Rattle.common.specs.declared.Fate.TheVariants.{Going, Refused}
 use Rattle.actuators.specs.Maps.{is_sized, is_empty, control_dim, gimbals}
 use Rattle.actuators.specs.declared.ActuatorMap.{ActuatorMap}
 use Rattle.control_rows.specs.Parts.{width}
@@ -19,7 +17,7 @@ use Rattle.forward.specs.declared.BodyState.{BodyState}
 use Rattle.float_laws.specs.Unit.{Below1}
 use Rattle.controls.specs.Controls.{rig_of}
 use Rattle.control_rows.specs.declared.WheelLaw.TheVariants.{Once}
-use Rattle.forward.specs.Steps.{Body}
+use Rattle.forward.specs.declared.Body.{Body}
 use Rattle.forward.specs.Reconstruct.{admit, reconstruct_by, reconstruct_under, reconstruct}
 use Rattle.run_laws.specs.Values.{goes}
 use Rattle.run_laws.specs.Torques.{at_slice}
@@ -27,6 +25,7 @@ use Rattle.run_laws.specs.Runs.{StateOk, start_ok, Flown, Kept, keeps, ended_run
 use Rattle.run_laws.specs.Times.{time_finite}
 use Rattle.run_laws.specs.Checked.{FitsP, Ready, check_ready}
 use Rattle.run_laws.specs.Paths.{control, Path}
+use Rattle.common.specs.Refusals.{Fate}
 
 module _ (b : Body) (n : ℕ) (z : List Float) (from : BodyState) (B : Below1 b.frame.tolerance) (F : (i : ℕ) → T (fits binary64 (at z i))) (S : StateOk b from) where
   -- A RUN WITH NODES
@@ -38,8 +37,8 @@ module _ (b : Body) (n : ℕ) (z : List Float) (from : BodyState) (B : Below1 b.
       kept t = unfold rollout in keeps b n z from B F S 16 (omega arith) t
 
       go : (e : Fate) → (rollout b n z from).fate ≡ e → T (goes (end_by_value e b (rollout b n z from)).fate) → Flown b n z from B F S (end_by_value e b (rollout b n z from))
-      go Going p t = ended_run_ok b n z from B F S (rollout b n z from) (kept (rw p tt))
-      go (Refused i j) p t = absurd t
+      go (Ok _) p t = ended_run_ok b n z from B F S (rollout b n z from) (kept (rw p tt))
+      go (Err why) p t = absurd t
 
 -- a control of the decision is one of the row that a step reads
 dim_width : (m : ActuatorMap) (i : ℕ) → i < control_dim m → i < width (rig_of m) (gimbals m.cmgs)
@@ -97,5 +96,5 @@ unfolding reconstruct_under
 reconstruct_path p z F G t = go (admit p).fate refl t
   where
     go : (e : Fate) → (admit p).fate ≡ e → T (goes (reconstruct_by e Once (admit p).problem z).run.fate) → Path (check p).problem z (reconstruct_by e Once (admit p).problem z).run
-    go Going h t = let s : admit p ≡ check p = admit_is p (rw h tt) in rw s (run_path (check p).problem z (check_ready p F (rw (← s, h) tt)) G (rw s at t))
-    go (Refused i j) h t = absurd t
+    go (Ok _) h t = let s : admit p ≡ check p = admit_is p (rw h tt) in rw s (run_path (check p).problem z (check_ready p F (rw (← s, h) tt)) G (rw s at t))
+    go (Err why) h t = absurd t

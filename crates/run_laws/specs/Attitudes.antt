@@ -1,5 +1,5 @@
 -- Attitudes: the exponential is refused unless its vector is finite, and what `normalized` answers has parts of at most 2 ^ 56 in size. Assumes nothing.
-use Rattle.std.specs.Prelude.{◌≡◌, Bool, true, false, ◌&&◌, ◌||◌, List, ℕ, T, Float}
+use Rattle.std.specs.Prelude.{◌≡◌, Bool, true, false, ◌&&◌, ◌||◌, List, ℕ, T, Float, Option, Some, None}
 use Rattle.std.proofs.Math.Bool.{not}
 use Rattle.std.proofs.Common.{arith}
 use Rattle.std.specs.Float.Ieee.{binary64, sub, mul, div, neg, lt, le, eq, of_bits}
@@ -9,28 +9,22 @@ use Rattle.common.specs.Floats.{one, plus_zero}
 use Rattle.float.specs.Ops.{abs}
 use Rattle.float_laws.specs.Finite.{finites, mul_finite, sqrt_finite, lt_sqrt, between_finite}
 use Rattle.float_laws.specs.Unit.{Below1, unit_in}
-use Rattle.angles.specs.declared.Angle.{Angle}
-use Rattle.angles.specs.declared.Angle.TheVariants as Angle
 use Rattle.angles.specs.Angles as Angles
 use Rattle.geom.specs.Vec.{dot3, half}
 use Rattle.geom.specs.Quats.{quat_mul, scale_q, norm3, norm_q, finite_q, normal_by, normalized, tiny, exp_of, exp_at, exp_so3}
 use Rattle.geom.specs.Halves.{on_both}
 use Rattle.geom.specs.declared.Quat.{Quat}
-use Rattle.geom.specs.declared.Normal.{Normal}
-use Rattle.geom.specs.declared.Normal.TheVariants as Normal
-use Rattle.geom.specs.declared.Turned.{Turned}
-use Rattle.geom.specs.declared.Turned.TheVariants as Turned
 use Rattle.run_laws.specs.Values.{Fine3, FitsQ, WithinQ}
 use Rattle.run_laws.specs.TestLaws.{outcomes}
 
 -- ---- the exponential
-abbrev is_angle : Angle → Bool
-is_angle (Angle.Is x) = true
-is_angle Angle.Outside = false
+abbrev is_angle : Option Float → Bool
+is_angle (Some x) = true
+is_angle None = false
 
-abbrev pub is_turned : Turned → Bool
-is_turned (Turned.Is q) = true
-is_turned Turned.Outside = false
+abbrev pub is_turned : Option Quat → Bool
+is_turned (Some q) = true
+is_turned None = false
 
 most_finite : T (finite Angles.most) × T (finite (neg Angles.most))
 unfolding of_bits neg
@@ -45,9 +39,9 @@ sin_finite : (x : Float) → T (is_angle (Angles.sin_of x)) → T (finite x)
 unfolding Angles.sin_of Angles.region_of
 sin_finite x t = outcomes (λ z. T (is_angle (Angles.sin_by z x))) (Angles.in_range x) _ _ (λ r k. range_finite x r) (λ r k. absurd k) t
 
-by_sine : (v : List Float) (n : Float) (s c : Angle) → T (is_turned (on_both Turned.Outside (exp_of v n) s c)) → T (is_angle s)
-by_sine v n (Angle.Is s) c t = tt
-by_sine v n Angle.Outside c t = t
+by_sine : (v : List Float) (n : Float) (s c : Option Float) → T (is_turned (on_both None (exp_of v n) s c)) → T (is_angle s)
+by_sine v n (Some s) c t = tt
+by_sine v n None c t = t
 
 length_finite : (v : List Float) → T (finite (dot3 v v)) → Fine3 v
 length_finite v t = search finites
@@ -75,19 +69,19 @@ second false true t = tt
 second false false t = t
 
 module _ (tol : Float) (q r : Quat) where
-  not_is : {X : Type 0} → Normal.Not ≡ Normal.Is r → X
+  not_is : {X : Type 0} → None ≡ Some r → X
   not_is h = let z : ◌≡◌ {A = ℕ} 0 1 = cc in absurd (omega arith)
 
-  same_is : (p : Quat) → Normal.Is p ≡ Normal.Is r → p ≡ r
+  same_is : (p : Quat) → Some p ≡ Some r → p ≡ r
   same_is p h = cc
 
-  pub normalized_is : normalized tol q ≡ Normal.Is r → Normed tol q r
+  pub normalized_is : normalized tol q ≡ Some r → Normed tol q r
   unfolding normalized normal_by
   normalized_is h =
       let n = norm_q q in
-      outcomes (λ a. a ≡ Normal.Is r) (finite_q q) _ _
-      (λ f k. outcomes (λ a. a ≡ Normal.Is r) (eq n plus_zero || not (finite n)) _ _ (λ g l. not_is l)
-      (λ g l. outcomes (λ a. a ≡ Normal.Is r) (lt tol (abs (sub binary64 n one))) _ _ (λ e m. not_is m)
+      outcomes (λ a. a ≡ Some r) (finite_q q) _ _
+      (λ f k. outcomes (λ a. a ≡ Some r) (eq n plus_zero || not (finite n)) _ _ (λ g l. not_is l)
+      (λ g l. outcomes (λ a. a ≡ Some r) (lt tol (abs (sub binary64 n one))) _ _ (λ e m. not_is m)
       (λ e m. record { fine = f; length_fine = second (eq n plus_zero) (finite n) g; near = e; is = same_is (scale_q q (div binary64 one n)) m }) l) k)
       (λ f k. not_is k) h
 

@@ -1,6 +1,6 @@
 -- What the tests against limits say: torques and momenta that pass with the tolerance of 1e-9 are within their limits as exact numbers, and a projected
 -- control that is no NaN is at most its limit in size. Assumes nothing.
-use Rattle.std.specs.Prelude.{◌≡◌, Bool, not, List, ℕ, ◌+◌, ◌-◌, ◌<◌, ◌≤◌, T, ltb, length, Float}
+use Rattle.std.specs.Prelude.{◌≡◌, Bool, not, List, ℕ, ◌+◌, ◌-◌, ◌<◌, ◌≤◌, T, ltb, length, Float, Option, Some, None}
 use Rattle.std.proofs.Math.Bool.{true, false, cond}
 use Rattle.std.proofs.Common.{arith, ltb→lt, nltb→le}
 use Rattle.std.specs.Float.{binary64}
@@ -16,8 +16,6 @@ use Rattle.float_laws.specs.Numbers.{clamp_n}
 use Rattle.float_laws.specs.Order.{Held, held}
 use Rattle.geom.specs.Vec.{torque_excess}
 use Rattle.actuators.specs.Maps.{gimbals}
-use Rattle.actuators.specs.declared.Cmgs.{Cmgs}
-use Rattle.actuators.specs.declared.Cmgs.TheVariants.{Without, With}
 use Rattle.actuators.specs.declared.ActuatorMap.{ActuatorMap}
 use Rattle.control_rows.specs.Parts.{bare, width}
 use Rattle.control_limits.specs.Limits.{hold, gimbal_rate, part_limit_value, limit_of, fewer, projected, momentum_excess}
@@ -28,6 +26,7 @@ use Rattle.controls.specs.Controls.{rig_of}
 use Rattle.run_laws.specs.Values.{Fine3, Fit3, HeldN}
 use Rattle.run_laws.specs.Torques.{stored_at}
 use Rattle.run_laws.specs.Prepared.{MapOk, RateOk}
+use Rattle.actuators.specs.declared.CmgPyramid.{CmgPyramid}
 
 -- TORQUES: where the excess over the limits is not above 1e-9, each of three finite torques is below its limit and the next f64 above 1e-9
 pub torque_under : (t l : List Float) → Fine3 t → Fit3 t → ((i : ℕ) → i < 3 → Limit (at l i)) → T (not (lt tol (torque_excess t l))) → (i : ℕ) → i < 3 → Under (at t i) (at l i)
@@ -42,12 +41,12 @@ momentum_under limits n hw H L h = excess_under (at hw) (at limits) n H L h
 
 -- ---- the limits of a row's controls
 module _ (m : ActuatorMap) (M : MapOk m) (box : List Float) (L : (i : ℕ) → i < 3 → Limit (at box i)) where
-  rate_limit : (c : Cmgs) → RateOk c → (i : ℕ) → i < gimbals c → Limit (gimbal_rate c)
-  rate_limit Without R i h = absurd (no h)
+  rate_limit : (c : Option CmgPyramid) → RateOk c → (i : ℕ) → i < gimbals c → Limit (gimbal_rate c)
+  rate_limit None R i h = absurd (no h)
     where
       no : i < 0 → ⊥
       no h = omega arith
-  rate_limit (With y) R i h = R
+  rate_limit (Some y) R i h = R
 
   part_limit : (i : ℕ) → i < m.wheel_count + m.thruster_count + gimbals m.cmgs → Limit (part_limit_value (rig_of m) m.wheel_torques m.thruster_torques i)
   part_limit i h = go (ltb i m.wheel_count) (ltb i (m.wheel_count + m.thruster_count)) (ltb→lt i m.wheel_count) (nltb→le i m.wheel_count) (ltb→lt i (m.wheel_count + m.thruster_count)) (nltb→le i (m.wheel_count + m.thruster_count))

@@ -1,6 +1,6 @@
 -- What the checks before a run leave of a problem: attitudes of at most 2 ^ 56, a norm tolerance below 1, torque and slew limits that are finite and above 0, prepared actuators in order,
 -- momenta that the wheels may start with. Assumes nothing.
-use Rattle.std.specs.Prelude.{◌≡◌, Bool, true, false, not, cond, ◌&&◌, List, Float}
+use Rattle.std.specs.Prelude.{◌≡◌, Bool, true, false, not, cond, ◌&&◌, List, Float, Option, Some, None, Ok, Err}
 use Rattle.std.proofs.Math.Path.{refl}
 use Prim.Native.Nat.{ℕ, zero, ◌<◌, ◌≤◌}
 use Rattle.std.proofs.Common.{arith}
@@ -11,10 +11,6 @@ use Rattle.std.specs.Float.Ieee.Fits.{and_l, and_r}
 use Rattle.std.specs.Float.Ieee.Scale.{finite}
 use Rattle.common.specs.Floats.{one, plus_zero}
 use Rattle.common.specs.Lists.{at}
-use Rattle.common.specs.declared.Fate.{Fate}
-use Rattle.common.specs.declared.Fate.TheVariants.{Going, Refused}
-use Rattle.common.specs.declared.Limit.{Limit}
-use Rattle.common.specs.declared.Limit.TheVariants.{Nothing, At}
 use Rattle.float.specs.Ops.{abs}
 use Rattle.float_laws.specs.Below.{below_three}
 use Rattle.float_laws.specs.Order.{held}
@@ -25,9 +21,7 @@ use Rattle.geom.specs.Vec.{tensor, is_positive_value}
 use Rattle.geom.specs.Quats.{normalized}
 use Rattle.geom.specs.Tensors.{invert_spd}
 use Rattle.geom.specs.declared.Quat.{Quat}
-use Rattle.geom.specs.declared.Normal.{Normal}
-use Rattle.geom.specs.declared.Normal.TheVariants as Normal
-use Rattle.actuators.specs.Prepare.{prepare}
+use Rattle.actuators.specs.Prepare.{Prepared, prepare, map_or_blank}
 use Rattle.actuators.specs.declared.ActuatorMap.{ActuatorMap}
 use Rattle.problem.specs.Problems as Problems
 use Rattle.problem.specs.Starts.{check_starts, placed}
@@ -39,16 +33,19 @@ use Rattle.run_laws.specs.Values.{goes, FitsQ, WithinQ}
 use Rattle.run_laws.specs.Attitudes.{normalized_is, normed_in}
 use Rattle.run_laws.specs.Prepared.{FitsM, MapOk, limit_of_law, prepare_ok}
 use Rattle.run_laws.specs.Runs.{MomentaOk}
+use Rattle.common.specs.Refusals.{Fate}
+use Rattle.std.specs.Prelude.{Result}
+use Rattle.common.specs.declared.Refusal.{Refusal}
 
 -- ---- a slew limit, where there is one, is finite and above 0
-abbrev pub SlewOk : Limit → Type 0
-SlewOk Nothing = Unit {0}
-SlewOk (At r) = Limits.Limit r
+abbrev pub SlewOk : Option Float → Type 0
+SlewOk None = Unit {0}
+SlewOk (Some r) = Limits.Limit r
 
 -- a problem whose numbers f64 holds, as every problem's in a program are
-abbrev pub SlewFits : Limit → Type 0
-SlewFits Nothing = Unit {0}
-SlewFits (At r) = T (fits binary64 r)
+abbrev pub SlewFits : Option Float → Type 0
+SlewFits None = Unit {0}
+SlewFits (Some r) = T (fits binary64 r)
 
 pub record FitsP (p : Problem) : Type 0 where
   pub q0 : FitsQ p.q0
@@ -56,7 +53,7 @@ pub record FitsP (p : Problem) : Type 0 where
   pub limit : (i : ℕ) → i < 3 → T (fits binary64 (at p.torque_limit i))
   pub slew : SlewFits p.slew
   pub tolerance : T (fits binary64 p.norm_tolerance)
-  pub map : FitsM (prepare p.actuators).map
+  pub map : FitsM (map_or_blank (prepare p.actuators))
   pub momenta : (i : ℕ) → T (fits binary64 (at p.momenta.at i))
 
 -- a problem that passed the checks
@@ -69,9 +66,9 @@ pub record Ready (p : CheckedProblem) : Type 0 where
   pub map : MapOk p.map
   pub momenta : MomentaOk p.map.wheel_count p.momenta
 
-slew_of : (l : Limit) → SlewFits l → T (Problems.limit_fits l) → SlewOk l
-slew_of Nothing g t = tt
-slew_of (At r) g t = limit_of_law r g t
+slew_of : (l : Option Float) → SlewFits l → T (Problems.limit_fits l) → SlewOk l
+slew_of None g t = tt
+slew_of (Some r) g t = limit_of_law r g t
 
 -- check 22 leaves momenta that a run may begin with
 momenta_of_law : (n : ℕ) (limits : List Float) (m : Momenta) → n ≤ 8 → ((i : ℕ) → T (fits binary64 (at m.at i))) → Passed n limits m → MomentaOk n (placed n m.at)
@@ -117,20 +114,19 @@ module _ (p : Problem) (F : FitsP p) where
       }
 
   module _ (m : ActuatorMap) (M : MapOk m) (N : Numbers) (H : MomentaOk m.wheel_count (placed m.wheel_count p.momenta.at)) where
-    inverted : (e : Fate) (i : List Float) (q0 qf : Quat) → WithinQ 56 q0 → WithinQ 56 qf → T (goes (Problems.inverted_by e i p m q0 qf).fate) → Ready (Problems.inverted_by e i p m q0 qf).problem
-    inverted (Refused a b) i q0 qf A B t = absurd t
-    inverted Going i q0 qf A B t = record { q0 = A; qf = B; tolerance = N.tolerance; limits = N.limits; slew = N.slew; map = M; momenta = H }
+    inverted : (e : Result (List Float) Refusal) (q0 qf : Quat) → WithinQ 56 q0 → WithinQ 56 qf → T (goes (Problems.inverted_by e p m q0 qf).fate) → Ready (Problems.inverted_by e p m q0 qf).problem
+    inverted (Err why) q0 qf A B t = absurd t
+    inverted (Ok i) q0 qf A B t = record { q0 = A; qf = B; tolerance = N.tolerance; limits = N.limits; slew = N.slew; map = M; momenta = H }
 
-    final : (q0 : Quat) → WithinQ 56 q0 → (x : Normal) → normalized p.norm_tolerance p.qf ≡ x → T (goes (Problems.final_by x p m q0).fate) → Ready (Problems.final_by x p m q0).problem
+    final : (q0 : Quat) → WithinQ 56 q0 → (x : Option Quat) → normalized p.norm_tolerance p.qf ≡ x → T (goes (Problems.final_by x p m q0).fate) → Ready (Problems.final_by x p m q0).problem
     unfolding Problems.with_attitudes
-    final q0 A Normal.Not e t = absurd t
-    final q0 A (Normal.Is qf) e t =
-        let v = invert_spd (tensor p.inertia) in
-        inverted v.fate v.m q0 qf A (normed_in p.norm_tolerance p.qf qf N.tolerance F.qf (normalized_is p.norm_tolerance p.qf qf e)) t
+    final q0 A None e t = absurd t
+    final q0 A (Some qf) e t =
+        inverted (invert_spd (tensor p.inertia)) q0 qf A (normed_in p.norm_tolerance p.qf qf N.tolerance F.qf (normalized_is p.norm_tolerance p.qf qf e)) t
 
-    begun : (x : Normal) → normalized p.norm_tolerance p.q0 ≡ x → T (goes (Problems.start_by x p m).fate) → Ready (Problems.start_by x p m).problem
-    begun Normal.Not e t = absurd t
-    begun (Normal.Is q0) e t =
+    begun : (x : Option Quat) → normalized p.norm_tolerance p.q0 ≡ x → T (goes (Problems.start_by x p m).fate) → Ready (Problems.start_by x p m).problem
+    begun None e t = absurd t
+    begun (Some q0) e t =
         final q0 (normed_in p.norm_tolerance p.q0 q0 N.tolerance F.q0 (normalized_is p.norm_tolerance p.q0 q0 e)) (normalized p.norm_tolerance p.qf) refl t
 
   mapped : (m : ActuatorMap) → MapOk m → T (goes (Problems.with_map p m).fate) → Ready (Problems.with_map p m).problem
@@ -145,15 +141,15 @@ module _ (p : Problem) (F : FitsP p) where
 
       go : (b : Bool) → (T b → T (Problems.numbers_fit p)) → (e : Fate) → check_starts n limits p.momenta ≡ e
           → T (goes (cond b (Problems.momenta_by e p m) (Problems.refused 4 0)).fate) → Ready (cond b (Problems.momenta_by e p m) (Problems.refused 4 0)).problem
-      go true h Going e t = begun m M (numbers_of (h tt)) (momenta_of_law n limits p.momenta M.wheels F.momenta (starts_passed n limits p.momenta e)) (normalized p.norm_tolerance p.q0) refl t
-      go true h (Refused i j) e t = absurd t
+      go true h (Ok _) e t = begun m M (numbers_of (h tt)) (momenta_of_law n limits p.momenta M.wheels F.momenta (starts_passed n limits p.momenta e)) (normalized p.norm_tolerance p.q0) refl t
+      go true h (Err why) e t = absurd t
       go false h f e t = absurd t
 
   -- CHECKED: what passed is ready
   pub check_ready : T (goes (Problems.check p).fate) → Ready (Problems.check p).problem
   unfolding Problems.check
-  check_ready t = go (prepare p.actuators).fate refl t
+  check_ready t = go (prepare p.actuators) refl t
     where
-      go : (e : Fate) → (prepare p.actuators).fate ≡ e → T (goes (Problems.prepared_by e (prepare p.actuators).map p).fate) → Ready (Problems.prepared_by e (prepare p.actuators).map p).problem
-      go Going h t = mapped (prepare p.actuators).map (prepare_ok p.actuators F.map h) t
-      go (Refused i j) h t = absurd t
+      go : (e : Prepared) → prepare p.actuators ≡ e → T (goes (Problems.prepared_by e p).fate) → Ready (Problems.prepared_by e p).problem
+      go (Ok m) h t = mapped m (prepare_ok p.actuators F.map h) t
+      go (Err why) h t = absurd t

@@ -1,6 +1,6 @@
 -- The turn that is left between two attitudes of at most 2 ^ 56: its logarithm is never refused, and gives three finite numbers. So the end's computed
 -- lengths are no NaN, and "not above" is "at most". Assumes nothing.
-use Rattle.std.specs.Prelude.{◌≡◌, Bool, true, false, not, cond, ◌&&◌, List, [], ◌∷◌, ℕ, zero, suc, ◌+◌, ◌-◌, ◌*◌, ◌/◌, ◌^◌, ◌<◌, ◌≤◌, T, Float}
+use Rattle.std.specs.Prelude.{◌≡◌, Bool, true, false, not, cond, ◌&&◌, List, [], ◌∷◌, ℕ, zero, suc, ◌+◌, ◌-◌, ◌*◌, ◌/◌, ◌^◌, ◌<◌, ◌≤◌, T, Float, Option, Some, None}
 use Rattle.std.proofs.Math.Path.{refl}
 use Rattle.std.proofs.Common.{sym, ◌∙◌, le_trans, le_of_eq, le_refl, lt_of_not-le, mul-le-mul, mul-le-mul_left, mul-le-mul_right, mul-div_cancel, div-le_self, add-le-add, suc-mul, arith, lit≤, pow_pos}
 use Rattle.std.proofs.Math.Dec.{leb→le}
@@ -21,16 +21,12 @@ use Rattle.float_laws.specs.Finite.{finite_number}
 use Rattle.float_laws.specs.Signs.{plus, plus_number, place_plus, round_plus, square_plus, add_plus, sqrt_plus}
 use Rattle.float_laws.specs.Sizes.{Within, Beyond, in_held, add_in, sub_in, mul_in, div_in, neg_in, round_in}
 use Rattle.float_laws.specs.Unit.{finite_sqrt}
-use Rattle.angles.specs.declared.Angle.{Angle}
-use Rattle.angles.specs.declared.Angle.TheVariants as Angle
 use Rattle.angles.specs.Angles.{size_of}
 use Rattle.angles.specs.Arcs as Arcs
 use Rattle.geom.specs.Vec.{dot3, two, minus_one}
 use Rattle.geom.specs.Vec as Vec
 use Rattle.geom.specs.Quats.{quat_mul, negate_q, conj, norm3, tiny, part, upright, log_by, log_at, log_up, log_so3}
 use Rattle.geom.specs.declared.Quat.{Quat}
-use Rattle.geom.specs.declared.Rotation.{Rotation}
-use Rattle.geom.specs.declared.Rotation.TheVariants as Rotation
 use Rattle.common.specs.Lists.{at}
 use Rattle.run_laws.specs.Values.{Fine3, WithinQ}
 
@@ -121,9 +117,9 @@ arc_top d l = go (Arcs.root_of d) (Arcs.arc_sum (d / 2) (Arcs.root_of d) 60) (ro
     go s a h k = omega arith
 
 -- an angle, and a bound of it
-record AngleIn (k : ℕ) (a : Angle) : Type 0 where
+record AngleIn (k : ℕ) (a : Option Float) : Type 0 where
   value : Float
-  is : a ≡ Angle.Is value
+  is : a ≡ Some value
   size : Within binary64 k value
 
 acos_in : (w : Float) → T (le Arcs.none w) → T (le w one) → AngleIn 7 (Arcs.acos_of w)
@@ -139,7 +135,7 @@ acos_in w p q = go (le Arcs.none w && le w one) (and_i (le Arcs.none w) (le w on
     short : (m n : ℕ) → m - n ≤ m
     short m n = omega arith
 
-    go : (b : Bool) → T b → AngleIn 7 (cond b (Angle.Is a) Angle.Outside)
+    go : (b : Bool) → T b → AngleIn 7 (cond b (Some a) None)
     go true t = record { value = a; is = refl; size = round_in binary64 false _ (2 ^ 60) 7 (pow_pos 60) (lit≤ tt) (arc_top d (short (2 ^ 60) (size_of w))) }
     go false t = absurd t
 
@@ -188,11 +184,11 @@ upright_in q p = go (lt q.w Floats.plus_zero) (λ h. h) (λ h. h)
 
 -- ---- the logarithm
 -- a rotation vector of three finite numbers
-pub record TurnIn (t : Rotation) : Type 0 where
+pub record TurnIn (t : Option (Float × Float × Float)) : Type 0 where
   pub x : Float
   pub y : Float
   pub z : Float
-  pub is : t ≡ Rotation.By x y z
+  pub is : t ≡ Some (x, y, z)
   pub fine : Fine3 (x ∷ y ∷ z ∷ [])
 
 tiny_beyond : (n : Float) → T (fits binary64 n) → T (finite n) → T (plus n) → T (not (lt n tiny)) → Beyond binary64 54 n
@@ -238,12 +234,12 @@ log_up_law q U = go (lt n tiny) (λ h. h)
     n_finite : T (finite n)
     n_finite = unfold norm3 in finite_sqrt (dot3 v v) dot_in.fit dot_in.fine (dot_plus v F)
 
-    by : (a : Angle) → AngleIn 7 a → T (not (lt n tiny)) → TurnIn (log_by q n a)
+    by : (a : Option Float) → AngleIn 7 a → T (not (lt n tiny)) → TurnIn (log_by q n a)
     by a A h =
         let s : Within binary64 62 (div binary64 (mul binary64 two A.value) n) = div_in (mul_in {j = 1} {k = 7} two_in A.size tt) (tiny_beyond n (length_held v F).fit n_finite (length_plus v F) h) tt in
         rw A.is (record { x = _; y = _; z = _; is = refl; fine = ((mul_in {j = 115} {k = 62} X s tt).fine, (mul_in {j = 115} {k = 62} Y s tt).fine, (mul_in {j = 115} {k = 62} Z s tt).fine) })
 
-    go : (b : Bool) → (T (not b) → T (not (lt n tiny))) → TurnIn (cond b (Rotation.By (mul binary64 two q.x) (mul binary64 two q.y) (mul binary64 two q.z)) (log_by q n (Arcs.acos_of (clamp minus_one one q.w))))
+    go : (b : Bool) → (T (not b) → T (not (lt n tiny))) → TurnIn (cond b (Some (mul binary64 two q.x, mul binary64 two q.y, mul binary64 two q.z)) (log_by q n (Arcs.acos_of (clamp minus_one one q.w))))
     go true h = record { x = _; y = _; z = _; is = refl; fine = ((mul_in {j = 1} {k = 115} two_in X tt).fine, (mul_in {j = 1} {k = 115} two_in Y tt).fine, (mul_in {j = 1} {k = 115} two_in Z tt).fine) }
     go false h = let c = clamp_unit q.w (in_held U.sizes.w) U.over in by (Arcs.acos_of (clamp minus_one one q.w)) (acos_in (clamp minus_one one q.w) c.0 c.1) (h tt)
 

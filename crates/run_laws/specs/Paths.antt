@@ -3,8 +3,6 @@ use Rattle.std.specs.Prelude.{◌≡◌, List, ℕ, ◌+◌, ◌*◌, ◌<◌, T
 use Rattle.std.proofs.Common.{ap}
 use Rattle.std.specs.Float.Ieee.Scale.{finite}
 use Rattle.common.specs.Lists.{at}
-use Rattle.common.specs.declared.Fate.{Fate}
-use Rattle.common.specs.declared.Fate.TheVariants.{Going}
 use Rattle.actuators.specs.Maps.{control_dim}
 use Rattle.problem.specs.declared.Problem.{Problem}
 use Rattle.problem.specs.declared.CheckedProblem.{CheckedProblem}
@@ -17,6 +15,7 @@ use Rattle.forward.specs.declared.Run.{Run}
 use Rattle.run_laws.specs.Values.{Fine3}
 use Rattle.run_laws.specs.Runs.{NodeOk}
 use Rattle.run_laws.specs.Defects.{grounded}
+use Rattle.common.specs.Refusals.{Fate, going}
 
 -- control i of row k of the decision z, c to a row
 abbrev pub control : ℕ → List Float → ℕ → ℕ → Float
@@ -38,6 +37,6 @@ pub record Path (p : CheckedProblem) (z : List Float) (r : Run) : Type 0 where
   pub first : run_node r 0 ≡ node_of (step_time z) 0 (start_of p) (run_node r 0).tau
 
 -- RERUN: `reconstruct` on a problem that is admitted is one forward run of it, and nothing else, so that a decision run again gives the same nodes
-pub rerun : (p : Problem) (z : List Float) → (admit p).fate ≡ Going → reconstruct p z ≡ record { runs = 1; run = run_of (admit p).problem z }
+pub rerun : (p : Problem) (z : List Float) → (admit p).fate ≡ going → reconstruct p z ≡ record { runs = 1; run = run_of (admit p).problem z }
 unfolding reconstruct_under
 rerun p z h = ap (λ (e : Fate). reconstruct_by e Once (admit p).problem z) h

@@ -1,5 +1,5 @@
 -- What `prepare` leaves: at most 8 wheels and 12 thrusters, and every limit of a control or a momentum finite and above 0. Assumes nothing.
-use Rattle.std.specs.Prelude.{◌≡◌, refl, Bool, true, false, not, ◌||◌, ℕ, ◌<◌, ◌≤◌, T, Float}
+use Rattle.std.specs.Prelude.{◌≡◌, refl, Bool, true, false, not, ◌||◌, ℕ, ◌<◌, ◌≤◌, T, Float, Option, Some, None}
 use Rattle.std.proofs.Common.{sym, ◌∙◌}
 use Rattle.std.specs.Float.{binary64}
 use Rattle.std.specs.Float.Ieee.{lt, le, fits}
@@ -7,16 +7,15 @@ use Rattle.std.specs.Float.Ieee.Fits.{and_l, and_r}
 use Rattle.std.specs.Float.Ieee.Scale.{finite}
 use Rattle.common.specs.Floats.{plus_zero}
 use Rattle.common.specs.Lists.{at}
-use Rattle.common.specs.declared.Fate.TheVariants.{Going}
 use Rattle.float_laws.specs.Limits.{Limit}
 use Rattle.geom.specs.Vec.{is_positive_value}
 use Rattle.actuators.specs.Prepare as Prepare
-use Rattle.actuators.specs.ReadyLaws.{Sound, prepared}
+use Rattle.actuators.specs.ReadyLaws.{Sound, of_map, prepared}
 use Rattle.actuators.specs.declared.CmgPyramid.{CmgPyramid}
-use Rattle.actuators.specs.declared.Cmgs.{Cmgs}
-use Rattle.actuators.specs.declared.Cmgs.TheVariants.{Without, With}
 use Rattle.actuators.specs.declared.Actuators.{Actuators}
 use Rattle.actuators.specs.declared.ActuatorMap.{ActuatorMap}
+use Rattle.common.specs.Refusals.{going}
+use Rattle.std.specs.Prelude.{Ok}
 
 -- ---- a number that is not outside its range is a limit
 neither : (a b : Bool) → T (not (a || b)) → T (not a) × T (not b)
@@ -48,9 +47,9 @@ rate_inside y g t =
     inside y.max_gimbal_rate_rad_s g (neither (a1 || a2 || a3) a4 (neither (a1 || a2 || a3 || a4) (Prepare.outside y.singularity_eps) t).0).1
 
 -- ---- a map whose limits f64 holds, as every map of a program does
-abbrev pub RateFits : Cmgs → Type 0
-RateFits Without = Unit {0}
-RateFits (With y) = T (fits binary64 y.max_gimbal_rate_rad_s)
+abbrev pub RateFits : Option CmgPyramid → Type 0
+RateFits None = Unit {0}
+RateFits (Some y) = T (fits binary64 y.max_gimbal_rate_rad_s)
 
 pub record FitsM (m : ActuatorMap) : Type 0 where
   pub torque : (k : ℕ) → T (fits binary64 (at m.wheel_torques k))
@@ -59,9 +58,9 @@ pub record FitsM (m : ActuatorMap) : Type 0 where
   pub rate : RateFits m.cmgs
 
 -- a pyramid's rate
-abbrev pub RateOk : Cmgs → Type 0
-RateOk Without = Unit {0}
-RateOk (With y) = Limit y.max_gimbal_rate_rad_s
+abbrev pub RateOk : Option CmgPyramid → Type 0
+RateOk None = Unit {0}
+RateOk (Some y) = Limit y.max_gimbal_rate_rad_s
 
 -- PREPARED: what a map that `prepare` gives is
 pub record MapOk (m : ActuatorMap) : Type 0 where
@@ -73,9 +72,9 @@ pub record MapOk (m : ActuatorMap) : Type 0 where
   pub rate : RateOk m.cmgs
 
 module _ (a : Actuators) (m : ActuatorMap) (F : FitsM m) (S : Sound a m) where
-  rate_ok : (c : Cmgs) → m.cmgs ≡ c → RateFits c → RateOk c
-  rate_ok Without e g = tt
-  rate_ok (With y) e g = rate_inside y g (passed (Prepare.pyramid_outside y) (S.pyramid y (sym S.ready.gyros ∙ e)))
+  rate_ok : (c : Option CmgPyramid) → m.cmgs ≡ c → RateFits c → RateOk c
+  rate_ok None e g = tt
+  rate_ok (Some y) e g = rate_inside y g (passed (Prepare.pyramid_outside y) (S.pyramid y (sym S.ready.gyros ∙ e)))
 
   sound_ok : MapOk m
   sound_ok = record {
@@ -87,5 +86,5 @@ module _ (a : Actuators) (m : ActuatorMap) (F : FitsM m) (S : Sound a m) where
     rate = rate_ok m.cmgs refl F.rate;
   }
 
-pub prepare_ok : (a : Actuators) → FitsM (Prepare.prepare a).map → (Prepare.prepare a).fate ≡ Going → MapOk (Prepare.prepare a).map
-prepare_ok a F e = sound_ok a (Prepare.prepare a).map F (prepared a e)
+pub prepare_ok : (a : Actuators) → FitsM (Prepare.map_or_blank (Prepare.prepare a)) → {m : ActuatorMap} → Prepare.prepare a ≡ Ok m → MapOk m
+prepare_ok a F {m} e = sound_ok a m (rw e at F) (of_map (Sound a) (prepared a) e)

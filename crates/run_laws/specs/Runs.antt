@@ -1,5 +1,5 @@
 -- A run with nodes: by induction over its steps, every state, node and row of controls is as the promises need it. Assumes nothing.
-use Rattle.std.specs.Prelude.{◌≡◌, get_or, set, length, take, drop, replicate, pos}
+use Rattle.std.specs.Prelude.{◌≡◌, get_or, set, length, take, drop, replicate, pos, Ok, Err}
 use Rattle.std.proofs.Math.Path.{refl, sym, ap}
 use Rattle.std.proofs.Common.{◌∙◌, get_or-set_same, get_or-set_other, get_or-drop}
 use mathlib.Core.List.{List, [], ◌∷◌}
@@ -14,8 +14,6 @@ use Rattle.std.specs.Float.Ieee.Scale.{finite}
 use Rattle.common.specs.Floats as Floats
 use Rattle.common.specs.Iter.{iter}
 use Rattle.common.specs.Lists.{at, slice}
-use Rattle.common.specs.declared.Fate.{Fate}
-use Rattle.common.specs.declared.Fate.TheVariants.{Going, Refused}
 use Rattle.float_laws.specs.Below.{below_none, below_next}
 use Rattle.float_laws.specs.Order.{held}
 use Rattle.float_laws.specs.Finite.{finite_number, add_number, mul_number}
@@ -27,7 +25,8 @@ use Rattle.actuators.specs.Maps.{gimbals}
 use Rattle.control_rows.specs.Parts.{width}
 use Rattle.forward.specs.Decisions.{row_of}
 use Rattle.control_rows.specs.Parts as Parts
-use Rattle.forward.specs.Steps.{Body, wheel_momenta_value, body_momentum, rate_dot, rate_next, step}
+use Rattle.forward.specs.Steps.{wheel_momenta_value, body_momentum, rate_dot, rate_next, step}
+use Rattle.forward.specs.declared.Body.{Body}
 use Rattle.forward.specs.Runs.{start, node_of, blank_node, no_node, node_at, Rollout, advance, rollout_by, rollout_turn, start_rollout, rollout, ended_run, end_by_value, end_of, run_from}
 use Rattle.forward.specs.declared.BodyState.{BodyState}
 use Rattle.forward.specs.declared.Stepped.{Stepped}
@@ -38,6 +37,7 @@ use Rattle.run_laws.specs.Attitudes.{normed_in, product_fits}
 use Rattle.run_laws.specs.Torques.{at_slice, axes_back, row_back, row_fits, wheel_control, momenta_length, momenta_at_law, momenta_after_law}
 use Rattle.run_laws.specs.Steps.{Once, step_goes}
 use Rattle.run_laws.specs.Defects.{grounded, max_grounded}
+use Rattle.common.specs.Refusals.{Fate}
 
 -- past n wheels stands +0
 abbrev pub Spare : ℕ → List Float → Type 0
@@ -240,8 +240,8 @@ module _ (b : Body) (n : ℕ) (z : List Float) (from : BodyState) (B : Below1 b.
       went t = unfold advance in t
 
       go : (e : Fate) → x.fate ≡ e → T (goes (rollout_by e b n z k x).fate) → Kept (suc k) (rollout_by e b n z k x)
-      go Going p t = one_more k x l (K (rw p tt)) (went t)
-      go (Refused i j) p t = absurd (rw p at t)
+      go (Ok _) p t = one_more k x l (K (rw p tt)) (went t)
+      go (Err why) p t = absurd (rw p at t)
 
   pub keeps : (k : ℕ) → k ≤ 17 → T (goes (iter (rollout_turn b n z) (start_rollout from) k).fate) → Kept k (iter (rollout_turn b n z) (start_rollout from) k)
   unfolding iter

@@ -1,25 +1,24 @@
 -- One step that goes on: everything runs back from the exponential, which is refused unless its vector is finite. Assumes nothing.
-use Rattle.std.specs.Prelude.{◌≡◌, refl, Bool, true, false, cond, List, ℕ, T, Float}
+use Rattle.std.specs.Prelude.{◌≡◌, refl, Bool, true, false, cond, List, ℕ, T, Float, Option, Some, None, Result, Ok, Err}
 use Rattle.std.specs.Float.Ieee.{lt}
 use Rattle.std.specs.Float.Ieee.Scale.{finite}
 use Rattle.common.specs.Lists.{at, slice}
-use Rattle.common.specs.declared.Fate.{Fate}
-use Rattle.common.specs.declared.Fate.TheVariants.{Going, Refused}
 use Rattle.float_laws.specs.Finite.{finites}
 use Rattle.geom.specs.Vec as Vec
 use Rattle.geom.specs.Quats.{quat_mul, exp_so3, normalized}
 use Rattle.geom.specs.declared.Quat.{Quat}
-use Rattle.geom.specs.declared.Normal.{Normal}
-use Rattle.geom.specs.declared.Normal.TheVariants as Normal
-use Rattle.geom.specs.declared.Turned.{Turned}
-use Rattle.geom.specs.declared.Turned.TheVariants as Turned
 use Rattle.control_rows.specs.Parts.{row_torque}
 use Rattle.control_limits.specs.Limits.{power_excess}
-use Rattle.forward.specs.Steps.{Body, stop, matrix_at, rate_dot, rate_next, turn_of, defect_of, gimbal_row, step_gimbals, state_next, slack, powered, gimbals_step, attitude_step, normed_step, turned_step, rated_step, torqued_step, matrix_step, step}
+use Rattle.forward.specs.Steps.{stop, matrix_at, rate_dot, rate_next, turn_of, defect_of, gimbal_row, step_gimbals, state_next, slack, powered, gimbals_step, attitude_step, normed_step, turned_step, rated_step, torqued_step, matrix_step, step}
+use Rattle.forward.specs.declared.Body.{Body}
 use Rattle.forward.specs.declared.BodyState.{BodyState}
 use Rattle.forward.specs.declared.Stepped.{Stepped}
 use Rattle.run_laws.specs.Values.{goes, Fine3}
 use Rattle.run_laws.specs.Attitudes.{is_turned, exp_finite, Normed, normalized_is}
+use Rattle.common.specs.declared.Refusal.{Refusal}
+use Rattle.forward.specs.declared.GimbalStep.{GimbalStep}
+use Rattle.common.specs.Refusals.{Fate, going}
+use Rattle.actuators.specs.Pyramid.{Jacobian}
 
 -- ---- back from the turn to the rates and the time of a step
 pub turn_back : (w w2 : List Float) (dt : Float) → Fine3 (turn_of w w2 dt) → Fine3 w × Fine3 w2 × T (finite dt)
@@ -70,7 +69,7 @@ module _ (b : Body) (u : List Float) (k : ℕ) (s : BodyState) (a : List Float) 
     powered_goes e q2 d f n t = go (lt slack (power_excess b.wheels b.powers b.rig.wheel_count (slice 0 b.rig.wheel_count u) s.w)) t
       where
         done : Stepped
-        done = record { fate = Going; s = state_next b u s rate2 q2 d; tau = tau0; defect = defect }
+        done = record { fate = going; s = state_next b u s rate2 q2 d; tau = tau0; defect = defect }
 
         ok : Once b u s done
         ok =
@@ -82,31 +81,31 @@ module _ (b : Body) (u : List Float) (k : ℕ) (s : BodyState) (a : List Float) 
         go true t = absurd t
         go false t = ok
 
-    gimbals_goes : (e q2 : Quat) (x : Fate) (d : List Float) → Fine3 turn0 → Normed b.frame.tolerance (quat_mul s.q e) q2 → T (goes (gimbals_step x d b u k s tau0 defect rate2 q2).fate) → Once b u s (gimbals_step x d b u k s tau0 defect rate2 q2)
-    gimbals_goes e q2 Going d f n t = powered_goes e q2 d f n t
-    gimbals_goes e q2 (Refused i j) d f n t = absurd t
+    gimbals_goes : (e q2 : Quat) (x : Result GimbalStep Refusal) → Fine3 turn0 → Normed b.frame.tolerance (quat_mul s.q e) q2 → T (goes (gimbals_step x b u k s tau0 defect rate2 q2).fate) → Once b u s (gimbals_step x b u k s tau0 defect rate2 q2)
+    gimbals_goes e q2 (Ok g) f n t = powered_goes e q2 g.delta f n t
+    gimbals_goes e q2 (Err why) f n t = absurd t
 
     attitude_goes : (e q2 : Quat) → Fine3 turn0 → Normed b.frame.tolerance (quat_mul s.q e) q2 → T (goes (attitude_step b u k s tau0 defect rate2 q2).fate) → Once b u s (attitude_step b u k s tau0 defect rate2 q2)
     unfolding attitude_step
-    attitude_goes e q2 f n t = let x = step_gimbals b.rig.cmgs (gimbal_row b.rig u) s.delta b.frame.dt k in gimbals_goes e q2 x.fate x.delta f n t
+    attitude_goes e q2 f n t = gimbals_goes e q2 (step_gimbals b.rig.cmgs (gimbal_row b.rig u) s.delta b.frame.dt k) f n t
 
-    normed_goes : (e : Quat) (m : Normal) → normalized b.frame.tolerance (quat_mul s.q e) ≡ m → Fine3 turn0 → T (goes (normed_step m b u k s tau0 defect rate2).fate) → Once b u s (normed_step m b u k s tau0 defect rate2)
-    normed_goes e Normal.Not h f t = absurd t
-    normed_goes e (Normal.Is q2) h f t = attitude_goes e q2 f (normalized_is b.frame.tolerance (quat_mul s.q e) q2 h) t
+    normed_goes : (e : Quat) (m : Option Quat) → normalized b.frame.tolerance (quat_mul s.q e) ≡ m → Fine3 turn0 → T (goes (normed_step m b u k s tau0 defect rate2).fate) → Once b u s (normed_step m b u k s tau0 defect rate2)
+    normed_goes e None h f t = absurd t
+    normed_goes e (Some q2) h f t = attitude_goes e q2 f (normalized_is b.frame.tolerance (quat_mul s.q e) q2 h) t
 
-    turned_goes : (m : Turned) → (T (is_turned m) → Fine3 turn0) → T (goes (turned_step m b u k s tau0 defect rate2).fate) → Once b u s (turned_step m b u k s tau0 defect rate2)
-    turned_goes Turned.Outside f t = absurd t
-    turned_goes (Turned.Is e) f t = normed_goes e (normalized b.frame.tolerance (quat_mul s.q e)) refl (f tt) t
+    turned_goes : (m : Option Quat) → (T (is_turned m) → Fine3 turn0) → T (goes (turned_step m b u k s tau0 defect rate2).fate) → Once b u s (turned_step m b u k s tau0 defect rate2)
+    turned_goes None f t = absurd t
+    turned_goes (Some e) f t = normed_goes e (normalized b.frame.tolerance (quat_mul s.q e)) refl (f tt) t
 
   torqued_goes : T (goes (torqued_step b u k s tau0).fate) → Once b u s (torqued_step b u k s tau0)
   unfolding torqued_step rated_step
   torqued_goes t = turned_goes (defect_of b.frame.j s.w s.h tau0 wd0) (exp_so3 turn0) (exp_finite turn0) t
 
-  matrix_goes : (x : Fate) → T (goes (matrix_step x a b u k s).fate) → Once b u s (matrix_step x a b u k s)
-  matrix_goes Going t = torqued_goes t
-  matrix_goes (Refused i j) t = absurd t
+matrix_goes : (b : Body) (u : List Float) (k : ℕ) (s : BodyState) (x : Jacobian) → T (goes (matrix_step x b u k s).fate) → Once b u s (matrix_step x b u k s)
+matrix_goes b u k s (Ok a) t = torqued_goes b u k s a t
+matrix_goes b u k s (Err why) t = absurd t
 
 -- ONE STEP that goes on
 pub step_goes : (b : Body) (u : List Float) (k : ℕ) (s : BodyState) → T (goes (step b u k s).fate) → Once b u s (step b u k s)
 unfolding step
-step_goes b u k s t = matrix_goes b u k s (matrix_at b.rig.cmgs s.delta).a (matrix_at b.rig.cmgs s.delta).fate t
+step_goes b u k s t = matrix_goes b u k s (matrix_at b.rig.cmgs s.delta) t

@@ -1,5 +1,5 @@
 -- Torques and momenta of a control row: a finite torque comes of finite controls, and the wheels' momenta after a step are each wheel's own sum. Assumes nothing.
-use Rattle.std.specs.Prelude.{◌≡◌, Bool, not, cond, ◌&&◌, List, [], ◌∷◌, eqb, ltb, length, take, drop, Float}
+use Rattle.std.specs.Prelude.{◌≡◌, Bool, not, cond, ◌&&◌, List, [], ◌∷◌, eqb, ltb, length, take, drop, Float, Option, Some, None}
 use Rattle.std.proofs.Math.Path.{refl, ap}
 use Rattle.std.proofs.Common.{sym, ◌∙◌, arith, eqb→eq, ltb→lt, nltb→le, length-drop, get_or-set_same, get_or-take, get_or-drop}
 use Rattle.std.proofs.Math.Bool.{true, false}
@@ -15,8 +15,6 @@ use Rattle.float_laws.specs.Below.{below_none, below_next, below_three, below_fo
 use Rattle.float_laws.specs.Finite.{finites, add_finite, mul_finite}
 use Rattle.geom.specs.Vec.{add3, scale3, zero3, minus_one}
 use Rattle.actuators.specs.Maps.{axis_at, gimbals, no_cmgs}
-use Rattle.actuators.specs.declared.Cmgs.{Cmgs}
-use Rattle.actuators.specs.declared.Cmgs.TheVariants.{Without, With}
 use Rattle.control_rows.specs.Stored.{stored}
 use Rattle.control_rows.specs.StoredLaws.{stored_length}
 use Rattle.control_rows.specs.Parts.{axes, wheel_by, wheel_part, pyramid_part, gimbal_part, bare, width, parts_torque, row_torque, charged, momenta_next}
@@ -24,6 +22,7 @@ use Rattle.control_rows.specs.declared.Rig.{Rig}
 use Rattle.control_rows.specs.declared.WheelLaw.{WheelLaw}
 use Rattle.control_rows.specs.declared.WheelLaw.TheVariants.{Once, Published}
 use Rattle.run_laws.specs.Values.{Fine3, Fit3, FineN, FitN}
+use Rattle.actuators.specs.declared.CmgPyramid.{CmgPyramid}
 
 -- ---- numbers of a part of a row
 pub at_slice : (a e : ℕ) (u : List Float) (i : ℕ) → i < e - a → at (slice a e u) i ≡ at u (a + i)
@@ -87,15 +86,15 @@ module _ (law : WheelLaw) (t : List Float) (n : ℕ) (u w h tau : List Float) wh
 pyramid_back : (momentum : Float) (a u tau : List Float) → Fine3 (pyramid_part momentum a u tau) → Fine3 tau × (T (finite (at u 0)) × T (finite (at u 1)) × T (finite (at u 2)) × T (finite (at u 3)))
 pyramid_back momentum a u tau f = search finites depth 8
 
-gimbal_back : (c : Cmgs) (a u tau : List Float) → Fine3 (gimbal_part c a u tau) → Fine3 tau × FineN (gimbals c) u
-gimbal_back Without a u tau f = (f, below_none (λ i. T (finite (at u i))))
-gimbal_back (With p) a u tau f =
+gimbal_back : (c : Option CmgPyramid) (a u tau : List Float) → Fine3 (gimbal_part c a u tau) → Fine3 tau × FineN (gimbals c) u
+gimbal_back None a u tau f = (f, below_none (λ i. T (finite (at u i))))
+gimbal_back (Some p) a u tau f =
     let d = pyramid_back p.wheel_momentum_nms a u tau f in
     (d.0, below_four (λ i. T (finite (at u i))) d.1.0 d.1.1 d.1.2 d.1.3)
 
-gimbal_fits : (c : Cmgs) (a u tau : List Float) → Fit3 tau → Fit3 (gimbal_part c a u tau)
-gimbal_fits Without a u tau f = f
-gimbal_fits (With p) a u tau f = (add-fits binary64 _ _, add-fits binary64 _ _, add-fits binary64 _ _)
+gimbal_fits : (c : Option CmgPyramid) (a u tau : List Float) → Fit3 tau → Fit3 (gimbal_part c a u tau)
+gimbal_fits None a u tau f = f
+gimbal_fits (Some p) a u tau f = (add-fits binary64 _ _, add-fits binary64 _ _, add-fits binary64 _ _)
 
 -- ---- the whole row
 module _ (r : Rig) (wheels thrusters u w h a : List Float) where

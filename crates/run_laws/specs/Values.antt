@@ -1,19 +1,18 @@
 -- Words for what holds of lists of floats and of attitudes. Definitions only.
-use Rattle.std.specs.Prelude.{Bool, true, false, List, ℕ, ◌<◌, T, Float}
+use Rattle.std.specs.Prelude.{Bool, true, false, List, ℕ, ◌<◌, T, Float, Ok, Err}
 use Rattle.std.specs.Float.{binary64}
 use Rattle.std.specs.Float.Ieee.{fits}
 use Rattle.std.specs.Float.Ieee.Scale.{finite}
 use Rattle.common.specs.Lists.{at}
-use Rattle.common.specs.declared.Fate.{Fate}
-use Rattle.common.specs.declared.Fate.TheVariants.{Going, Refused}
 use Rattle.geom.specs.declared.Quat.{Quat}
 use Rattle.float_laws.specs.Order.{Held}
 use Rattle.float_laws.specs.Sizes.{Within}
+use Rattle.common.specs.Refusals.{Fate}
 
 -- it goes on: no refusal
 abbrev pub goes : Fate → Bool
-goes Going = true
-goes (Refused number place) = false
+goes (Ok _) = true
+goes (Err why) = false
 
 -- three finite numbers; three numbers that f64 holds
 abbrev pub Fine3 : List Float → Type 0

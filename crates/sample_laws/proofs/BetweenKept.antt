@@ -6,7 +6,6 @@ use Rattle.std.specs.Float.Ieee.Fits.{div-fits}
 use Rattle.std.specs.Float.Ieee.Scale.{finite}
 use Rattle.common.specs.Answer.{Given}
 use Rattle.common.specs.Lists.{at}
-use Rattle.common.specs.declared.Fate.TheVariants.{Going}
 use Rattle.float_laws.specs.Finite.{mul_finite}
 use Rattle.mean_laws.specs.Means.{size}
 use Rattle.problem.specs.Problems.{check}
@@ -26,6 +25,7 @@ use Rattle.sample_laws.specs.Between.{WithinNodes, BetweenNodes}
 use Rattle.sample_laws.specs.Courses.{RunNode, reconstruct_nodes}
 use Rattle.sample_laws.specs.Nodes.{RunNodes}
 use Rattle.sample_laws.proofs.Rates.{sampled_within}
+use Rattle.common.specs.Refusals.{going}
 
 -- ---- a path of which demand 3 holds
 module _ {p : Problem} {seed : List Float} {path : Path} {runs : ℕ} (P : Promised p seed path runs) where
@@ -57,7 +57,7 @@ module _ (p : Problem) (F : FitsP p) where
   pub plan_between : (size : ℕ) (path : Path) → Plans.answer (Plans.plan p size) ≡ Given path → BetweenNodes path
   plan_between size = answers_between (plan_answers p F size)
 
-  pub plan_from_between : (duration : Float) (rates torques : List Float) (size : ℕ) → ((Plans.plan_from p duration rates torques size).fate ≡ Going → Fit (Plans.seed_of (check p).problem duration torques))
+  pub plan_from_between : (duration : Float) (rates torques : List Float) (size : ℕ) → ((Plans.plan_from p duration rates torques size).fate ≡ going → Fit (Plans.seed_of (check p).problem duration torques))
       → (path : Path) → Plans.answer (Plans.plan_from p duration rates torques size) ≡ Given path → BetweenNodes path
   plan_from_between duration rates torques size G = answers_between (plan_from_answers p F duration rates torques size G)
 

@@ -1,5 +1,5 @@
 -- One dense sample of a run's nodes: where it lies, and its rate against its two nodes'. Assumes nothing.
-use Rattle.std.specs.Prelude.{◌≡◌, refl, Bool, true, false, List, ℕ, ◌+◌, ◌<◌, T, ltb, Float}
+use Rattle.std.specs.Prelude.{◌≡◌, refl, Bool, true, false, List, ℕ, ◌+◌, ◌<◌, T, ltb, Float, Option, Some, None, Ok, Err}
 use Rattle.std.proofs.Common.{sym, subst, ◌∙◌, arith, ltb-true, ltb-false}
 use Rattle.std.proofs.Math.Path.{ap}
 use Rattle.std.specs.Float.Ieee.{binary64, sub, div, lt, le, eq, fits}
@@ -7,10 +7,7 @@ use Rattle.std.specs.Float.Ieee.Fits.{mul-fits, div-fits}
 use Rattle.std.specs.Float.Ieee.Scale.{finite}
 use Rattle.common.specs.Floats.{plus_zero}
 use Rattle.common.specs.Answer.{Given}
-use Rattle.common.specs.Answer as Answer
 use Rattle.common.specs.Lists.{at}
-use Rattle.common.specs.declared.Fate.{Fate}
-use Rattle.common.specs.declared.Fate.TheVariants.{Going, Refused}
 use Rattle.float_laws.specs.Below.{below_three}
 use Rattle.float_laws.specs.Exact.{exact}
 use Rattle.float_laws.specs.Finite.{between_finite}
@@ -20,7 +17,6 @@ use Rattle.mean_laws.specs.Fractions.{plus_from0, fraction_later}
 use Rattle.mean_laws.specs.Means.{Plain, Fraction, Bounded}
 use Rattle.mean_laws.specs.MeanLaws.{mean_bounded, mean_null, first_bounded, second_bounded}
 use Rattle.mean_laws.specs.Weights.{plain_held}
-use Rattle.forward.specs.StepLaws.{refused_going}
 use Rattle.forward.specs.declared.Node.{Node}
 use Rattle.forward.specs.Runs.{node_at}
 use Rattle.run_laws.specs.Values.{Fine3}
@@ -30,11 +26,8 @@ use Rattle.samples.specs.Counts.{sample_count}
 use Rattle.samples.specs.Laws.{Plain3, has_next, first_node, last_node, means, sample_time}
 use Rattle.samples.specs.Rows.{rows}
 use Rattle.samples.specs.SampleLaws.{too_many, past_count}
-use Rattle.samples.specs.Samples.{time, rate, mean, fraction, earlier, time_of, sample, at_node}
-use Rattle.samples.specs.declared.Count.{Count}
-use Rattle.samples.specs.declared.Count.TheVariants as Count
+use Rattle.samples.specs.Samples.{Sampled, refused, given, time, rate, mean, fraction, earlier, time_of, sample, at_node}
 use Rattle.samples.specs.declared.PathSample.{PathSample}
-use Rattle.samples.specs.declared.Sampled.{Sampled}
 use Rattle.sample_laws.specs.Between.{SameRate, Amid, at_first, at_last, amid, WithinNodes}
 use Rattle.sample_laws.specs.Courses.{RunNode}
 use Rattle.sample_laws.specs.Nodes.{RunNodes}
@@ -77,12 +70,16 @@ amid_as : (nodes : List Node) (i : ℕ) (s : PathSample) {t t0 t1 : Float} → t
 amid_as nodes i s a b c l u f z = record { after = rw (c, ← a) l; upto = rw (c, ← b) u; part = rw (c, ← a, ← b) f; from_zero = rw (c, ← a, ← b) z }
 
 -- a sample that is given
-given_is : (x : Sampled) (s : PathSample) → of_sampled x ≡ Given s → (x.fate ≡ Going) × (s ≡ x.sample)
-given_is x s h = go x.fate refl
-  where
-    go : (e : Fate) → x.fate ≡ e → (x.fate ≡ Going) × (s ≡ x.sample)
-    go Going e = let g : Given x.sample ≡ Given s = rw e at h in (e, cc)
-    go (Refused n k) e = let g : Answer.Refused n k 0 ≡ Given s = rw e at h in let z : ◌≡◌ {A = ℕ} 0 1 = cc in absurd (omega arith)
+given_is : (x : Sampled) (s : PathSample) → of_sampled x ≡ Given s → x ≡ Ok s
+given_is (Ok r) s h = let e : r ≡ s = cc in rw e
+given_is (Err why) s h = let z : ◌≡◌ {A = ℕ} 0 1 = cc in absurd (omega arith)
+
+-- a refusal gives none
+refused_given : {n place : ℕ} {s : PathSample} → refused n place ≡ Ok s → ⊥
+refused_given h = let z : ◌≡◌ {A = ℕ} 0 1 = cc in omega arith
+
+given_one : {r s : PathSample} → given r ≡ given s → r ≡ s
+given_one h = cc
 
 module _ (nodes : List Node) (dt duration : Float) (F : RunNodes nodes dt) (D : T (finite duration)) where
   abbrev R : List (List Float)
@@ -127,8 +124,8 @@ module _ (nodes : List Node) (dt duration : Float) (F : RunNodes nodes dt) (D : 
       }
 
   -- ---- sample number index of n, at the time t
-  module _ (j : List (List Float)) (tol : Float) (requested : ℕ) (alpha : Float) (index : ℕ) {n : ℕ} (counted : sample_count duration requested alpha ≡ Count.Of n) (below : index < n) {s : PathSample}
-      (given : (sample j tol duration R requested alpha index).fate ≡ Going) (is : s ≡ (sample j tol duration R requested alpha index).sample) where
+  module _ (j : List (List Float)) (tol : Float) (requested : ℕ) (alpha : Float) (index : ℕ) {n : ℕ} (counted : sample_count duration requested alpha ≡ Some n) (below : index < n) {s : PathSample}
+      (gives : sample j tol duration R requested alpha index ≡ Ok s) where
     abbrev t : Float
     t = time_of duration n index
 
@@ -189,10 +186,10 @@ module _ (nodes : List Node) (dt duration : Float) (F : RunNodes nodes dt) (D : 
       part = fraction_later t (time R i) t_plain i_plain past (time R (i + 1)) n_plain upto i_from0
 
       mean_of : s.w ≡ mean (rate R i) (rate R (i + 1)) (fraction R i t)
-      mean_of = (means j tol duration R requested alpha index counted below refl after before refl given is).0
+      mean_of = (means j tol duration R requested alpha index counted below refl after before refl gives).0
 
       timed : s.t ≡ t
-      timed = sample_time j tol duration R requested alpha index counted below refl after before refl given is
+      timed = sample_time j tol duration R requested alpha index counted below refl after before refl gives
 
       part_of : (k : ℕ) → at (mean (rate R i) (rate R (i + 1)) (fraction R i t)) k ≡ at s.w k
       part_of k = ap (λ (v : List Float). at v k) (sym mean_of)
@@ -214,7 +211,7 @@ module _ (nodes : List Node) (dt duration : Float) (F : RunNodes nodes dt) (D : 
 
     end_is : (k : ℕ) → sample j tol duration R requested alpha index ≡ at_node R k t → (s.w ≡ rate R k) × (s.t ≡ t)
     unfolding at_node
-    end_is k e = (ap (λ (x : PathSample). x.w) is ∙ ap (λ (x : Sampled). x.sample.w) e, ap (λ (x : PathSample). x.t) is ∙ ap (λ (x : Sampled). x.sample.t) e)
+    end_is k e = let same = given_one (sym gives ∙ e) in (ap (λ (x : PathSample). x.w) same, ap (λ (x : PathSample). x.t) same)
 
     within : WithinNodes nodes s
     within = by (le t (time R 0)) (le (time R 16) t) refl refl
@@ -228,19 +225,13 @@ module _ (nodes : List Node) (dt duration : Float) (F : RunNodes nodes dt) (D : 
   pub sampled_within : (j : List (List Float)) (tol : Float) (requested : ℕ) (alpha : Float) (index : ℕ) (s : PathSample) → of_sampled (sample j tol duration R requested alpha index) ≡ Given s → WithinNodes nodes s
   sampled_within j tol requested alpha index s h = count (sample_count duration requested alpha) refl
     where
-      x : Sampled
-      x = sample j tol duration R requested alpha index
+      g : sample j tol duration R requested alpha index ≡ Ok s
+      g = given_is (sample j tol duration R requested alpha index) s h
 
-      g : (x.fate ≡ Going) × (s ≡ x.sample)
-      g = given_is x s h
+      place : (n : ℕ) (b : Bool) → ltb index n ≡ b → sample_count duration requested alpha ≡ Some n → WithinNodes nodes s
+      place n true l e = within j tol requested alpha index e (ltb-true index n l) g
+      place n false l e = absurd (refused_given (past_count j tol R duration requested alpha index e (ltb-false index n l) ∙ g))
 
-      none : (a b : ℕ) (y : Sampled) → y.fate ≡ Refused a b → y ≡ x → WithinNodes nodes s
-      none a b y f e = absurd (refused_going (sym f ∙ ap (λ (z : Sampled). z.fate) e ∙ g.0))
-
-      place : (n : ℕ) (b : Bool) → ltb index n ≡ b → sample_count duration requested alpha ≡ Count.Of n → WithinNodes nodes s
-      place n true l e = within j tol requested alpha index e (ltb-true index n l) g.0 g.1
-      place n false l e = none 20 1 _ refl (past_count j tol R duration requested alpha index e (ltb-false index n l))
-
-      count : (c : Count) → sample_count duration requested alpha ≡ c → WithinNodes nodes s
-      count Count.TooMany e = none 20 0 _ refl (too_many j tol R duration requested alpha index e)
-      count (Count.Of n) e = place n (ltb index n) refl e
+      count : (c : Option ℕ) → sample_count duration requested alpha ≡ c → WithinNodes nodes s
+      count None e = absurd (refused_given (too_many j tol R duration requested alpha index e ∙ g))
+      count (Some n) e = place n (ltb index n) refl e

@@ -1,5 +1,5 @@
 -- The nodes of a run: node k stands at k steps of its time, and f64 holds its rate, whatever the problem's and the decision's numbers are. Assumes nothing.
-use Rattle.std.specs.Prelude.{◌≡◌, List, length, set, replicate, Float}
+use Rattle.std.specs.Prelude.{◌≡◌, List, length, set, replicate, Float, Ok, Err}
 use Rattle.std.proofs.Math.Path.{refl, subst}
 use Rattle.std.proofs.Common.{sym, ◌∙◌, arith, get_or-set_same, get_or-set_other}
 use Prim.Native.Nat.{ℕ, zero, suc, ◌<◌, ◌≤◌}
@@ -9,8 +9,6 @@ use Rattle.std.specs.Float.{binary64}
 use Rattle.std.specs.Float.Ieee.{fits, of_bits}
 use Rattle.std.specs.Float.Ieee.Fits.{add-fits}
 use Rattle.common.specs.Iter.{iter}
-use Rattle.common.specs.declared.Fate.{Fate}
-use Rattle.common.specs.declared.Fate.TheVariants.{Going, Refused}
 use Rattle.float_laws.specs.Below.{below_none, below_next}
 use Rattle.control_rows.specs.declared.WheelLaw.TheVariants.{Once}
 use Rattle.problem.specs.declared.Problem.{Problem}
@@ -18,13 +16,15 @@ use Rattle.problem.specs.declared.CheckedProblem.{CheckedProblem}
 use Rattle.forward.specs.Decisions.{row_of, step_time}
 use Rattle.forward.specs.Reconstruct.{admit, reconstruct_by, reconstruct_under, reconstruct}
 use Rattle.forward.specs.Runs.{start, start_of, node_of, no_node, blank_node, Rollout, advance, rollout_by, rollout_turn, start_rollout, rollout, end_by_value, end_of, run_from, run_under}
-use Rattle.forward.specs.Steps.{Body, rate_next, step}
+use Rattle.forward.specs.Steps.{rate_next, step}
+use Rattle.forward.specs.declared.Body.{Body}
 use Rattle.forward.specs.declared.Node.{Node}
 use Rattle.forward.specs.declared.BodyState.{BodyState}
 use Rattle.forward.specs.Runs.{node_at}
 use Rattle.run_laws.specs.Runs.{time_of}
 use Rattle.run_laws.specs.Steps.{step_goes}
 use Rattle.run_laws.specs.Values.{goes, Fit3}
+use Rattle.common.specs.Refusals.{Fate}
 
 -- node k of a run of steps of the time dt
 pub record RunNode (dt : Float) (k : ℕ) (n : Node) : Type 0 where
@@ -76,8 +76,8 @@ module _ (b : Body) (n : ℕ) (z : List Float) (from : BodyState) (F : Fit3 from
       went t = unfold advance in t
 
       go : (e : Fate) → x.fate ≡ e → T (goes (rollout_by e b n z k x).fate) → Kept (suc k) (rollout_by e b n z k x)
-      go Going p t = one_more k x l (K (rw p tt)) (went t)
-      go (Refused i j) p t = absurd (rw p at t)
+      go (Ok _) p t = one_more k x l (K (rw p tt)) (went t)
+      go (Err why) p t = absurd (rw p at t)
 
   turns : (k : ℕ) → k ≤ 17 → T (goes (iter (rollout_turn b n z) (start_rollout from) k).fate) → Kept k (iter (rollout_turn b n z) (start_rollout from) k)
   unfolding iter
@@ -92,8 +92,8 @@ module _ (b : Body) (n : ℕ) (z : List Float) (from : BodyState) (F : Fit3 from
       kept t = unfold rollout in turns 16 (omega arith) t
 
       go : (e : Fate) → (rollout b n z from).fate ≡ e → T (goes (end_by_value e b (rollout b n z from)).fate) → Nodes dt 17 (end_by_value e b (rollout b n z from)).nodes
-      go Going p t = let K = kept (rw p tt) in put dt 16 (rollout b n z from).nodes _ (omega arith) K.long (run_node_law dt 16 (rollout b n z from).s _ K.rate) K.nodes
-      go (Refused i j) p t = absurd t
+      go (Ok _) p t = let K = kept (rw p tt) in put dt 16 (rollout b n z from).nodes _ (omega arith) K.long (run_node_law dt 16 (rollout b n z from).s _ K.rate) K.nodes
+      go (Err why) p t = absurd t
 
 -- a run begins at rest
 start_fits : (p : CheckedProblem) → Fit3 (start_of p).w
@@ -106,5 +106,5 @@ unfolding reconstruct_under run_under
 reconstruct_nodes p z t = go (admit p).fate (admit p).problem t
   where
     go : (e : Fate) (c : CheckedProblem) → T (goes (reconstruct_by e Once c z).run.fate) → Nodes (step_time z) 17 (reconstruct_by e Once c z).run.nodes
-    go Going c t = run_nodes _ _ z (start_of c) (start_fits c) t
-    go (Refused i j) c t = absurd t
+    go (Ok _) c t = run_nodes _ _ z (start_of c) (start_fits c) t
+    go (Err why) c t = absurd t

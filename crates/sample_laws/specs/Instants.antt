@@ -1,5 +1,5 @@
 -- The times of nodes and samples: node 0 stands at a zero, nodes after one above 0 are not below 0, and a sample's time is no NaN. Assumes nothing.
-use Rattle.std.specs.Prelude.{◌≡◌, refl, Bool, true, false, cond, ℕ, zero, suc, ◌*◌, ◌^◌, ◌≤◌, ◌<◌, T, ltb, ℤ, pos, Float}
+use Rattle.std.specs.Prelude.{◌≡◌, refl, Bool, true, false, cond, ℕ, zero, suc, ◌*◌, ◌^◌, ◌≤◌, ◌<◌, T, ltb, ℤ, pos, Float, Some, None}
 use Rattle.std.proofs.Common.{arith, lit≤, pow_pos}
 use Rattle.std.proofs.Math.Dec.{eqb-suc-zero}
 use Rattle.std.specs.Float.{nan, inf, fin}
@@ -23,7 +23,6 @@ use Rattle.samples.specs.CountLaws.{given_count}
 use Rattle.samples.specs.Counts as Counts
 use Rattle.samples.specs.Counts.{from_rate, most, sample_count}
 use Rattle.samples.specs.Samples.{time_of}
-use Rattle.samples.specs.declared.Count.TheVariants.{Of, TooMany}
 
 -- ---- a whole number as a float
 whole_plus : (k : ℕ) → T (plus (of_int binary64 (pos k)))
@@ -75,11 +74,11 @@ times_plus (fin false m e) j k p a b h = plus_times (of_int binary64 (pos k)) m 
 -- ---- the time of a sample
 
 -- a count that is given is 17 at least
-least_count : (duration : Float) (requested : ℕ) (alpha : Float) {n : ℕ} → sample_count duration requested alpha ≡ Of n → 17 ≤ n
+least_count : (duration : Float) (requested : ℕ) (alpha : Float) {n : ℕ} → sample_count duration requested alpha ≡ Some n → 17 ≤ n
 unfolding sample_count Counts.count_within
 least_count duration requested alpha {n} = by (most requested (from_rate duration alpha)) (ltb 100000 (most requested (from_rate duration alpha))) (omega arith)
   where
-    by : (m : ℕ) (b : Bool) → 17 ≤ m → cond b TooMany (Of m) ≡ Of n → 17 ≤ n
+    by : (m : ℕ) (b : Bool) → 17 ≤ m → cond b None (Some m) ≡ Some n → 17 ≤ n
     by m true l h = absurd (let z : ◌≡◌ {A = ℕ} 0 1 = cc in omega arith)
     by m false l h = let z : m ≡ n = cc in omega arith
 
@@ -115,7 +114,7 @@ zero_one : T (le plus_zero one)
 unfolding of_bits le
 zero_one = tt
 
-pub sample_number : (duration : Float) (requested : ℕ) (alpha : Float) {n : ℕ} (index : ℕ) → T (finite duration) → sample_count duration requested alpha ≡ Of n → index < n → T (number (time_of duration n index))
+pub sample_number : (duration : Float) (requested : ℕ) (alpha : Float) {n : ℕ} (index : ℕ) → T (finite duration) → sample_count duration requested alpha ≡ Some n → index < n → T (number (time_of duration n index))
 unfolding time_of
 sample_number duration requested alpha {n} index p c l =
     let m : n ≤ 100000 = given_count duration requested alpha c in

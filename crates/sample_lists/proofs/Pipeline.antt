@@ -1,11 +1,10 @@
 -- What is under way in turn j: sample j - 1 is placed, sample j - 2 turned, the rows before it stand. Assumes nothing.
 use Prim.Native.Nat.{ℕ, ◌+◌, ◌-◌, ◌<◌, ◌≤◌}
-use mathlib.Core.Path.{◌≡◌, ap, ◌∙◌, subst}
+use mathlib.Core.Path.{◌≡◌, ap, ◌∙◌}
 use mathlib.Core.List.{List}
 use native.Mathlib.Omega.{arith}
 use lib.Ieee.{Float}
-use Rattle.samples.specs.Samples.{time_of}
-use Rattle.samples.specs.declared.Sampled.{Sampled}
+use Rattle.samples.specs.Samples.{Sampled, time_of}
 use Rattle.sample_lists.specs.declared.stages.Placed.{Placed}
 use Rattle.sample_lists.specs.declared.stages.Turning.{Turning}
 use Rattle.sample_lists.specs.StagesInner.{StepRows, placed, turning, finished, timed}

@@ -1,10 +1,9 @@
 -- A sample by its three stages is the definition's: what a step's samples share is read from its row. Assumes nothing.
 use Rattle.std.specs.Prelude.{ℕ, ◌+◌, ◌<◌, ◌≡◌, Bool, List, Float}
 use Rattle.std.proofs.Math.Path.{refl}
-use Rattle.std.proofs.Common.{sym, ◌∙◌}
 use Rattle.std.proofs.Math.Bool.{true, false}
 use Rattle.std.specs.Float.{binary64}
-use Rattle.std.specs.Float.Ieee.{div, lt, le}
+use Rattle.std.specs.Float.Ieee.{div, le}
 use Rattle.geom.specs.Vec as Vec
 use Rattle.geom.specs.declared.Quat.{Quat}
 use Rattle.samples.specs.Samples.{time, attitude, rate, momentum, mean, rate_change, turned_by, turned, between, interpolate}

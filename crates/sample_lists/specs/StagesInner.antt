@@ -6,9 +6,8 @@ use Rattle.common.specs.Iter.{iter}
 use Rattle.common.specs.Lists.{at}
 use Rattle.geom.specs.Vec as Vec
 use Rattle.geom.specs.Quats.{norm3, exp_at}
-use Rattle.samples.specs.Samples.{time, attitude, rate, momentum, mean, rate_change, rotation, at_node, turned_by, onward, interpolate, time_of}
+use Rattle.samples.specs.Samples.{Sampled, time, attitude, rate, momentum, mean, rate_change, rotation, at_node, turned_by, onward, interpolate, time_of}
 use Rattle.samples.specs.declared.PathSample.{PathSample}
-use Rattle.samples.specs.declared.Sampled.{Sampled}
 use Rattle.sample_lists.specs.Lists.{Listing, listing}
 use Rattle.sample_lists.specs.declared.stages.Placed.{Placed}
 use Rattle.sample_lists.specs.declared.stages.Turning.{Turning}

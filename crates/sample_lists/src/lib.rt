@@ -8,17 +8,27 @@ ghost use Rattle.sample_lists.specs.StagesInner as Stages;
 
 use self::stages::{finish, numbers, place, turn, unplaced, unturned};
 use self::steps::step_rows;
-use common::{Fate, SOLVER_NODES};
-use samples::{Count, sample_count};
+use common::{Refusal, SOLVER_NODES};
+use samples::sample_count;
 
 pub mod stages;
 pub mod steps;
 
-// How a list ended, and how many rows it has.
+// How a list ended, and how many rows it has. No Result: rows are counted beside a refusal too, those before the refused sample.
 #[derive(Clone, Copy)]
 pub struct Listed {
-    pub fate: Fate,
+    pub fate: Result<(), Refusal>,
     pub rows: usize,
+}
+
+// A refusal before the first row.
+fn not_begun(number: usize) -> Listed
+    ensures { result ≡ Lists.not_begun number }
+{
+    Listed {
+        fate: Err(Refusal { number, place: 0 }),
+        rows: 0,
+    }
 }
 
 // The index k, or the last one where there is no such sample.
@@ -45,8 +55,7 @@ fn put_rows(
     let steps = step_rows(inertia, nodes);
     let mut placed = unplaced();
     let mut turning = unturned();
-    let mut j: usize = 0;
-    while j < count + 2 {
+    for j in 0..count + 2 {
         let turned = turn(placed);
         let next = place(
             duration,
@@ -58,27 +67,21 @@ fn put_rows(
             held_index(j, count),
         );
         if 2 <= j {
-            let made = finish(inertia, tolerance, nodes, &steps, turning, j - 2);
-            let fate = made.fate;
-            match fate {
-                Fate::Refused(n, p) => {
+            match finish(inertia, tolerance, nodes, &steps, turning, j - 2) {
+                Err(why) => {
                     return Listed {
-                        fate: Fate::Refused(n, p),
+                        fate: Err(why),
                         rows: j - 2,
                     };
                 }
-                Fate::Going => {}
+                Ok(sample) => out[j - 2] = numbers(sample),
             }
-            let sample = made.sample;
-            let row = numbers(sample);
-            out[j - 2] = row;
         }
         turning = turned;
         placed = next;
-        j += 1;
     }
     Listed {
-        fate: Fate::Going,
+        fate: Ok(()),
         rows: count,
     }
 }
@@ -95,20 +98,11 @@ pub fn sample_list(
 ) -> Listed
     ensures { Lists.Gives inertia tolerance duration nodes.now requested alpha out.old result out.new }
 {
-    let counted = sample_count(duration, requested, alpha);
-    match counted {
-        Count::TooMany => Listed {
-            fate: Fate::Refused(20, 0),
-            rows: 0,
-        },
-        Count::Of(count) => {
-            if count > out.len() {
-                return Listed {
-                    fate: Fate::Refused(99, 0),
-                    rows: 0,
-                };
-            }
-            put_rows(inertia, tolerance, duration, nodes, count, out)
-        }
+    let Some(count) = sample_count(duration, requested, alpha) else {
+        return not_begun(20);
+    };
+    if count > out.len() {
+        return not_begun(99);
     }
+    put_rows(inertia, tolerance, duration, nodes, count, out)
 }

@@ -6,10 +6,10 @@ ghost use Rattle.sample_lists.specs.Lists as Lists;
 ghost use Rattle.sample_lists.specs.StagesInner as Stages;
 
 use super::steps::{step_change, step_time, step_torque};
-use common::SOLVER_NODES;
-use geom::Turned;
+use common::{Refusal, SOLVER_NODES};
+use geom::Quat;
+use samples::PathSample;
 use samples::nodes::{at_node, attitude, mean, momentum, rate, rotation, time, time_of, turned_by};
-use samples::{PathSample, Sampled};
 
 // A sample's time, the node before it, the time since that node, the rotation since then and its angle.
 #[derive(Clone, Copy)]
@@ -27,19 +27,18 @@ pub struct Turning {
     pub t: f64,
     pub i: usize,
     pub s: f64,
-    pub turn: Turned,
+    pub turn: Option<Quat>,
 }
 
 // Before the first sample is placed.
 pub fn unplaced() -> Placed
     ensures { result.i ≡ 0 }
 {
-    let v = [0.0; 3];
     Placed {
         t: 0.0,
         i: 0,
         s: 0.0,
-        v: v,
+        v: [0.0; 3],
         n: 0.0,
     }
 }
@@ -52,7 +51,7 @@ pub fn unturned() -> Turning
         t: 0.0,
         i: 0,
         s: 0.0,
-        turn: Turned::Outside,
+        turn: None,
     }
 }
 
@@ -61,14 +60,12 @@ fn walk(nodes: &[[f64; 22]; SOLVER_NODES], from: usize, t: f64) -> usize
     requires { (from < 16) × Stages.Passed nodes.now t from }
     ensures { (result ≡ Stages.walk nodes.now t) × (result < 16) × Stages.Passed nodes.now t result }
 {
-    let mut i = from;
-    while i < 15 {
+    for i in from..15 {
         if !(time(nodes, i + 1) < t) {
             return i;
         }
-        i += 1;
     }
-    i
+    15
 }
 
 // Stage 1 of sample k. The walk along the nodes goes on from node `from`, where the walk to the time `since` ended, unless the time has fallen.
@@ -91,26 +88,18 @@ pub fn place(
     let s = t - time(nodes, i);
     let v = rotation(rate(nodes, i), step_change(steps, i), s);
     let n = geom::norm3(v);
-    Placed {
-        t: t,
-        i: i,
-        s: s,
-        v: v,
-        n: n,
-    }
+    Placed { t, i, s, v, n }
 }
 
 // Stage 2.
 pub fn turn(p: Placed) -> Turning
     ensures { result ≡ Stages.turning p }
 {
-    let v = p.v;
-    let turn = geom::exp_at(v, p.n);
     Turning {
         t: p.t,
         i: p.i,
         s: p.s,
-        turn: turn,
+        turn: geom::exp_at(p.v, p.n),
     }
 }
 
@@ -122,26 +111,24 @@ fn amidst(
     steps: &[[f64; 7]; 16],
     p: Turning,
     index: usize,
-) -> Sampled
+) -> Result<PathSample, Refusal>
     requires { p.i < 16 }
     ensures { result ≡ Stages.amidst inertia tolerance nodes.now steps.now p index }
 {
     let i = p.i;
-    let turn = p.turn;
     let f = p.s / step_time(steps, i);
     let w = mean(rate(nodes, i), rate(nodes, i + 1), f);
     let h = mean(momentum(nodes, i), momentum(nodes, i + 1), f);
     let l = geom::add3(geom::apply_tensor(inertia, w), h);
     let tau = geom::add3(step_torque(steps, i), geom::cross(w, l));
-    let q = attitude(nodes, i);
     let from = PathSample {
         t: p.t,
-        q: q,
-        w: w,
-        tau: tau,
-        h: h,
+        q: attitude(nodes, i),
+        w,
+        tau,
+        h,
     };
-    turned_by(turn, tolerance, from, index)
+    turned_by(p.turn, tolerance, from, index)
 }
 
 // Stage 3: the sample, or a refusal.
@@ -152,16 +139,16 @@ pub fn finish(
     steps: &[[f64; 7]; 16],
     p: Turning,
     index: usize,
-) -> Sampled
+) -> Result<PathSample, Refusal>
     requires { p.i < 16 }
     ensures { result ≡ Stages.finished inertia tolerance nodes.now steps.now p index }
 {
     let t = p.t;
     if t <= time(nodes, 0) {
-        return at_node(nodes, 0, t);
+        return Ok(at_node(nodes, 0, t));
     }
     if t >= time(nodes, 16) {
-        return at_node(nodes, 16, t);
+        return Ok(at_node(nodes, 16, t));
     }
     amidst(inertia, tolerance, nodes, steps, p, index)
 }
@@ -170,11 +157,8 @@ pub fn finish(
 pub fn numbers(s: PathSample) -> [f64; 14]
     ensures { result ≡ Lists.numbers s }
 {
-    let q = s.q;
-    let w = s.w;
-    let u = s.tau;
-    let h = s.h;
+    let PathSample { t, q, w, tau: u, h } = s;
     [
-        s.t, q.w, q.x, q.y, q.z, w[0], w[1], w[2], u[0], u[1], u[2], h[0], h[1], h[2],
+        t, q.w, q.x, q.y, q.z, w[0], w[1], w[2], u[0], u[1], u[2], h[0], h[1], h[2],
     ]
 }

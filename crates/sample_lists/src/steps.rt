@@ -21,13 +21,9 @@ fn step_row(inertia: [[f64; 3]; 3], nodes: &[[f64; 22]; SOLVER_NODES], i: usize)
 pub fn step_rows(inertia: [[f64; 3]; 3], nodes: &[[f64; 22]; SOLVER_NODES]) -> [[f64; 7]; 16]
     ensures { Stages.StepRows inertia nodes.now result }
 {
-    let blank = [0.0; 7];
-    let mut out = [blank; 16];
-    let mut i: usize = 0;
-    while i < 16 {
-        let row = step_row(inertia, nodes, i);
-        out[i] = row;
-        i += 1;
+    let mut out = [[0.0; 7]; 16];
+    for i in 0..16 {
+        out[i] = step_row(inertia, nodes, i);
     }
     out
 }

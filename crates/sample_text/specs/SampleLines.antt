@@ -1,12 +1,8 @@
 -- What is printed of a text's dense samples, one step a sample from index 0 on: a line `(samples`, then a line for each sample, the last of which closes both
 -- brackets. A refusal is printed in the place of its sample, and nothing after it. Definitions only.
-use Rattle.std.specs.Prelude.{◌≡◌, ℕ, ◌+◌, Bool, true, false, cond, not, List, [], ◌++◌, ◌==◌, Float}
+use Rattle.std.specs.Prelude.{◌≡◌, ℕ, ◌+◌, Bool, true, false, cond, not, List, [], ◌++◌, ◌==◌, Float, Option, Some, None, Ok, Err}
 use Rattle.common.specs.Answer.{Answer, Given, Refused}
-use Rattle.common.specs.declared.Fate.{Fate}
-use Rattle.common.specs.declared.Fate.TheVariants as Fate
 use Rattle.samples.specs.Counts.{sample_count}
-use Rattle.samples.specs.declared.Count.{Count}
-use Rattle.samples.specs.declared.Count.TheVariants as Count
 use Rattle.samples.specs.declared.PathSample.{PathSample}
 use Rattle.text.specs.Bytes.{bytes}
 use Rattle.text_writer.specs.Puts.{Puts}
@@ -15,11 +11,12 @@ use Rattle.refusal_text.specs.Sentences as Sentences
 use Rattle.sample_text.specs.SampleTexts.{numbers, answer, sample_course}
 use Rattle.sample_text.specs.declared.Course.{Course}
 use Rattle.sample_text.specs.declared.lines.Line.{Line}
+use Rattle.common.specs.Refusals.{Fate}
 
 -- ---- the last sample of a path
-abbrev pub last_by : Count → ℕ → Bool
-last_by (Count.Of count) index = index + 1 == count
-last_by Count.TooMany index = true
+abbrev pub last_by : Option ℕ → ℕ → Bool
+last_by (Some count) index = index + 1 == count
+last_by None index = true
 
 unfoldable pub is_last : Float → ℕ → Float → ℕ → Bool
 is_last duration requested alpha index = last_by (sample_count duration requested alpha) index
@@ -43,8 +40,8 @@ line_by form (Refused number place runs) = Texts.refused number place runs
 
 -- of a path that was planned a refusal is a sample's, else the plan's
 abbrev pub is_planned : Fate → Bool
-is_planned Fate.Going = true
-is_planned (Fate.Refused number place) = false
+is_planned (Ok _) = true
+is_planned (Err why) = false
 
 abbrev pub sentence_by : {A : Type 0} → Bool → Answer A → List ℕ
 sentence_by sampled (Given a) = []

@@ -1,10 +1,8 @@
 -- Dense samples of the plan of a problem's text: what is answered, and what is left of the lent numbers. Definitions only.
-use Rattle.std.specs.Prelude.{◌≡◌, ℕ, cond, List, [], ◌∷◌, ◌++◌, length, drop, pos, nat_lt, Float}
+use Rattle.std.specs.Prelude.{◌≡◌, ℕ, cond, List, [], ◌∷◌, ◌++◌, length, drop, pos, nat_lt, Float, Result, Ok, Err}
 use Rattle.std.specs.Float.{binary64}
 use Rattle.std.specs.Float.Ieee.{of_int}
 use Rattle.common.specs.Answer.{Answer, Given, Refused}
-use Rattle.common.specs.declared.Fate.{Fate}
-use Rattle.common.specs.declared.Fate.TheVariants as Fate
 use Rattle.geom.specs.Vec.{tensor}
 use Rattle.problem.specs.Problems.{check}
 use Rattle.problem.specs.declared.Problem.{Problem}
@@ -12,13 +10,15 @@ use Rattle.planner.specs.Plans as Plans
 use Rattle.planner.specs.declared.Planned.{Planned}
 use Rattle.samples.specs.Rows.{rows}
 use Rattle.samples.specs.Samples as Samples
+use Rattle.samples.specs.Samples.{Sampled}
 use Rattle.samples.specs.declared.PathSample.{PathSample}
-use Rattle.samples.specs.declared.Sampled.{Sampled}
 use Rattle.problem_text.specs.Reader.{read_problem}
 use Rattle.text_writer.specs.Texts as Texts
 use Rattle.plan_text.specs.PlanTexts.{planned}
 use Rattle.sample_text.specs.declared.Course.{Course}
 use Rattle.sample_text.specs.declared.Dense.{Dense}
+use Rattle.common.specs.Refusals.{Fate}
+use Rattle.common.specs.declared.Refusal.{Refusal}
 
 -- ---- a text's plan
 
@@ -50,19 +50,19 @@ sample_of c requested alpha index = Samples.sample (tensor c.inertia) c.toleranc
 
 -- a refused plan has its own runs, a refused sample 0
 abbrev pub dense_by : Fate → ℕ → Sampled → Dense
-dense_by (Fate.Refused number place) runs s = record { runs = runs; sampled = Samples.refused number place }
-dense_by Fate.Going runs s = record { runs = 0; sampled = s }
+dense_by (Err why) runs s = record { runs = runs; sampled = Err why }
+dense_by (Ok _) runs s = record { runs = 0; sampled = s }
 
 unfoldable pub sample_course : Course → ℕ → Float → ℕ → Dense
 sample_course c requested alpha index = dense_by c.fate c.runs (sample_of c requested alpha index)
 
 -- ---- the answer: a sample, or number, place and runs
-abbrev pub answer_by : {A : Type 0} → Fate → ℕ → A → Answer A
-answer_by Fate.Going runs a = Given a
-answer_by (Fate.Refused number place) runs a = Refused number place runs
+abbrev pub answer_by : {A : Type 0} → ℕ → Result A Refusal → Answer A
+answer_by runs (Ok a) = Given a
+answer_by runs (Err why) = Refused why.number why.place runs
 
 unfoldable pub answer : Dense → Answer PathSample
-answer d = answer_by d.sampled.fate d.runs d.sampled.sample
+answer d = answer_by d.runs d.sampled
 
 -- ---- what is told of it, and the lent numbers at exit. Fewer than 14 get nothing, and then no run begins.
 

@@ -6,15 +6,14 @@ ghost use Rattle.planner.specs.Plans as Plans;
 ghost use Rattle.sample_text.specs.SampleTexts as SampleTexts;
 ghost use Rattle.sample_text.specs.SampleTexts.{Gives, plan_course};
 
-use common::{Fate, SOLVER_NODES};
+use common::{Refusal, SOLVER_NODES};
 use forward::Node;
 use geom::tensor;
 use plan_text::plan_read;
 use planner::{Planned, profiled};
 use problem::{Problem, check};
-use samples::nodes::refused;
 use samples::rows::rows;
-use samples::{PathSample, Sampled, sample};
+use samples::{PathSample, sample};
 use std::num::nearest_u64_to_f64;
 use text_writer::forms::state_of;
 
@@ -23,7 +22,7 @@ pub mod lines;
 // A text's plan: how it ended, the forward runs begun, and what dense samples are taken of and with. A refused plan has no nodes but blank ones.
 #[derive(Clone, Copy)]
 pub struct Course {
-    pub fate: Fate,
+    pub fate: Result<(), Refusal>,
     pub runs: usize,
     pub inertia: [f64; 9],
     pub tolerance: f64,
@@ -36,7 +35,7 @@ pub struct Course {
 #[derive(Clone, Copy)]
 pub struct Dense {
     pub runs: usize,
-    pub sampled: Sampled,
+    pub sampled: Result<PathSample, Refusal>,
 }
 
 // The acceleration of a problem's profile, which the Rust's `plan` asks for dense samples with.
@@ -81,7 +80,7 @@ pub fn plan_course(text: &[u8], ws: &mut [f64]) -> Course
 }
 
 // Sample number index of the path.
-fn sample_of(c: Course, requested: usize, alpha: f64, index: usize) -> Sampled
+fn sample_of(c: Course, requested: usize, alpha: f64, index: usize) -> Result<PathSample, Refusal>
     ensures { result ≡ SampleTexts.sample_of c requested alpha index }
 {
     let inertia = c.inertia;
@@ -103,13 +102,12 @@ fn sample_of(c: Course, requested: usize, alpha: f64, index: usize) -> Sampled
 pub fn sample_course(c: Course, requested: usize, alpha: f64, index: usize) -> Dense
     ensures { result ≡ SampleTexts.sample_course c requested alpha index }
 {
-    let fate = c.fate;
-    match fate {
-        Fate::Refused(number, place) => Dense {
+    match c.fate {
+        Err(why) => Dense {
             runs: c.runs,
-            sampled: refused(number, place),
+            sampled: Err(why),
         },
-        Fate::Going => Dense {
+        Ok(()) => Dense {
             runs: 0,
             sampled: sample_of(c, requested, alpha, index),
         },
@@ -139,11 +137,7 @@ fn put_numbers(out: &mut [f64], v: &[f64])
     requires { length v.now ≤ length out.old }
     ensures { out.new ≡ v.now ++ drop (length v.now) out.old }
 {
-    let mut k: usize = 0;
-    while k < v.len() {
-        out[k] = v[k];
-        k += 1;
-    }
+    out[..v.len()].copy_from_slice(v);
 }
 
 // A sample's 14 numbers, and 0; or a refusal's place and runs, and its number.
@@ -151,16 +145,13 @@ fn put_dense(d: Dense, out: &mut [f64]) -> u64
     requires { 14 ≤ length out.old }
     ensures { (result ≡ SampleTexts.number (SampleTexts.answer d)) × (out.new ≡ SampleTexts.headed (SampleTexts.answer d) out.old) }
 {
-    let made = d.sampled;
-    let fate = made.fate;
-    match fate {
-        Fate::Refused(number, place) => {
-            let v = [float_of(place), float_of(d.runs)];
+    match d.sampled {
+        Err(why) => {
+            let v = [float_of(why.place), float_of(d.runs)];
             put_numbers(out, &v);
-            number as u64
+            why.number as u64
         }
-        Fate::Going => {
-            let s = made.sample;
+        Ok(s) => {
             let v = numbers_of(s);
             put_numbers(out, &v);
             0

@@ -5,9 +5,9 @@ ghost use Rattle.sample_text.specs.SampleLines as SampleLines;
 ghost use Rattle.sample_text.specs.SampleLines.{Refuses, StepsAt};
 
 use super::{Course, numbers_of, sample_course};
-use common::Fate;
+use common::Refusal;
 use refusal_text::explain;
-use samples::{Count, PathSample, sample_count};
+use samples::{PathSample, sample_count};
 use text_writer::put::{put_all, put_words};
 use text_writer::write_refused;
 
@@ -20,19 +20,14 @@ pub struct Line {
 }
 
 // Whether a sample is the path's last.
+#[tactic(auto, unfolding(crate::specs::SampleLines::is_last))]
 pub fn is_last(duration: f64, requested: usize, alpha: f64, index: usize) -> bool
     ensures { result ≡ SampleLines.is_last duration requested alpha index }
 {
     let counted = sample_count(duration, requested, alpha);
     match counted {
-        Count::TooMany => true,
-        Count::Of(count) => {
-            if index < count {
-                index + 1 == count
-            } else {
-                false
-            }
-        }
+        None => true,
+        Some(count) => index < count && index + 1 == count,
     }
 }
 
@@ -63,8 +58,8 @@ pub fn is_planned(c: Course) -> bool
 {
     let fate = c.fate;
     match fate {
-        Fate::Refused(_, _) => false,
-        Fate::Going => true,
+        Err(_) => false,
+        Ok(()) => true,
     }
 }
 
@@ -101,16 +96,13 @@ pub fn write_step(
 {
     let sampled = is_planned(c);
     let d = sample_course(c, requested, alpha, index);
-    let made = d.sampled;
-    let fate = made.fate;
-    match fate {
-        Fate::Refused(number, place) => tell_refused(sampled, number, place, d.runs, out, said),
-        Fate::Going => {
-            let s = made.sample;
+    match d.sampled {
+        Err(why) => tell_refused(sampled, why.number, why.place, d.runs, out, said),
+        Ok(s) => {
             let last = is_last(c.duration, requested, alpha, index);
             let bytes = put_sample(out, index, last, s);
             Line {
-                bytes: bytes,
+                bytes,
                 said: 0,
                 more: !last,
             }

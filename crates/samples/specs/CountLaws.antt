@@ -1,5 +1,5 @@
 -- Whole numbers against floats, and the count by its outcomes. Assumes nothing.
-use Rattle.std.specs.Prelude.{◌≡◌, ℕ, suc, ◌+◌, ◌-◌, ◌*◌, ◌/◌, ◌^◌, ◌<◌, ◌≤◌, max, Bool, true, false, cond, not, T, ℤ, pos, nat_lt, refl, Float}
+use Rattle.std.specs.Prelude.{◌≡◌, ℕ, suc, ◌+◌, ◌-◌, ◌*◌, ◌/◌, ◌^◌, ◌<◌, ◌≤◌, max, Bool, true, false, cond, not, T, ℤ, pos, nat_lt, refl, Float, Some, None}
 use Rattle.std.proofs.Common.{sym, ap, ◌∙◌, true≢false, le-div_iff_mul-le, div-lt_iff_lt-mul, le_of_suc-le-suc, suc-mul, mul-one, zero-mul, mul_right_comm, ltb-true, ltb-false, lt→ltb, le→leb}
 use native.Mathlib.Omega.{arith}
 use Rattle.std.proofs.Math.Arith.{le→nltb}
@@ -16,7 +16,6 @@ use Rattle.float_laws.specs.Order.{le_up, up_nlt}
 use Rattle.float_laws.specs.Place.{same_lt}
 use Rattle.float_laws.specs.Signs.{plus, round_plus, round_neg, round_held}
 use Rattle.samples.specs.Counts.{spacing, from_rate, most, count_within, sample_count}
-use Rattle.samples.specs.declared.Count.TheVariants.{Of, TooMany}
 use Rattle.samples.specs.CountInner.{Steps}
 
 -- k as a float, and x rounded up and cast
@@ -216,22 +215,22 @@ module _ (duration : Float) (requested : ℕ) (alpha : Float) {v : Float} {n : �
   unfolding from_rate
   rated = rw d
 
-  many : 100000 < most requested (ceiling steps + 1) → TooMany ≡ sample_count duration requested alpha
+  many : 100000 < most requested (ceiling steps + 1) → None ≡ sample_count duration requested alpha
   unfolding sample_count count_within
   many h = rw (← rated, is_true (nat_lt 100000 (most requested (ceiling steps + 1))) (lt→ltb 100000 (most requested (ceiling steps + 1)) h))
 
-  few : {k : ℕ} → k ≡ most requested (ceiling steps + 1) → k ≤ 100000 → Of k ≡ sample_count duration requested alpha
+  few : {k : ℕ} → k ≡ most requested (ceiling steps + 1) → k ≤ 100000 → Some k ≡ sample_count duration requested alpha
   unfolding sample_count count_within
   few {k} q h = rw (← rated, ← q, is_false (nat_lt 100000 k) (le→nltb 100000 k h))
 
-  pub many_requested : 100000 < n → TooMany ≡ sample_count duration requested alpha
+  pub many_requested : 100000 < n → None ≡ sample_count duration requested alpha
   many_requested h = many (omega arith)
 
-  pub many_steps : lt (of_bits binary64 0x40f8_69f0_0000_0000) steps ≡ true → TooMany ≡ sample_count duration requested alpha
+  pub many_steps : lt (of_bits binary64 0x40f8_69f0_0000_0000) steps ≡ true → None ≡ sample_count duration requested alpha
   many_steps h = many (omega (arith, ceiling_over 99999 (omega arith) steps (rw limit_is h)))
 
   module _ {y : Float} (m : n ≤ 100000) (w : y ≡ whole (n - 1)) where
-    pub as_requested : lt y steps ≡ false → Of n ≡ sample_count duration requested alpha
+    pub as_requested : lt y steps ≡ false → Some n ≡ sample_count duration requested alpha
     as_requested h = few (omega (arith, ceiling_under (n - 1) (omega arith) steps (rw w at h))) m
 
     module _ (h : lt y steps ≡ true) (f : lt (of_bits binary64 0x40f8_69f0_0000_0000) steps ≡ false) where
@@ -241,14 +240,14 @@ module _ (duration : Float) (requested : ℕ) (alpha : Float) {v : Float} {n : �
       pub steps_few : ceiling steps ≤ 99999
       steps_few = ceiling_under 99999 (omega arith) steps (rw limit_is f)
 
-      pub by_rate : {r : ℕ} → r ≡ ceiling steps → Of (r + 1) ≡ sample_count duration requested alpha
+      pub by_rate : {r : ℕ} → r ≡ ceiling steps → Some (r + 1) ≡ sample_count duration requested alpha
       by_rate q = few (omega (arith, ceiling_over (n - 1) (omega arith) steps (rw w at h))) (omega (arith, steps_few))
 
 -- a count that is given is at most 100,000
-pub given_count : (duration : Float) (requested : ℕ) (alpha : Float) {n : ℕ} → sample_count duration requested alpha ≡ Of n → n ≤ 100000
+pub given_count : (duration : Float) (requested : ℕ) (alpha : Float) {n : ℕ} → sample_count duration requested alpha ≡ Some n → n ≤ 100000
 unfolding sample_count count_within
 given_count duration requested alpha {n} = by (most requested (from_rate duration alpha)) (nat_lt 100000 (most requested (from_rate duration alpha))) refl
   where
-    by : (m : ℕ) (b : Bool) → nat_lt 100000 m ≡ b → cond b TooMany (Of m) ≡ Of n → n ≤ 100000
+    by : (m : ℕ) (b : Bool) → nat_lt 100000 m ≡ b → cond b None (Some m) ≡ Some n → n ≤ 100000
     by m true e h = absurd (let z : ◌≡◌ {A = ℕ} 0 1 = cc in omega arith)
     by m false e h = let z : m ≡ n = cc in omega (arith, ltb-false)

@@ -1,11 +1,9 @@
 -- How many samples a path has, as `densify` of scvx.rs counts them. Definitions only.
-use Rattle.std.specs.Prelude.{ℕ, ◌+◌, max, cond, from_bits, nat_lt, Float}
+use Rattle.std.specs.Prelude.{ℕ, ◌+◌, max, cond, from_bits, nat_lt, Float, Option, Some, None}
 use Rattle.std.specs.Float.{binary64}
 use Rattle.std.specs.Float.Ieee.{mul, div, to_unsigned}
 use Rattle.float.specs.Ops as Ops
 use Rattle.geom.specs.Vec.{two}
-use Rattle.samples.specs.declared.Count.{Count}
-use Rattle.samples.specs.declared.Count.TheVariants.{Of, TooMany}
 
 -- 0.001
 abbrev milli : Float
@@ -33,8 +31,8 @@ abbrev pub most : ℕ → ℕ → ℕ
 most requested rate = max (max requested rate) 17
 
 -- 100,000 samples are given, 100,001 refused
-unfoldable pub count_within : ℕ → Count
-count_within count = cond (nat_lt 100000 count) TooMany (Of count)
+unfoldable pub count_within : ℕ → Option ℕ
+count_within count = cond (nat_lt 100000 count) None (Some count)
 
-unfoldable pub sample_count : Float → ℕ → Float → Count
+unfoldable pub sample_count : Float → ℕ → Float → Option ℕ
 sample_count duration requested alpha = count_within (most requested (from_rate duration alpha))

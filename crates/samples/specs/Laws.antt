@@ -1,27 +1,20 @@
 -- What a user of dense samples can count on: where a sample is an end node, that there is always a next node, and which rate and momentum a sample has that
 -- falls on a node. Assumes nothing.
-use Rattle.std.specs.Prelude.{◌≡◌, ℕ, zero, suc, ◌+◌, ◌<◌, ◌≤◌, Bool, true, false, cond, List, refl, Float}
-use Rattle.std.proofs.Common.{sym, ap, ◌∙◌, inl, inr, eq-or-lt_of_le, arith}
+use Rattle.std.specs.Prelude.{◌≡◌, ℕ, ◌+◌, ◌<◌, ◌≤◌, Bool, true, false, cond, List, refl, Float, Option, Some, None, Ok}
+use Rattle.std.proofs.Common.{sym, ◌∙◌, inl, inr, eq-or-lt_of_le, arith}
 use Rattle.std.specs.Float.Ieee.{lt, le}
 use Rattle.common.specs.Floats.{one}
-use Rattle.common.specs.Iter.{iter}
 use Rattle.common.specs.Lists.{at}
-use Rattle.common.specs.declared.Fate.TheVariants.{Going}
 use Rattle.geom.specs.Quats.{exp_so3, normalized, quat_mul}
-use Rattle.geom.specs.declared.Normal.{Normal}
-use Rattle.geom.specs.declared.Normal.TheVariants as Normal
-use Rattle.geom.specs.declared.Turned.{Turned}
-use Rattle.geom.specs.declared.Turned.TheVariants as Turned
 use Rattle.float_laws.specs.Below.{below_three, below_turns}
 use Rattle.float_laws.specs.Exact.{exact}
 use Rattle.mean_laws.specs.Means.{Plain}
 use Rattle.mean_laws.specs.Weights.{nought, mean_first, mean_last}
-use Rattle.forward.specs.StepLaws.{refused_going}
 use Rattle.samples.specs.Counts.{sample_count}
-use Rattle.samples.specs.Samples.{time, rate, momentum, at_node, mean, normed_by, turned_by, turned, fraction, between, onward, earlier, interpolate, time_of, sample}
+use Rattle.samples.specs.Samples.{refused, given, time, rate, momentum, at_node, mean, normed_by, turned_by, turned, fraction, between, onward, earlier, interpolate, time_of, sample}
 use Rattle.samples.specs.SampleLaws.{not_below, at_first, at_last, amid, in_count}
-use Rattle.samples.specs.declared.Count.TheVariants as Count
 use Rattle.samples.specs.declared.PathSample.{PathSample}
+use Rattle.geom.specs.declared.Quat.{Quat}
 
 -- ---- the walk never ends at the last node: where it is taken, node 16 is not before t, and there is a next node
 next_by_law : (nodes : List (List Float)) (t : Float) → lt (time nodes 16) t ≡ false → (i : ℕ) → i ≤ 15 → (b : Bool) → lt (time nodes (i + 1)) t ≡ b → cond b (i + 1) i ≤ 15
@@ -43,15 +36,21 @@ record Kept (s : PathSample) (r : PathSample) : Type 0 where
   pub rates : r.w ≡ s.w
   pub momenta : r.h ≡ s.h
 
-normed_kept : (x : Normal) (s : PathSample) (index : ℕ) → (normed_by x s index).fate ≡ Going → Kept s (normed_by x s index).sample
-normed_kept Normal.Not s index g = absurd (refused_going g)
-normed_kept (Normal.Is q) s index g = record { times = refl; rates = refl; momenta = refl }
+refused_given : {n place : ℕ} {r : PathSample} → refused n place ≡ Ok r → ⊥
+refused_given h = let z : ◌≡◌ {A = ℕ} 0 1 = cc in omega arith
 
-turned_by_kept : (x : Turned) (tol : Float) (s : PathSample) (index : ℕ) → (turned_by x tol s index).fate ≡ Going → Kept s (turned_by x tol s index).sample
-turned_by_kept Turned.Outside tol s index g = absurd (refused_going g)
-turned_by_kept (Turned.Is e) tol s index g = normed_kept (normalized tol (quat_mul s.q e)) s index g
+given_one : {q r : PathSample} → given q ≡ given r → q ≡ r
+given_one h = cc
 
-turned_kept : (tol : Float) (s : PathSample) (v : List Float) (index : ℕ) → (turned tol s v index).fate ≡ Going → Kept s (turned tol s v index).sample
+normed_kept : (x : Option Quat) (s : PathSample) (index : ℕ) {r : PathSample} → normed_by x s index ≡ Ok r → Kept s r
+normed_kept None s index g = absurd (refused_given g)
+normed_kept (Some q) s index g = rw (← given_one g) (record { times = refl; rates = refl; momenta = refl })
+
+turned_by_kept : (x : Option Quat) (tol : Float) (s : PathSample) (index : ℕ) {r : PathSample} → turned_by x tol s index ≡ Ok r → Kept s r
+turned_by_kept None tol s index g = absurd (refused_given g)
+turned_by_kept (Some e) tol s index g = normed_kept (normalized tol (quat_mul s.q e)) s index g
+
+turned_kept : (tol : Float) (s : PathSample) (v : List Float) (index : ℕ) {r : PathSample} → turned tol s v index ≡ Ok r → Kept s r
 unfolding turned
 turned_kept tol s v index g = turned_by_kept (exp_so3 v) tol s index g
 
@@ -78,7 +77,7 @@ mean_end a b p q =
     (mean_last (at a 2) (at b 2) (p 2 (omega arith)) (q 2 (omega arith)))
 
 -- ---- sample number index of n, at the time t
-module _ (j : List (List Float)) (tol duration : Float) (nodes : List (List Float)) (requested : ℕ) (alpha : Float) (index : ℕ) {n : ℕ} {t : Float} (counted : sample_count duration requested alpha ≡ Count.Of n)
+module _ (j : List (List Float)) (tol duration : Float) (nodes : List (List Float)) (requested : ℕ) (alpha : Float) (index : ℕ) {n : ℕ} {t : Float} (counted : sample_count duration requested alpha ≡ Some n)
     (below : index < n) (timed : t ≡ time_of duration n index) where
   placed : sample j tol duration nodes requested alpha index ≡ interpolate j tol nodes t index
   placed = rw timed (sym (in_count j tol nodes duration requested alpha index counted below))
@@ -93,20 +92,17 @@ module _ (j : List (List Float)) (tol duration : Float) (nodes : List (List Floa
     last_node h = placed ∙ sym (at_last j tol nodes t index refl after refl h)
 
     -- else, where the sample is given, node i before it and the next one finite:
-    module _ {i : ℕ} {r : PathSample} (before : le (time nodes 16) t ≡ false) (walked : i ≡ earlier nodes t) (given : (sample j tol duration nodes requested alpha index).fate ≡ Going)
-        (is : r ≡ (sample j tol duration nodes requested alpha index).sample) where
+    module _ {i : ℕ} {r : PathSample} (before : le (time nodes 16) t ≡ false) (walked : i ≡ earlier nodes t) (given : sample j tol duration nodes requested alpha index ≡ Ok r) where
       inside : sample j tol duration nodes requested alpha index ≡ between j tol nodes i t index
       inside = placed ∙ sym (amid j tol nodes t index refl after refl before walked)
 
       pub means : (r.w ≡ mean (rate nodes i) (rate nodes (i + 1)) (fraction nodes i t)) × (r.h ≡ mean (momentum nodes i) (momentum nodes (i + 1)) (fraction nodes i t))
       unfolding between
-      means =
-          let kept = turned_kept _ _ _ index (rw inside at given) in
-          (rw (is, inside) kept.rates, rw (is, inside) kept.momenta)
+      means = let kept = turned_kept _ _ _ index (sym inside ∙ given) in (kept.rates, kept.momenta)
 
       pub sample_time : r.t ≡ t
       unfolding between
-      sample_time = let kept = turned_kept _ _ _ index (rw inside at given) in rw (is, inside) kept.times
+      sample_time = (turned_kept _ _ _ index (sym inside ∙ given)).times
 
       -- at the fraction 0 of either sign its rate is node i's, as exact numbers
       pub rate_at_node : (s : Bool) → fraction nodes i t ≡ nought s → Plain3 (rate nodes i) → Plain3 (rate nodes (i + 1)) → (k : ℕ) → k < 3 → exact (at r.w k) ≡ exact (at (rate nodes i) k)

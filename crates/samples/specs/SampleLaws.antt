@@ -1,5 +1,5 @@
 -- A sample by what code works out on its way: the walk along the nodes, the cases of a time, the parts between two nodes. Assumes nothing.
-use Rattle.std.specs.Prelude.{◌≡◌, ℕ, ◌+◌, ◌<◌, ◌≤◌, Bool, true, false, ◌||◌, List, nat_lt, refl, Float}
+use Rattle.std.specs.Prelude.{◌≡◌, ℕ, ◌+◌, ◌<◌, ◌≤◌, Bool, true, false, ◌||◌, List, nat_lt, refl, Float, Some, None}
 use Rattle.std.proofs.Common.{lt→ltb}
 use Rattle.std.proofs.Math.Arith.{le→nltb}
 use Rattle.std.specs.Float.{binary64}
@@ -11,7 +11,6 @@ use Rattle.geom.specs.Vec.{euler_lhs}
 use Rattle.geom.specs.declared.Quat.{Quat}
 use Rattle.samples.specs.Counts.{sample_count}
 use Rattle.samples.specs.Samples.{time, attitude, rate, momentum, refused, at_node, mean, rate_change, rotation, turned, between, onward, earlier, interpolate, time_of, sample}
-use Rattle.samples.specs.declared.Count.TheVariants as Count
 
 -- the walk stands at node i after i steps
 module _ (nodes : List (List Float)) (t : Float) (i : ℕ) {x : Float} (p : i ≡ iter (onward nodes t) 0 i) (q : x ≡ time nodes (i + 1)) where
@@ -57,11 +56,11 @@ module _ (j : List (List Float)) (tol : Float) (nodes : List (List Float)) where
 
   -- ---- sample number index
   module _ (duration : Float) (requested : ℕ) (alpha : Float) (index : ℕ) where
-    pub too_many : sample_count duration requested alpha ≡ Count.TooMany → refused 20 0 ≡ sample j tol duration nodes requested alpha index
+    pub too_many : sample_count duration requested alpha ≡ None → refused 20 0 ≡ sample j tol duration nodes requested alpha index
     unfolding sample
     too_many e = rw e
 
-    module _ {n : ℕ} (e : sample_count duration requested alpha ≡ Count.Of n) where
+    module _ {n : ℕ} (e : sample_count duration requested alpha ≡ Some n) where
       pub in_count : index < n → interpolate j tol nodes (time_of duration n index) index ≡ sample j tol duration nodes requested alpha index
       unfolding sample
       in_count h = rw (e, is_true (nat_lt index n) (lt→ltb index n h))

@@ -1,33 +1,27 @@
 -- One sample of a path, as `densify` and `interpolate` of scvx.rs have it. Definitions only.
-use Rattle.std.specs.Prelude.{ℕ, ◌+◌, cond, List, [], ◌∷◌, pos, nat_lt, Float}
+use Rattle.std.specs.Prelude.{ℕ, ◌+◌, cond, List, [], ◌∷◌, pos, nat_lt, Float, Option, Some, None, Result, Ok, Err}
 use Rattle.std.specs.Float.{binary64}
 use Rattle.std.specs.Float.Ieee.{sub, mul, div, lt, le, of_int}
 use Rattle.common.specs.Floats as Floats
 use Rattle.common.specs.Iter.{iter}
 use Rattle.common.specs.Lists.{at}
-use Rattle.common.specs.declared.Fate.TheVariants as Fate
 use Rattle.geom.specs.Vec as Vec
 use Rattle.geom.specs.Quats.{quat, quat_mul, exp_so3, normalized}
 use Rattle.geom.specs.declared.Quat.{Quat}
-use Rattle.geom.specs.declared.Normal.{Normal}
-use Rattle.geom.specs.declared.Normal.TheVariants as Normal
-use Rattle.geom.specs.declared.Turned.{Turned}
-use Rattle.geom.specs.declared.Turned.TheVariants as Turned
 use Rattle.samples.specs.Counts.{sample_count}
-use Rattle.samples.specs.declared.Count.{Count}
-use Rattle.samples.specs.declared.Count.TheVariants as Count
 use Rattle.samples.specs.declared.PathSample.{PathSample}
-use Rattle.samples.specs.declared.Sampled.{Sampled}
+use Rattle.common.specs.Refusals.{refusal}
+use Rattle.common.specs.declared.Refusal.{Refusal}
 
--- a refusal, with a sample of zeros
+-- what a request for a sample gives: a sample, or a refusal
+abbrev pub Sampled : Type 0
+Sampled = Result PathSample Refusal
+
 abbrev pub refused : ℕ → ℕ → Sampled
-refused n place = record {
-  fate = Fate.Refused n place;
-  sample = record { t = Floats.plus_zero; q = quat Floats.plus_zero Floats.plus_zero Floats.plus_zero Floats.plus_zero; w = Vec.zero3; tau = Vec.zero3; h = Vec.zero3 };
-}
+refused n place = Err (refusal n place)
 
 abbrev pub given : PathSample → Sampled
-given s = record { fate = Fate.Going; sample = s }
+given s = Ok s
 
 -- ---- node k of a path, by its row: time, attitude, rate, torque, body momentum; the wheel momenta after them are not read
 abbrev pub time : List (List Float) → ℕ → Float
@@ -46,8 +40,11 @@ abbrev pub momentum : List (List Float) → ℕ → List Float
 momentum nodes k = at (Vec.row nodes k) 11 ∷ at (Vec.row nodes k) 12 ∷ at (Vec.row nodes k) 13 ∷ []
 
 -- the sample that is node k, at its own time t
+abbrev pub node_sample : List (List Float) → ℕ → Float → PathSample
+node_sample nodes k t = record { t = t; q = attitude nodes k; w = rate nodes k; tau = torque nodes k; h = momentum nodes k }
+
 unfoldable pub at_node : List (List Float) → ℕ → Float → Sampled
-at_node nodes k t = given (record { t = t; q = attitude nodes k; w = rate nodes k; tau = torque nodes k; h = momentum nodes k })
+at_node nodes k t = given (node_sample nodes k t)
 
 -- ---- between two nodes
 
@@ -64,13 +61,13 @@ unfoldable pub rotation : List Float → List Float → Float → List Float
 rotation w wd s = Vec.add3 (Vec.scale3 w s) (Vec.scale3 wd (mul binary64 (mul binary64 Vec.half s) s))
 
 -- the sample s with the attitude q
-abbrev pub normed_by : Normal → PathSample → ℕ → Sampled
-normed_by Normal.Not s index = refused 5 index
-normed_by (Normal.Is q) s index = given (record { t = s.t; q = q; w = s.w; tau = s.tau; h = s.h })
+abbrev pub normed_by : Option Quat → PathSample → ℕ → Sampled
+normed_by None s index = refused 5 index
+normed_by (Some q) s index = given (record { t = s.t; q = q; w = s.w; tau = s.tau; h = s.h })
 
-abbrev pub turned_by : Turned → Float → PathSample → ℕ → Sampled
-turned_by Turned.Outside tol s index = refused 11 index
-turned_by (Turned.Is e) tol s index = normed_by (normalized tol (quat_mul s.q e)) s index
+abbrev pub turned_by : Option Quat → Float → PathSample → ℕ → Sampled
+turned_by None tol s index = refused 11 index
+turned_by (Some e) tol s index = normed_by (normalized tol (quat_mul s.q e)) s index
 
 -- the sample s, its attitude turned by the rotation vector v
 unfoldable pub turned : Float → PathSample → List Float → ℕ → Sampled
@@ -112,9 +109,9 @@ interpolate j tol nodes t index =
 unfoldable pub time_of : Float → ℕ → ℕ → Float
 time_of duration count index = div binary64 (mul binary64 duration (of_int binary64 (pos index))) (sub binary64 (of_int binary64 (pos count)) Floats.one)
 
-abbrev pub sample_by : Count → List (List Float) → Float → Float → List (List Float) → ℕ → Sampled
-sample_by Count.TooMany j tol duration nodes index = refused 20 0
-sample_by (Count.Of count) j tol duration nodes index = cond (nat_lt index count) (interpolate j tol nodes (time_of duration count index) index) (refused 20 1)
+abbrev pub sample_by : Option ℕ → List (List Float) → Float → Float → List (List Float) → ℕ → Sampled
+sample_by None j tol duration nodes index = refused 20 0
+sample_by (Some count) j tol duration nodes index = cond (nat_lt index count) (interpolate j tol nodes (time_of duration count index) index) (refused 20 1)
 
 -- sample number index of a path, from 0
 unfoldable pub sample : List (List Float) → Float → Float → List (List Float) → ℕ → Float → ℕ → Sampled

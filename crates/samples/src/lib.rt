@@ -7,8 +7,8 @@ ghost use Rattle.samples.specs.Counts as Counts;
 ghost use Rattle.samples.specs.Samples as Samples;
 
 use self::counts::{larger, spacing, whole, whole_above};
-use self::nodes::{refused, time_of};
-use common::{Fate, SOLVER_NODES};
+use self::nodes::{interpolate, time_of};
+use common::{Refusal, SOLVER_NODES};
 use geom::Quat;
 
 // The most dense samples of a path.
@@ -28,37 +28,23 @@ pub struct PathSample {
     pub h: [f64; 3],
 }
 
-// What `sample` answers: a sample, or a refusal and zeros.
-#[derive(Clone, Copy)]
-pub struct Sampled {
-    pub fate: Fate,
-    pub sample: PathSample,
-}
-
-// What `sample_count` answers: a number of samples, or refusal 20.
-#[derive(Clone, Copy)]
-pub enum Count {
-    Of(usize),
-    TooMany,
-}
-
 // How many samples a path of this duration has: what is requested, what the rate asks for, and the 17 nodes, whichever is most. The rate's steps are compared as a
 // float, which no NaN passes, and made a whole number only where they are most.
-pub fn sample_count(duration: f64, requested: usize, alpha: f64) -> Count
+pub fn sample_count(duration: f64, requested: usize, alpha: f64) -> Option<usize>
     ensures { result ≡ Counts.sample_count duration requested alpha }
 {
     let least = larger(requested, 17);
     if least > MAX_SAMPLES {
-        return Count::TooMany;
+        return None;
     }
     let steps = duration / spacing(alpha);
     if steps > 99_999.0 {
-        return Count::TooMany;
+        return None;
     }
     if steps > whole(least - 1) {
-        Count::Of(whole_above(steps) + 1)
+        Some(whole_above(steps) + 1)
     } else {
-        Count::Of(least)
+        Some(least)
     }
 }
 
@@ -71,19 +57,20 @@ pub fn sample(
     requested: usize,
     alpha: f64,
     index: usize,
-) -> Sampled
+) -> Result<PathSample, Refusal>
     ensures { result ≡ Samples.sample inertia tolerance duration nodes.now requested alpha index }
 {
-    let counted = sample_count(duration, requested, alpha);
-    match counted {
-        Count::TooMany => refused(20, 0),
-        Count::Of(count) => {
-            if index < count {
-                let t = time_of(duration, count, index);
-                nodes::interpolate(inertia, tolerance, nodes, t, index)
-            } else {
-                refused(20, 1)
-            }
-        }
+    let too_many = Refusal {
+        number: 20,
+        place: 0,
+    };
+    let count = sample_count(duration, requested, alpha).ok_or(too_many)?;
+    if index >= count {
+        return Err(Refusal {
+            number: 20,
+            place: 1,
+        });
     }
+    let t = time_of(duration, count, index);
+    interpolate(inertia, tolerance, nodes, t, index)
 }

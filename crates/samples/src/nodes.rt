@@ -4,34 +4,10 @@ ghost use Rattle.std.specs.Prelude.{◌≡◌, ◌<◌, ◌≤◌, false};
 ghost use Rattle.std.specs.Float.Ieee.{lt};
 ghost use Rattle.samples.specs.Samples as Samples;
 
+use super::PathSample;
 use super::counts::whole;
-use super::{PathSample, Sampled};
-use common::{Fate, SOLVER_NODES};
-use geom::{Normal, Quat, Turned};
-
-// A refusal, with a sample of zeros.
-pub fn refused(number: usize, place: usize) -> Sampled
-    ensures { result ≡ Samples.refused number place }
-{
-    let three = [0.0; 3];
-    let q = Quat {
-        w: 0.0,
-        x: 0.0,
-        y: 0.0,
-        z: 0.0,
-    };
-    let blank = PathSample {
-        t: 0.0,
-        q: q,
-        w: three,
-        tau: three,
-        h: three,
-    };
-    Sampled {
-        fate: Fate::Refused(number, place),
-        sample: blank,
-    }
-}
+use common::{Refusal, SOLVER_NODES};
+use geom::Quat;
 
 // The time of sample index of count.
 pub fn time_of(duration: f64, count: usize, index: usize) -> f64
@@ -82,24 +58,16 @@ pub fn momentum(nodes: &[[f64; 22]; SOLVER_NODES], k: usize) -> [f64; 3]
 }
 
 // Node k, at the sample's own time.
-pub fn at_node(nodes: &[[f64; 22]; SOLVER_NODES], k: usize, t: f64) -> Sampled
+pub fn at_node(nodes: &[[f64; 22]; SOLVER_NODES], k: usize, t: f64) -> PathSample
     requires { k < 17 }
-    ensures { result ≡ Samples.at_node nodes.now k t }
+    ensures { result ≡ Samples.node_sample nodes.now k t }
 {
-    let q = attitude(nodes, k);
-    let w = rate(nodes, k);
-    let tau = torque(nodes, k);
-    let h = momentum(nodes, k);
-    let sample = PathSample {
-        t: t,
-        q: q,
-        w: w,
-        tau: tau,
-        h: h,
-    };
-    Sampled {
-        fate: Fate::Going,
-        sample: sample,
+    PathSample {
+        t,
+        q: attitude(nodes, k),
+        w: rate(nodes, k),
+        tau: torque(nodes, k),
+        h: momentum(nodes, k),
     }
 }
 
@@ -125,34 +93,28 @@ pub fn rotation(w: [f64; 3], wd: [f64; 3], s: f64) -> [f64; 3]
 }
 
 // The sample s with its attitude turned by a turn that was worked out before.
-pub fn turned_by(turn: Turned, tolerance: f64, s: PathSample, index: usize) -> Sampled
+pub fn turned_by(
+    turn: Option<Quat>,
+    tolerance: f64,
+    s: PathSample,
+    index: usize,
+) -> Result<PathSample, Refusal>
     ensures { result ≡ Samples.turned_by turn tolerance s index }
 {
-    let q0 = s.q;
-    let w = s.w;
-    let tau = s.tau;
-    let h = s.h;
-    let Turned::Is(e) = turn else {
-        return refused(11, index);
-    };
-    let Normal::Is(q) = q0.mul(e).normalized(tolerance) else {
-        return refused(5, index);
-    };
-    let sample = PathSample {
-        t: s.t,
-        q: q,
-        w: w,
-        tau: tau,
-        h: h,
-    };
-    Sampled {
-        fate: Fate::Going,
-        sample: sample,
-    }
+    let e = turn.ok_or(Refusal {
+        number: 11,
+        place: index,
+    })?;
+    let turned = s.q.mul(e).normalized(tolerance);
+    let q = turned.ok_or(Refusal {
+        number: 5,
+        place: index,
+    })?;
+    Ok(PathSample { q, ..s })
 }
 
 // The sample s with its attitude turned by v.
-fn turned(tolerance: f64, s: PathSample, v: [f64; 3], index: usize) -> Sampled
+fn turned(tolerance: f64, s: PathSample, v: [f64; 3], index: usize) -> Result<PathSample, Refusal>
     ensures { result ≡ Samples.turned tolerance s v index }
 {
     turned_by(geom::exp_so3(v), tolerance, s, index)
@@ -166,7 +128,7 @@ fn between(
     i: usize,
     t: f64,
     index: usize,
-) -> Sampled
+) -> Result<PathSample, Refusal>
     requires { i < 16 }
     ensures { result ≡ Samples.between inertia tolerance nodes.now i t index }
 {
@@ -181,14 +143,12 @@ fn between(
     let wd = rate_change(w0, w1, dt);
     let tau = geom::euler_lhs(inertia, wd, w, h);
     let q = attitude(nodes, i);
-    let from = PathSample {
-        t: t,
-        q: q,
-        w: w,
-        tau: tau,
-        h: h,
-    };
-    turned(tolerance, from, rotation(w0, wd, s), index)
+    turned(
+        tolerance,
+        PathSample { t, q, w, tau, h },
+        rotation(w0, wd, s),
+        index,
+    )
 }
 
 // The last node before t, by the first 16; the last node's time is not before t.
@@ -196,14 +156,12 @@ fn earlier(nodes: &[[f64; 22]; SOLVER_NODES], t: f64) -> usize
     requires { lt (Samples.time nodes.now 16) t ≡ false }
     ensures { (result ≡ Samples.earlier nodes.now t) × (result < 16) }
 {
-    let mut i: usize = 0;
-    while i < 15 {
+    for i in 0..15 {
         if !(time(nodes, i + 1) < t) {
             return i;
         }
-        i += 1;
     }
-    i
+    15
 }
 
 // The sample at the time t.
@@ -213,14 +171,14 @@ pub fn interpolate(
     nodes: &[[f64; 22]; SOLVER_NODES],
     t: f64,
     index: usize,
-) -> Sampled
+) -> Result<PathSample, Refusal>
     ensures { result ≡ Samples.interpolate inertia tolerance nodes.now t index }
 {
     if t <= time(nodes, 0) {
-        return at_node(nodes, 0, t);
+        return Ok(at_node(nodes, 0, t));
     }
     if t >= time(nodes, 16) {
-        return at_node(nodes, 16, t);
+        return Ok(at_node(nodes, 16, t));
     }
     let i = earlier(nodes, t);
     between(inertia, tolerance, nodes, i, t, index)

@@ -9,13 +9,17 @@ use forward::Node;
 fn row(n: Node) -> [f64; 22]
     ensures { result ≡ Rows.row n }
 {
-    let q = n.q;
-    let w = n.w;
-    let u = n.tau;
-    let h = n.h;
-    let m = n.hw;
+    let Node {
+        t,
+        q,
+        w,
+        tau: u,
+        h,
+        hw: m,
+        ..
+    } = n;
     [
-        n.t, q.w, q.x, q.y, q.z, w[0], w[1], w[2], u[0], u[1], u[2], h[0], h[1], h[2], m[0], m[1],
+        t, q.w, q.x, q.y, q.z, w[0], w[1], w[2], u[0], u[1], u[2], h[0], h[1], h[2], m[0], m[1],
         m[2], m[3], m[4], m[5], m[6], m[7],
     ]
 }
@@ -24,13 +28,9 @@ fn row(n: Node) -> [f64; 22]
 pub fn rows(nodes: [Node; SOLVER_NODES]) -> [[f64; 22]; SOLVER_NODES]
     ensures { result ≡ Rows.rows nodes }
 {
-    let blank = [0.0; 22];
-    let mut out = [blank; SOLVER_NODES];
-    let mut k: usize = 0;
-    while k < SOLVER_NODES {
-        let next = row(nodes[k]);
-        out[k] = next;
-        k += 1;
+    let mut out = [[0.0; 22]; SOLVER_NODES];
+    for k in 0..SOLVER_NODES {
+        out[k] = row(nodes[k]);
     }
     out
 }

@@ -1,11 +1,9 @@
 -- What the code of the search keeps besides a state, the sizes it works with, and what holds of them. Definitions, and the sizes of a workspace that has room.
-use Rattle.std.specs.Prelude.{ℕ, ◌+◌, ◌*◌, ◌≤◌, ◌≡◌, refl, Bool, true, false, cond, List, take, Float}
+use Rattle.std.specs.Prelude.{ℕ, ◌+◌, ◌*◌, ◌≤◌, ◌≡◌, refl, Bool, true, false, cond, List, take, Float, Option, Some, None, Result, Ok, Err}
 use Rattle.std.proofs.Common.{ap, sym, subst, ◌∙◌, inl, inr, true≢false, mul-add, mul-le-mul, le_refl, arith}
 use Rattle.std.specs.Float.Ieee.{lt}
 use Rattle.common.specs.Floats.{plus_zero}
 use Rattle.common.specs.Lists.{at}
-use Rattle.common.specs.declared.Fate.{Fate}
-use Rattle.common.specs.declared.Fate.TheVariants as Fate
 use Rattle.residuals.specs.declared.ResidualVector.{ResidualVector}
 use Rattle.actuators.specs.Maps.{control_dim, is_sized}
 use Rattle.problem.specs.declared.CheckedProblem.{CheckedProblem}
@@ -14,6 +12,7 @@ use Rattle.residuals.specs.Residuals.{residuals_of}
 use Rattle.normal_equations.specs.Normal.{slopes}
 use Rattle.normal_equations.specs.Rows.{row}
 use Rattle.normal_equations.specs.Placed.{ColumnPut}
+use Rattle.elimination.specs.Elimination.{Solution, Solved, Singular}
 use Rattle.damped_steps.specs.Gram.{GramKept}
 use Rattle.kept_rows.specs.Kept.{Laid, kept, Gathered, Zeros, scatter, columns}
 use Rattle.kept_rows.specs.KeptLaws.{kept_most}
@@ -22,9 +21,9 @@ use Rattle.scvx.specs.declared.Status.TheVariants.{Going}
 use Rattle.scvx.specs.declared.Candidate.{Candidate}
 use Rattle.scvx.specs.declared.SearchState.{SearchState}
 use Rattle.scvx.specs.declared.Progress.{Progress}
-use Rattle.scvx.specs.declared.Slopes.{Slopes}
-use Rattle.scvx.specs.declared.Slopes.TheVariants as Slopes
+use Rattle.scvx.specs.declared.BrokenColumn.{BrokenColumn}
 use Rattle.scvx.specs.Search.{numbers, width, perturb, seed_candidate, room, Columns, Formed, Broken, jacobian, first_damping}
+use Rattle.common.specs.Refusals.{Fate, going}
 
 -- ---- sizes
 
@@ -98,8 +97,8 @@ pub record ColumnStands (m c : ℕ) (x v u : List Float) : Type 0 where
 
 -- what column c of m numbers, which are x, leaves of the workspace v in u, by its run: a run that goes on changes the column alone, a refused one nothing
 abbrev pub ColumnLeft : Fate → ℕ → ℕ → List Float → List Float → List Float → Type 0
-ColumnLeft Fate.Going m c x v u = ColumnStands m c x v u
-ColumnLeft (Fate.Refused number place) m c x v u = u ≡ v
+ColumnLeft (Ok _) m c x v u = ColumnStands m c x v u
+ColumnLeft (Err why) m c x v u = u ≡ v
 
 -- the same of column c at the decision z: x has the kept rows of its residuals
 abbrev pub ColumnMade : CheckedProblem → ℕ → ℕ → List Float → List Float → Fate → List Float → List Float → Type 0
@@ -110,13 +109,18 @@ abbrev pub SameFrom : ℕ → List Float → List Float → Type 0
 SameFrom e v u = (i : ℕ) → e ≤ i → at u i ≡ at v i
 
 -- the columns that the code leaves, or its refusal, as the definition has them
-abbrev pub columns_of : Slopes → List (List Float) → Columns
-columns_of Slopes.Filled j = Formed j
-columns_of (Slopes.Broken number place runs) j = Broken number place runs
+abbrev pub columns_of : Result (Unit {0}) BrokenColumn → List (List Float) → Columns
+columns_of (Ok _) j = Formed j
+columns_of (Err e) j = Broken e.why e.runs
+
+-- the step that the code answers, of n numbers, as the definition has it
+abbrev pub step_as : ℕ → Option (List Float) → Solution
+step_as n (Some d) = Solved (take n d)
+step_as n None = Singular
 
 -- r is the residuals of the decision z, whose run goes on
 pub record Answers (p : CheckedProblem) (z r : List Float) : Type 0 where
-  pub goes : (residuals_of p z).fate ≡ Fate.Going
+  pub goes : (residuals_of p z).fate ≡ going
   pub are : (residuals_of p z).r ≡ r
 
 -- the same of the candidate's decision, and its length is theirs
@@ -126,7 +130,7 @@ pub record Known (p : CheckedProblem) (c : Candidate) (r : List Float) : Type 0 
 
 -- x has the kept rows of its m residuals
 pub record AnswersKept (p : CheckedProblem) (m : ℕ) (z x : List Float) : Type 0 where
-  pub goes : (residuals_of p z).fate ≡ Fate.Going
+  pub goes : (residuals_of p z).fate ≡ going
   pub rows : Gathered m (residuals_of p z).r x
 
 -- of a candidate with its residuals; where the columns are told to be there, j is its Jacobian, and its Gram matrix is kept in a
@@ -156,7 +160,7 @@ start m seed r = record { state = record { candidate = seed_candidate seed r m; 
 
 -- ---- how it comes about and stays
 
-pub known_of : {p : CheckedProblem} (c : Candidate) {e : ResidualVector} {m : ℕ} → e ≡ residuals_of p c.z → e.fate ≡ Fate.Going → m ≡ width p → c.residual ≡ norm_slice e.r m → Known p c e.r
+pub known_of : {p : CheckedProblem} (c : Candidate) {e : ResidualVector} {m : ℕ} → e ≡ residuals_of p c.z → e.fate ≡ going → m ≡ width p → c.residual ≡ norm_slice e.r m → Known p c e.r
 known_of {p} c {e} q g em l = record { answers = record { goes = rw (← q) g; are = rw (← q) refl }; long = l ∙ ap (λ x. norm_slice e.r x) em }
 
 pub answers_kept : {p : CheckedProblem} {m : ℕ} {z r x : List Float} → Answers p z r → Gathered m r x → AnswersKept p m z x

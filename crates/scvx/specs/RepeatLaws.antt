@@ -1,7 +1,7 @@
 -- An iteration reads of a state its decision, its damping factor and its status, and only adds to its counts. So an iteration that leaves those three as they were is
 -- repeated by every one after it. At the strongest damping that is so where the damping stays: a trial that is taken weakens it. Assumes nothing.
 use Prim.Native.Nat.{ℕ, zero, suc, ◌+◌, ◌*◌, ◌-◌, ◌≤◌}
-use Rattle.std.proofs.Common.{suc-mul, arith, sym, ◌∙◌}
+use Rattle.std.proofs.Common.{suc-mul, arith, sym, ◌∙◌, Ok, Err}
 use Rattle.std.specs.Prelude.{◌≡◌, refl, Bool, true, false}
 use Rattle.std.proofs.Math.Path.{ap}
 use Rattle.std.proofs.Math.Bool.{cond}
@@ -9,8 +9,6 @@ use mathlib.Core.List.{List}
 use Rattle.std.specs.Float.Ieee.{Float, lt, le, mul, of_bits, round, units, odd, size}
 use Rattle.common.specs.Iter.{iter}
 use Rattle.common.specs.IterLaws.{iter_next}
-use Rattle.common.specs.declared.Fate.{Fate}
-use Rattle.common.specs.declared.Fate.TheVariants as Fate
 use Rattle.float.specs.Ops as Ops
 use Rattle.problem.specs.declared.CheckedProblem.{CheckedProblem}
 use Rattle.residuals.specs.Residuals.{residuals_of}
@@ -23,6 +21,7 @@ use Rattle.scvx.specs.declared.SearchState.{SearchState}
 use Rattle.scvx.specs.Search.{numbers, width, length_of, trial_candidate, Columns, Formed, Broken, jacobian, count_runs_value, with_status, with_damping, move_to, strongest, weaker, stronger, judge, try_step_by, trial_of, trial_held, try_step, step_of, take_step_by, take_step, linear_step_by, linear_step, goal, improved, iterate_by, begin_iteration, iterate, turn}
 use Rattle.scvx.specs.ProgressInner.{counted}
 use Rattle.scvx.specs.StepLaws.{turn_going}
+use Rattle.common.specs.Refusals.{Fate}
 
 -- ---- other counts: the same iteration
 module _ (d i : ℕ) where
@@ -41,8 +40,8 @@ module _ (d i : ℕ) where
 
   try_by : (p : CheckedProblem) (s : SearchState) (t : List Float) (held : List ℕ) (e : ResidualVector) (f : Fate)
       → try_step_by p (counted s d i) t held e f ≡ counted (try_step_by p s t held e f) d i
-  try_by p s t held e Fate.Going = judge_counted s (trial_candidate t e.r (width p) held)
-  try_by p s t held e (Fate.Refused number place) = refl
+  try_by p s t held e (Ok _) = judge_counted s (trial_candidate t e.r (width p) held)
+  try_by p s t held e (Err why) = refl
 
   try_counted : (p : CheckedProblem) (s : SearchState) (x : List Float) → try_step p (counted s d i) x ≡ counted (try_step p s x) d i
   unfolding try_step
@@ -62,7 +61,7 @@ module _ (d i : ℕ) where
 
   linear_by : (p : CheckedProblem) (s : SearchState) (r : List Float) (j : Columns) → linear_step_by p (counted s d i) r j ≡ counted (linear_step_by p s r j) d i
   linear_by p s r (Formed j) = ap (λ (q : SearchState). take_step p q j r) (count_counted s (numbers p)) ∙ take_counted p (count_runs_value s (numbers p)) j r
-  linear_by p s r (Broken number place runs) = ap (λ (q : SearchState). with_status q (Refused number place)) (count_counted s runs)
+  linear_by p s r (Broken why runs) = ap (λ (q : SearchState). with_status q (Refused why)) (count_counted s runs)
 
   linear_counted : (p : CheckedProblem) (s : SearchState) (r : List Float) → linear_step p (counted s d i) r ≡ counted (linear_step p s r) d i
   unfolding linear_step
@@ -75,8 +74,8 @@ module _ (d i : ℕ) where
       ∙ cond_counted (le (length_of p e) goal) (with_status s Ended) (linear_step p s e.r)
 
   iterate_by_law : (p : CheckedProblem) (s : SearchState) (e : ResidualVector) (f : Fate) → iterate_by p (counted s d i) e f ≡ counted (iterate_by p s e f) d i
-  iterate_by_law p s e Fate.Going = improved_counted p s e
-  iterate_by_law p s e (Fate.Refused number place) = refl
+  iterate_by_law p s e (Ok _) = improved_counted p s e
+  iterate_by_law p s e (Err why) = refl
 
 -- iteration m + 1 of a state with d runs more than s does to it what iteration k + 1 does to s
 iterate_counted : (p : CheckedProblem) (k m d i : ℕ) (s : SearchState) → iterate p m (counted s d i) ≡ counted (iterate p k s) d (m + 1)
@@ -107,8 +106,8 @@ judge_stays s t top = by (lt t.residual s.candidate.residual)
     by false e = refl
 
 try_stays : (p : CheckedProblem) (s : SearchState) (t : List Float) (held : List ℕ) (e : ResidualVector) (f : Fate) → Stays s (try_step_by p s t held e f)
-try_stays p s t held e Fate.Going = judge_stays s (trial_candidate t e.r (width p) held)
-try_stays p s t held e (Fate.Refused number place) = λ top x. refl
+try_stays p s t held e (Ok _) = judge_stays s (trial_candidate t e.r (width p) held)
+try_stays p s t held e (Err why) = λ top x. refl
 
 take_stays : (p : CheckedProblem) (s : SearchState) (x : Solution) → Stays s (take_step_by p s x)
 unfolding try_step
@@ -120,16 +119,16 @@ take_stays p s Singular = λ top x. refl
 linear_stays : (p : CheckedProblem) (s : SearchState) (r : List Float) (j : Columns) → Stays s (linear_step_by p s r j)
 unfolding take_step
 linear_stays p s r (Formed j) = take_stays p (count_runs_value s (numbers p)) (step_of p j r s.lambda)
-linear_stays p s r (Broken number place runs) = λ top x. refl
+linear_stays p s r (Broken why runs) = λ top x. refl
 
 iterate_by_stays : (p : CheckedProblem) (s : SearchState) (e : ResidualVector) (f : Fate) → Stays s (iterate_by p s e f)
 unfolding improved linear_step
-iterate_by_stays p s e Fate.Going = by (le (length_of p e) goal)
+iterate_by_stays p s e (Ok _) = by (le (length_of p e) goal)
   where
     by : (b : Bool) → Stays s (cond b (with_status s Ended) (linear_step p s e.r))
     by true = λ top x. refl
     by false = linear_stays p s e.r (jacobian p s.candidate.z e.r)
-iterate_by_stays p s e (Fate.Refused number place) = λ top x. refl
+iterate_by_stays p s e (Err why) = λ top x. refl
 
 iterate_stays : (p : CheckedProblem) (k : ℕ) (s : SearchState) → Stays s (iterate p k s)
 unfolding iterate

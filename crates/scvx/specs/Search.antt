@@ -28,14 +28,12 @@
 --     rp = residuals(problem, &zp)?                         `column_of`; a refusal is `Broken`
 --     jac[i][c] = (rp[i] - r0[i]) / FD_EPS                  normal_equations `Normal.slopes`, `fd_eps`
 --   `packed_len` is `numbers`, `residual_norm` is `residual_length`. Not here: `cancelled`; the test in `jacobian` of how many residuals there are (`width`).
-use Rattle.std.specs.Prelude.{ℕ, ◌+◌, ◌*◌, Bool, true, false, cond, List, [], ◌∷◌, ◌++◌, set, replicate, Float}
+use Rattle.std.specs.Prelude.{ℕ, ◌+◌, ◌*◌, Bool, true, false, cond, List, [], ◌∷◌, ◌++◌, set, replicate, Float, Ok, Err}
 use Rattle.std.specs.Float.{binary64}
 use Rattle.std.specs.Float.Ieee.{add, mul, lt, le, of_bits}
 use Rattle.common.specs.Floats.{plus_zero}
 use Rattle.common.specs.Iter.{iter}
 use Rattle.common.specs.Lists.{at}
-use Rattle.common.specs.declared.Fate.{Fate}
-use Rattle.common.specs.declared.Fate.TheVariants as Fate
 use Rattle.float.specs.Ops.{min, max}
 use Rattle.actuators.specs.Maps.{control_dim}
 use Rattle.problem.specs.declared.CheckedProblem.{CheckedProblem}
@@ -54,6 +52,8 @@ use Rattle.scvx.specs.declared.Status.TheVariants.{Going, Ended, Refused}
 use Rattle.scvx.specs.declared.Candidate.{Candidate}
 use Rattle.scvx.specs.declared.SearchState.{SearchState}
 use Rattle.scvx.specs.declared.Found.{Found}
+use Rattle.common.specs.Refusals.{Fate, going}
+use Rattle.common.specs.declared.Refusal.{Refusal}
 
 -- n: the numbers of a decision
 unfoldable pub numbers : CheckedProblem → ℕ
@@ -88,14 +88,14 @@ project p z = project_decision p.map p.torque_limit (unpack z)
 abbrev pub perturb : CheckedProblem → List Float → ℕ → List Float
 perturb p z c = project p (set z c (add binary64 (at z c) fd_eps))
 
--- the columns so far, or the refusal of a column's run: its number, its place and the columns' runs begun
+-- the columns so far, or the refusal of a column's run and the columns' runs begun
 pub data Columns : Type 0 where
   Formed : List (List Float) → Columns
-  Broken : ℕ → ℕ → ℕ → Columns
+  Broken : Refusal → ℕ → Columns
 
 abbrev pub column_by : ℕ → List Float → ℕ → List (List Float) → Fate → List Float → Columns
-column_by m r0 c l Fate.Going rp = Formed (l ++ (slopes m rp r0 ∷ []))
-column_by m r0 c l (Fate.Refused number place) rp = Broken number place (c + 1)
+column_by m r0 c l (Ok _) rp = Formed (l ++ (slopes m rp r0 ∷ []))
+column_by m r0 c l (Err why) rp = Broken why (c + 1)
 
 abbrev pub column_of : ℕ → List Float → ℕ → List (List Float) → ResidualVector → Columns
 column_of m r0 c l e = column_by m r0 c l e.fate e.r
@@ -103,7 +103,7 @@ column_of m r0 c l e = column_by m r0 c l e.fate e.r
 -- column c of m residuals, after those before it; a refusal ends them
 abbrev pub column_turn : CheckedProblem → ℕ → List Float → List Float → ℕ → Columns → Columns
 column_turn p m z r0 c (Formed l) = column_of m r0 c l (residuals_of p (perturb p z c))
-column_turn p m z r0 c (Broken number place runs) = Broken number place runs
+column_turn p m z r0 c (Broken why runs) = Broken why runs
 
 -- at the decision z, whose residuals are r0
 unfoldable pub jacobian : CheckedProblem → List Float → List Float → Columns
@@ -157,8 +157,8 @@ unfoldable pub judge : SearchState → Candidate → SearchState
 judge s t = cond (lt t.residual s.candidate.residual) (move_to s t (weaker s.lambda)) (with_damping s (stronger s.lambda))
 
 abbrev pub try_step_by : CheckedProblem → SearchState → List Float → List ℕ → ResidualVector → Fate → SearchState
-try_step_by p s t held e Fate.Going = judge s (trial_candidate t e.r (width p) held)
-try_step_by p s t held e (Fate.Refused number place) = with_status s (Refused number place)
+try_step_by p s t held e (Ok _) = judge s (trial_candidate t e.r (width p) held)
+try_step_by p s t held e (Err why) = with_status s (Refused why)
 
 abbrev pub try_step_of : CheckedProblem → SearchState → List Float → List ℕ → ResidualVector → SearchState
 try_step_of p s t held e = try_step_by p s t held e e.fate
@@ -198,7 +198,7 @@ take_step p s j r = take_step_by p s (step_of p j r s.lambda)
 -- each column is one run
 abbrev pub linear_step_by : CheckedProblem → SearchState → List Float → Columns → SearchState
 linear_step_by p s r (Formed j) = take_step p (count_runs_value s (numbers p)) j r
-linear_step_by p s r (Broken number place runs) = with_status (count_runs_value s runs) (Refused number place)
+linear_step_by p s r (Broken why runs) = with_status (count_runs_value s runs) (Refused why)
 
 unfoldable pub linear_step : CheckedProblem → SearchState → List Float → SearchState
 linear_step p s r = linear_step_by p s r (jacobian p s.candidate.z r)
@@ -212,8 +212,8 @@ unfoldable pub improved : CheckedProblem → SearchState → ResidualVector → 
 improved p s e = cond (le (length_of p e) goal) (with_status s Ended) (linear_step p s e.r)
 
 abbrev pub iterate_by : CheckedProblem → SearchState → ResidualVector → Fate → SearchState
-iterate_by p s e Fate.Going = improved p s e
-iterate_by p s e (Fate.Refused number place) = with_status s (Refused number place)
+iterate_by p s e (Ok _) = improved p s e
+iterate_by p s e (Err why) = with_status s (Refused why)
 
 abbrev pub iterate_of : CheckedProblem → SearchState → ResidualVector → SearchState
 iterate_of p s e = iterate_by p s e e.fate
@@ -228,7 +228,7 @@ iterate p k s = iterate_of p (begin_iteration k s) (residuals_of p s.candidate.z
 abbrev pub turn_by_value : CheckedProblem → ℕ → SearchState → Status → SearchState
 turn_by_value p k s Going = iterate p k s
 turn_by_value p k s Ended = s
-turn_by_value p k s (Refused number place) = s
+turn_by_value p k s (Refused why) = s
 
 unfoldable pub turn : CheckedProblem → ℕ → SearchState → SearchState
 turn p k s = turn_by_value p k s s.status
@@ -236,8 +236,8 @@ turn p k s = turn_by_value p k s s.status
 -- ---- the whole
 
 abbrev pub status_of : Fate → Status
-status_of Fate.Going = Going
-status_of (Fate.Refused number place) = Refused number place
+status_of (Ok _) = Going
+status_of (Err why) = Refused why
 
 -- LM_LAMBDA0, 0.01: the first damping factor
 abbrev pub first_damping : Float
@@ -255,12 +255,12 @@ unfoldable pub searched : CheckedProblem → List Float → SearchState
 searched p seed = iter (turn p) (start p seed) 40
 
 -- a refusal: no decision
-abbrev pub not_found : ℕ → ℕ → ℕ → Found
-not_found number place runs = record { fate = Fate.Refused number place; runs = runs; iterations = 0; z = replicate 193 plus_zero; run = refused_run number place; tried = false; held = none_held }
+abbrev pub not_found : Refusal → ℕ → Found
+not_found why runs = record { fate = Err why; runs = runs; iterations = 0; z = replicate 193 plus_zero; run = refused_run why.number why.place; tried = false; held = none_held }
 
 abbrev pub final_run_by : SearchState → Run → Fate → Found
-final_run_by s run Fate.Going = record { fate = Fate.Going; runs = s.runs + 1; iterations = s.iterations; z = s.candidate.z; run = run; tried = s.candidate.tried; held = s.candidate.held }
-final_run_by s run (Fate.Refused number place) = not_found number place (s.runs + 1)
+final_run_by s run (Ok _) = record { fate = going; runs = s.runs + 1; iterations = s.iterations; z = s.candidate.z; run = run; tried = s.candidate.tried; held = s.candidate.held }
+final_run_by s run (Err why) = not_found why (s.runs + 1)
 
 -- the run of the decision that is handed out, the last that is counted
 unfoldable pub final_run : CheckedProblem → SearchState → Found
@@ -269,7 +269,7 @@ final_run p s = final_run_by s (run_of p s.candidate.z) (run_of p s.candidate.z)
 abbrev pub conclude_by : CheckedProblem → SearchState → Status → Found
 conclude_by p s Going = final_run p s
 conclude_by p s Ended = final_run p s
-conclude_by p s (Refused number place) = not_found number place s.runs
+conclude_by p s (Refused why) = not_found why s.runs
 
 unfoldable pub conclude : CheckedProblem → SearchState → Found
 conclude p s = conclude_by p s s.status

@@ -1,5 +1,5 @@
 -- The parts of an iteration and of the whole search, by what the code has in hand. Assumes nothing.
-use Rattle.std.specs.Prelude.{ℕ, ◌+◌, ◌*◌, ◌≤◌, ◌≡◌, Bool, true, false, List, ◌++◌, length, take, drop, Float}
+use Rattle.std.specs.Prelude.{ℕ, ◌+◌, ◌*◌, ◌≤◌, ◌≡◌, Bool, true, false, List, ◌++◌, length, take, drop, Float, Err}
 use Rattle.std.proofs.Math.Path.{refl, ap, sym}
 use Rattle.std.proofs.Common.{subst, ◌∙◌, arith, length-take-le, take-take}
 use Rattle.std.proofs.Math.Bool.{cond}
@@ -7,8 +7,6 @@ use Rattle.std.proofs.lemmas.List.{take-append-le}
 use Rattle.std.specs.Float.Ieee.{lt, le}
 use Rattle.common.specs.Iter.{iter}
 use Rattle.common.specs.IterLaws.{iter_none, iter_stays}
-use Rattle.common.specs.declared.Fate.{Fate}
-use Rattle.common.specs.declared.Fate.TheVariants as Fate
 use Rattle.problem.specs.declared.CheckedProblem.{CheckedProblem}
 use Rattle.forward.specs.Runs.{run_of}
 use Rattle.forward.specs.declared.Run.{Run}
@@ -26,6 +24,8 @@ use Rattle.scvx.specs.declared.SearchState.{SearchState}
 use Rattle.scvx.specs.Search.{numbers, width, Columns, Formed, Broken, jacobian, count_runs_value, with_status, with_damping, move_to, stiffer, weaker, stronger, judge, try_step, take_step_by, take_step, linear_step_by, linear_step, goal, improved, iterate_by, begin_iteration, iterate, turn_by_value, turn, status_of, start_of, start, searched, not_found, final_run_by, final_run, conclude_by, conclude, search}
 use Rattle.scvx.specs.ProgressInner.{Standing, columns_in}
 use Rattle.scvx.specs.ProgressInner as ProgressInner
+use Rattle.common.specs.Refusals.{Fate, going}
+use Rattle.common.specs.declared.Refusal.{Refusal}
 
 -- ---- the step of the equations, on a front of the workspace: w is the length of the lent right side
 module _ (w n m : ℕ) (v : List Float) (e : w ≡ n) (fits : n * m + n * n ≤ length v) where
@@ -64,15 +64,10 @@ unfolding damped_step
 step_kept n m v r x lambda l g z = rw (matrix_kept n m (take (n * kept m) v) l lambda, right_kept n m (take (n * kept m) v) l r x g z)
 
 module _ (p : CheckedProblem) (s : SearchState) (n m : ℕ) (j : List (List Float)) (r : List Float) (en : n ≡ numbers p) (em : m ≡ width p) where
-  by_told : (b : Bool) (d : List Float) → told b d ≡ damped_step n m j r s.lambda → take_step_by p s (told b d) ≡ take_step p s j r
+  -- the step, by what the equations give
+  pub by_solution : {x : Solution} → x ≡ damped_step n m j r s.lambda → take_step_by p s x ≡ take_step p s j r
   unfolding take_step damped_step
-  by_told b d e = rw (← en, ← em) (ap (λ (x : Solution). take_step_by p s x) e)
-
-  pub singular : (b : Bool) (d : List Float) → told b d ≡ damped_step n m j r s.lambda → b ≡ false → with_damping s (stiffer s.lambda) ≡ take_step p s j r
-  singular b d e h = sym (ap (λ (x : Bool). take_step_by p s (told x d)) h) ∙ by_told b d e
-
-  pub solved : (b : Bool) (d : List Float) → told b d ≡ damped_step n m j r s.lambda → b ≡ true → try_step p s d ≡ take_step p s j r
-  solved b d e h = sym (ap (λ (x : Bool). take_step_by p s (told x d)) h) ∙ by_told b d e
+  by_solution e = rw (← en, ← em) (ap (λ (x : Solution). take_step_by p s x) e)
 
 -- ---- the verdict on a trial
 module _ (s : SearchState) (t : Candidate) where
@@ -90,7 +85,7 @@ module _ (p : CheckedProblem) (s : SearchState) (r : List Float) where
   unfolding linear_step
   linear_step_formed {n} {j} en e = ap (λ k. take_step p (count_runs_value s k) j r) en ∙ sym (ap (λ (x : Columns). linear_step_by p s r x) e)
 
-  pub linear_step_broken : {number place runs : ℕ} → jacobian p s.candidate.z r ≡ Broken number place runs → with_status (count_runs_value s runs) (Refused number place) ≡ linear_step p s r
+  pub linear_step_broken : {why : Refusal} {runs : ℕ} → jacobian p s.candidate.z r ≡ Broken why runs → with_status (count_runs_value s runs) (Refused why) ≡ linear_step p s r
   unfolding linear_step
   linear_step_broken e = sym (ap (λ (x : Columns). linear_step_by p s r x) e)
 
@@ -116,7 +111,7 @@ module _ (p : CheckedProblem) (k : ℕ) (s : SearchState) where
   unfolding turn
   turn_ended h = ap (λ (f : Status). turn_by_value p k s f) h
 
-  pub turn_refused : {number place : ℕ} → s.status ≡ Refused number place → turn p k s ≡ s
+  pub turn_refused : {why : Refusal} → s.status ≡ Refused why → turn p k s ≡ s
   unfolding turn
   turn_refused h = ap (λ (f : Status). turn_by_value p k s f) h
 
@@ -131,7 +126,7 @@ module _ (p : CheckedProblem) (s : SearchState) where
   unfolding conclude
   conclude_ended h = sym (ap (λ (f : Status). conclude_by p s f) h)
 
-  pub conclude_refused : {number place : ℕ} → s.status ≡ Refused number place → not_found number place s.runs ≡ conclude p s
+  pub conclude_refused : {why : Refusal} → s.status ≡ Refused why → not_found why s.runs ≡ conclude p s
   unfolding conclude
   conclude_refused h = sym (ap (λ (f : Status). conclude_by p s f) h)
 
@@ -141,11 +136,11 @@ module _ (p : CheckedProblem) (s : SearchState) where
   final_run_by_law {x} q h = sym (ap (λ (f : Fate). final_run_by s x f) h) ∙ ap (λ (y : Run). final_run_by s y y.fate) q
 
 module _ (p : CheckedProblem) (seed : List Float) {e : ResidualVector} (q : e ≡ residuals_of p seed) where
-  pub start_going : {m : ℕ} → m ≡ width p → e.fate ≡ Fate.Going → (ProgressInner.start m seed e.r).state ≡ start p seed
+  pub start_going : {m : ℕ} → m ≡ width p → e.fate ≡ going → (ProgressInner.start m seed e.r).state ≡ start p seed
   unfolding start
   start_going {m} em g = let here : (ProgressInner.start m seed e.r).state ≡ start_of p seed e = rw (g, em) in here ∙ ap (λ (x : ResidualVector). start_of p seed x) q
 
-  refused_start : {number place : ℕ} → e.fate ≡ Fate.Refused number place → (start p seed).status ≡ Refused number place
+  refused_start : {why : Refusal} → e.fate ≡ Err why → (start p seed).status ≡ Refused why
   unfolding start
   refused_start g = ap (λ (x : ResidualVector). (start_of p seed x).status) (sym q) ∙ ap status_of g
 
@@ -154,9 +149,9 @@ module _ (p : CheckedProblem) (seed : List Float) {e : ResidualVector} (q : e �
   one_run = refl
 
   -- a seed whose run is refused ends the search before its first iteration
-  pub search_refused : {number place : ℕ} → e.fate ≡ Fate.Refused number place → not_found number place 1 ≡ search p seed
+  pub search_refused : {why : Refusal} → e.fate ≡ Err why → not_found why 1 ≡ search p seed
   unfolding search searched
-  search_refused {number} {place} g =
+  search_refused {why} g =
       let r = refused_start g in
       let same : start p seed ≡ iter (turn p) (start p seed) 40 = iter_stays (turn p) (start p seed) 0 40 (omega arith) (iter_none (turn p) (start p seed)) (λ j. turn_refused p j (start p seed) r) in
-      sym (ap (λ k. not_found number place k) one_run) ∙ conclude_refused p (start p seed) r ∙ ap (λ (s : SearchState). conclude p s) same
+      sym (ap (λ k. not_found why k) one_run) ∙ conclude_refused p (start p seed) r ∙ ap (λ (s : SearchState). conclude p s) same

@@ -10,9 +10,9 @@ ghost use Rattle.kept_rows.specs.Kept.{kept, Zeros};
 ghost use Rattle.scvx.specs.Search as Search;
 ghost use Rattle.scvx.specs.ProgressInner.{Sizes, Answers, AnswersKept, ColumnMade, SameFrom, columns_in, columns_of};
 
-use super::Slopes;
+use super::BrokenColumn;
 use actuators::control_dim;
-use common::{DECISION_NUMBERS, Decision, Fate, ResidualNumbers, SOLVER_NODES, STEPS};
+use common::{DECISION_NUMBERS, Decision, Refusal, ResidualNumbers, SOLVER_NODES, STEPS};
 use forward::decisions::{project_decision, unpack};
 use gimbal_angles::KNOWN_NUMBERS;
 use kept_rows::{gather, kept};
@@ -25,16 +25,14 @@ pub fn numbers(p: CheckedProblem) -> usize
     requires { control_dim p.map ≤ 12 }
     ensures { result ≡ Search.numbers p }
 {
-    let map = p.map;
-    1 + STEPS * control_dim(map)
+    1 + STEPS * control_dim(p.map)
 }
 
 // The residuals of a decision: 28, or 79 with a pointing weight above 0.
 pub fn width(p: CheckedProblem) -> usize
     ensures { result ≡ Search.width p }
 {
-    let weights = p.weights;
-    if weights.pointing > 0.0 { 79 } else { 28 }
+    if p.weights.pointing > 0.0 { 79 } else { 28 }
 }
 
 // The decision with its duration and its controls held to their limits.
@@ -42,9 +40,7 @@ pub fn project(p: CheckedProblem, z: Decision) -> Decision
     requires { control_dim p.map ≤ 12 }
     ensures { result ≡ Search.project p z }
 {
-    let map = p.map;
-    let limit = p.torque_limit;
-    project_decision(map, limit, unpack(z))
+    project_decision(p.map, p.torque_limit, unpack(z))
 }
 
 // The decision with number c moved by the step of the difference.
@@ -64,51 +60,51 @@ fn same_decision(y: &Decision, z: &Decision) -> bool
     same_front(y, z, DECISION_NUMBERS)
 }
 
-// Column c of m numbers at the decision z, whose residuals' kept rows are r0, whose base run is b and whose gimbal angles are known: one run, or none where the
+// The base run of a decision as far as it is kept, with its nodes and its pointing errors.
+#[derive(Clone, Copy)]
+struct BaseRun {
+    at: Base,
+    nodes: [[f64; 22]; SOLVER_NODES],
+    errors: [[f64; 3]; 16],
+}
+
+// Column c of m numbers at the decision z, whose residuals' kept rows are r0, whose base run is kept and whose gimbal angles are known: one run, or none where the
 // projection takes the move back and the decision is z again. Its kept rows are put; every other column and all past them stays, and all of v where the run is
 // refused; so does what is kept of the base run.
 fn column(
     p: CheckedProblem,
-    controls: usize,
     v: &mut [f64],
     m: usize,
     c: usize,
     z: &Decision,
     r0: &ResidualNumbers,
-    b: Base,
     lut: &[f64],
-    nodes: &mut [[f64; 22]; SOLVER_NODES],
-    errors: &[[f64; 3]; 16],
-) -> Fate
+    run: &mut BaseRun,
+) -> Result<(), Refusal>
     requires { (is_sized p.map ≡ true)
         × ((control_dim p.map ≤ 12)
-        × ((controls ≡ control_dim p.map)
         × ((c < 193)
         × ((m ≡ Search.width p)
         × ((c * kept m + kept m ≤ length v.old)
         × (KnownOf p.map.cmgs lut.now
         × (AnswersKept p m z.now r0.now
-        × Shared.Holds p z.now b nodes.old errors.now))))))) }
+        × Shared.Holds p z.now run.old.at run.old.nodes run.old.errors)))))) }
     ensures value { (result ≡ (residuals_of p (Search.perturb p z.now c)).fate)
         × ColumnMade p m c z.now r0.now result v.old v.new }
-    ensures holds { Shared.Holds p z.now b nodes.new errors.now }
+    ensures holds { Shared.Holds p z.now run.new.at run.new.nodes run.new.errors }
 {
     let y = perturb(p, z, c);
     if same_decision(&y, z) {
         put_column(v, kept(m), c, r0, r0);
-        return Fate::Going;
+        return Ok(());
     }
-    let e = residuals_sharing(p, controls, z, b, lut, &y, nodes, errors);
-    let fate = e.fate;
-    match fate {
-        Fate::Refused(number, place) => Fate::Refused(number, place),
-        Fate::Going => {
-            let mut rp = e.r;
-            gather(m, &mut rp[..]);
-            put_column(v, kept(m), c, &rp, r0);
-            Fate::Going
-        }
-    }
+    let controls = control_dim(p.map);
+    let e = residuals_sharing(p, controls, z, run.at, lut, &y, &mut run.nodes, &run.errors);
+    e.fate?;
+    let mut rp = e.r;
+    gather(m, &mut rp[..]);
+    put_column(v, kept(m), c, &rp, r0);
+    Ok(())
 }
 
 // Whether column c is past the row of the base run's next step.
@@ -130,34 +126,27 @@ pub fn jacobian(
     m: usize,
     z: Decision,
     r0: ResidualNumbers,
-) -> Slopes
+) -> Result<(), BrokenColumn>
     requires { Sizes p n m (length v.old) × (Zeros m r0 × Answers p z r0) }
     ensures { (Search.jacobian p z r0 ≡ columns_of result (columns_in n m v.new)) × SameFrom (n * kept m) v.old v.new }
 {
-    let map = p.map;
-    let controls = control_dim(map);
+    let controls = control_dim(p.map);
     let mut front = r0;
     gather(m, &mut front[..]);
-    let row = [0.0; 22];
-    let mut nodes = [row; 17];
-    let none = [0.0; 3];
-    let mut errors = [none; 16];
     let mut lut = [0.0; KNOWN_NUMBERS];
-    know_angles(map, &z, &mut lut);
-    let mut b = base_start(p);
-    let mut c: usize = 0;
-    while c < n {
-        if past_row(b.steps, controls, c) {
-            b = base_next(p, &z, b, &lut, &mut nodes, &mut errors);
+    know_angles(p.map, &z, &mut lut);
+    let mut run = BaseRun {
+        at: base_start(p),
+        nodes: [[0.0; 22]; SOLVER_NODES],
+        errors: [[0.0; 3]; 16],
+    };
+    for c in 0..n {
+        if past_row(run.at.steps, controls, c) {
+            run.at = base_next(p, &z, run.at, &lut, &mut run.nodes, &mut run.errors);
         }
-        let fate = column(
-            p, controls, v, m, c, &z, &front, b, &lut, &mut nodes, &errors,
-        );
-        match fate {
-            Fate::Refused(number, place) => return Slopes::Broken(number, place, c + 1),
-            Fate::Going => {}
+        if let Err(why) = column(p, v, m, c, &z, &front, &lut, &mut run) {
+            return Err(BrokenColumn { why, runs: c + 1 });
         }
-        c += 1;
     }
-    Slopes::Filled
+    Ok(())
 }

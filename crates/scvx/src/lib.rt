@@ -11,7 +11,7 @@ ghost use Rattle.scvx.specs.Search as Search;
 
 use self::columns::{numbers, width};
 use self::turns::{conclude, not_found, start, turns};
-use common::{Decision, Fate, ResidualNumbers};
+use common::{Decision, Refusal, ResidualNumbers};
 use forward::Run;
 use problem::CheckedProblem;
 use residuals::terms::residuals_of;
@@ -26,12 +26,12 @@ pub const MAX_ITERS: usize = 40;
 
 pub const LM_LAMBDA_MAX: f64 = 1.0e6;
 
-// How the search stands: on its way, ended at a length of at most 0.005, or refused with a number and a place.
+// How the search stands: on its way, ended at a length of at most 0.005, or refused.
 #[derive(Clone, Copy)]
 pub enum Status {
     Going,
     Ended,
-    Refused(usize, usize),
+    Refused(Refusal),
 }
 
 // A decision with its residual length, and the projection that made it: the seed's, or a trial's with how many of its 16 controls it held at each place of a row
@@ -63,11 +63,11 @@ pub struct Progress {
     pub columns: bool,
 }
 
-// A Jacobian's columns: all formed, or the refusal of a column's run: its number, its place and the columns' runs begun.
+// A column's run was refused: why, and the columns' runs begun.
 #[derive(Clone, Copy)]
-pub enum Slopes {
-    Filled,
-    Broken(usize, usize, usize),
+pub struct BrokenColumn {
+    pub why: Refusal,
+    pub runs: usize,
 }
 
 // A trial's decision, and how many of its 16 controls at each place of a row were held to their limits.
@@ -77,18 +77,11 @@ pub struct Trial {
     pub held: [usize; 12],
 }
 
-// A step of the normal equations: the first numbers of d, where they could be solved.
-#[derive(Clone, Copy)]
-pub struct Step {
-    pub solved: bool,
-    pub d: Decision,
-}
-
 // What the search answers: how it ended, the forward runs begun, and of a decision that was found its iterations, the decision and its run (blank where refused),
 // whether a trial made it, and then that trial's counts of held controls.
 #[derive(Clone, Copy)]
 pub struct Found {
-    pub fate: Fate,
+    pub fate: Result<(), Refusal>,
     pub runs: usize,
     pub iterations: usize,
     pub z: Decision,
@@ -113,14 +106,12 @@ pub fn search(p: CheckedProblem, seed: Decision, ws: &mut [f64]) -> Found
     ensures { (result ≡ Search.search p seed) × (length ws.new ≡ length ws.old) }
 {
     let e = residuals_of(p, seed);
-    let fate = e.fate;
-    match fate {
-        Fate::Refused(number, place) => not_found(number, place, 1),
-        Fate::Going => {
+    match e.fate {
+        Err(why) => not_found(why, 1),
+        Ok(()) => {
             let n = numbers(p);
             let m = width(p);
-            let r = e.r;
-            conclude(p, turns(p, ws, n, m, start(m, seed, r)))
+            conclude(p, turns(p, ws, n, m, start(m, seed, e.r)))
         }
     }
 }

@@ -12,12 +12,11 @@ pub fn seed_candidate(z: Decision, r: ResidualNumbers, m: usize) -> Candidate
     requires { m ≤ 79 }
     ensures { result ≡ Search.seed_candidate z r m }
 {
-    let held: [usize; 12] = [0; 12];
     Candidate {
-        z: z,
+        z,
         residual: norm_slice(&r, m),
         tried: false,
-        held: held,
+        held: [0; 12],
     }
 }
 
@@ -29,10 +28,10 @@ pub fn trial_candidate(t: Trial, r: ResidualNumbers, m: usize) -> Candidate
     let z = t.z;
     let held = t.held;
     Candidate {
-        z: z,
+        z,
         residual: norm_slice(&r, m),
         tried: true,
-        held: held,
+        held,
     }
 }
 
@@ -41,14 +40,9 @@ pub fn count_runs(s: SearchState, more: usize) -> SearchState
     requires { s.runs + more ≤ 9000 }
     ensures { result ≡ Search.count_runs_value s more }
 {
-    let candidate = s.candidate;
-    let status = s.status;
     SearchState {
-        candidate: candidate,
-        lambda: s.lambda,
-        iterations: s.iterations,
         runs: s.runs + more,
-        status: status,
+        ..s
     }
 }
 
@@ -56,42 +50,24 @@ pub fn count_runs(s: SearchState, more: usize) -> SearchState
 pub fn with_status(s: SearchState, status: Status) -> SearchState
     ensures { result ≡ Search.with_status s status }
 {
-    let candidate = s.candidate;
-    SearchState {
-        candidate: candidate,
-        lambda: s.lambda,
-        iterations: s.iterations,
-        runs: s.runs,
-        status: status,
-    }
+    SearchState { status, ..s }
 }
 
 // Another damping factor.
 pub fn with_damping(s: SearchState, x: f64) -> SearchState
     ensures { result ≡ Search.with_damping s x }
 {
-    let candidate = s.candidate;
-    let status = s.status;
-    SearchState {
-        candidate: candidate,
-        lambda: x,
-        iterations: s.iterations,
-        runs: s.runs,
-        status: status,
-    }
+    SearchState { lambda: x, ..s }
 }
 
 // The decision of t, with the damping factor x.
 pub fn move_to(s: SearchState, t: Candidate, x: f64) -> SearchState
     ensures { result ≡ Search.move_to s t x }
 {
-    let status = s.status;
     SearchState {
         candidate: t,
         lambda: x,
-        iterations: s.iterations,
-        runs: s.runs,
-        status: status,
+        ..s
     }
 }
 
@@ -100,14 +76,10 @@ pub fn begin_iteration(k: usize, s: SearchState) -> SearchState
     requires { (k < 40) × (s.runs < 9000) }
     ensures { result ≡ Search.begin_iteration k s }
 {
-    let candidate = s.candidate;
-    let status = s.status;
     SearchState {
-        candidate: candidate,
-        lambda: s.lambda,
         iterations: k + 1,
         runs: s.runs + 1,
-        status: status,
+        ..s
     }
 }
 
@@ -116,14 +88,10 @@ pub fn repeat_last(s: SearchState, k: usize, more: usize) -> SearchState
     requires { (k ≤ 40) × (s.runs + (40 - k) * more ≤ 9000) }
     ensures { result ≡ ProgressInner.counted s ((40 - k) * more) 40 }
 {
-    let candidate = s.candidate;
-    let status = s.status;
     SearchState {
-        candidate: candidate,
-        lambda: s.lambda,
         iterations: MAX_ITERS,
         runs: s.runs + (MAX_ITERS - k) * more,
-        status: status,
+        ..s
     }
 }
 
@@ -131,10 +99,5 @@ pub fn repeat_last(s: SearchState, k: usize, more: usize) -> SearchState
 pub fn with_state(g: Progress, s: SearchState) -> Progress
     ensures { result ≡ ProgressInner.with_state g s }
 {
-    let r = g.r;
-    Progress {
-        state: s,
-        r: r,
-        columns: g.columns,
-    }
+    Progress { state: s, ..g }
 }

@@ -1,21 +1,21 @@
 // The step of an iteration: normal equations, a trial, and the verdict on it. Carried over from `solve` and `apply_step` of quatopsy-plan/src/scvx.rs
 // (Apache-2.0), changed: a trial's residuals are kept where it is taken, and the columns are formed and summed once a decision.
-ghost use Rattle.std.specs.Prelude.{◌≡◌, ◌+◌, ◌*◌, ◌≤◌, ◌<◌, length, take};
+ghost use Rattle.std.specs.Prelude.{◌≡◌, ◌+◌, ◌*◌, ◌≤◌, ◌<◌, length};
 ghost use Rattle.common.specs.Iter.{iter};
 ghost use Rattle.actuators.specs.Maps.{control_dim};
 ghost use Rattle.problem.specs.declared.CheckedProblem.{CheckedProblem};
-ghost use Rattle.elimination.specs.Elimination.{told, damped_step};
+ghost use Rattle.elimination.specs.Elimination.{damped_step};
 ghost use Rattle.damped_steps.specs.Gram.{GramKept};
 ghost use Rattle.kept_rows.specs.Kept.{Laid, kept, Zeros};
 ghost use Rattle.scvx.specs.Search as Search;
-ghost use Rattle.scvx.specs.ProgressInner.{Sizes, Known, Keeps, Holds, columns_in};
+ghost use Rattle.scvx.specs.ProgressInner.{Sizes, Known, Keeps, Holds, columns_in, step_as};
 
 use super::columns::{jacobian, project};
 use super::states::{
     begin_iteration, count_runs, move_to, trial_candidate, with_damping, with_state, with_status,
 };
-use super::{Candidate, LM_LAMBDA_MAX, Progress, Slopes, Status, Step, Trial};
-use common::{DECISION_NUMBERS, DEFECT_TOL, Decision, Fate, ResidualNumbers};
+use super::{Candidate, LM_LAMBDA_MAX, Progress, Status, Trial};
+use common::{DECISION_NUMBERS, DEFECT_TOL, Decision, ResidualNumbers};
 use damped_steps::{keep_gram, kept_step};
 use float::{max, min};
 use held_counts::held_counts;
@@ -29,10 +29,8 @@ fn apply_step(z: Decision, d: &[f64]) -> Decision
     ensures { result ≡ iter (Search.add_turn_value d.now) z (length d.now) }
 {
     let mut out = z;
-    let mut i: usize = 0;
-    while i < d.len() {
+    for i in 0..d.len() {
         out[i] = out[i] + d[i];
-        i += 1;
     }
     out
 }
@@ -43,13 +41,9 @@ fn trial_of(p: CheckedProblem, z: Decision, d: &[f64]) -> Trial
     ensures { (result.z ≡ Search.trial_of p z d.now) × (result.held ≡ Search.trial_held p z d.now) }
 {
     let moved = apply_step(z, d);
-    let map = p.map;
-    let limit = p.torque_limit;
-    let counts = held_counts(map, limit, &moved);
-    let projected = project(p, moved);
     Trial {
-        z: projected,
-        held: counts,
+        z: project(p, moved),
+        held: held_counts(p.map, p.torque_limit, &moved),
     }
 }
 
@@ -58,12 +52,10 @@ fn judge(g: Progress, t: Candidate, r: ResidualNumbers) -> Progress
     ensures { (result.state ≡ Search.judge g.state t) × ((p : CheckedProblem) → Known p t r → Keeps p g result) }
 {
     let s = g.state;
-    let c = s.candidate;
-    if t.residual < c.residual {
-        let next = move_to(s, t, max(s.lambda * 0.3, 1.0e-8));
+    if t.residual < s.candidate.residual {
         return Progress {
-            state: next,
-            r: r,
+            state: move_to(s, t, max(s.lambda * 0.3, 1.0e-8)),
+            r,
             columns: false,
         };
     }
@@ -76,22 +68,12 @@ fn try_step(p: CheckedProblem, g: Progress, d: &[f64], m: usize) -> Progress
     ensures { (result.state ≡ Search.try_step p g.state d.now) × Keeps p g result }
 {
     let s = g.state;
-    let c = s.candidate;
-    let z = c.z;
-    let t = trial_of(p, z, d);
-    let moved = t.z;
-    let e = residuals_of(p, moved);
+    let t = trial_of(p, s.candidate.z, d);
+    let e = residuals_of(p, t.z);
     let s1 = count_runs(s, 1);
-    let fate = e.fate;
-    match fate {
-        Fate::Refused(number, place) => with_state(
-            g,
-            with_status(s1, Status::Refused(number, place)),
-        ),
-        Fate::Going => {
-            let r = e.r;
-            judge(with_state(g, s1), trial_candidate(t, r, m), r)
-        }
+    match e.fate {
+        Err(why) => with_state(g, with_status(s1, Status::Refused(why))),
+        Ok(()) => judge(with_state(g, s1), trial_candidate(t, e.r, m), e.r),
     }
 }
 
@@ -114,22 +96,21 @@ fn step_of(
     m: usize,
     r: ResidualNumbers,
     lambda: f64,
-) -> Step
+) -> Option<Decision>
     requires { (n ≤ 193)
         × (Laid m × ((n * kept m + n * n ≤ length ws.old) × (Zeros m r × GramKept n m (columns_in n m ws.old) gram.now))) }
-    ensures { (told result.solved (take n result.d) ≡ damped_step n m (columns_in n m ws.old) r lambda)
-        × ((length result.d ≡ 193)
-        × (columns_in n m ws.new ≡ columns_in n m ws.old)) }
+    ensures { (step_as n result ≡ damped_step n m (columns_in n m ws.old) r lambda)
+        × (columns_in n m ws.new ≡ columns_in n m ws.old) }
 {
     let w = kept(m);
     let mut front = r;
     gather(m, &mut front[..]);
     let end = n * w + n * n;
     let mut d = [0.0; DECISION_NUMBERS];
-    let solved = kept_step(&mut ws[..end], w, &front, lambda, gram, &mut d[..n]);
-    Step {
-        solved: solved,
-        d: d,
+    if kept_step(&mut ws[..end], w, &front, lambda, gram, &mut d[..n]) {
+        Some(d)
+    } else {
+        None
     }
 }
 
@@ -148,12 +129,9 @@ fn take_step(
         × (columns_in n m ws.new ≡ columns_in n m ws.old)) }
 {
     let s = g.state;
-    let r = g.r;
-    let step = step_of(ws, gram, n, m, r, s.lambda);
-    if !step.solved {
+    let Some(d) = step_of(ws, gram, n, m, g.r, s.lambda) else {
         return with_state(g, with_damping(s, min(s.lambda * 8.0, LM_LAMBDA_MAX)));
-    }
-    let d = step.d;
+    };
     try_step(p, g, &d[..n], m)
 }
 
@@ -170,25 +148,17 @@ fn form_columns(
     ensures { (result.state ≡ Search.linear_step p g.state g.r) × Holds p (columns_in n m ws.new) gram.new result }
 {
     let s = g.state;
-    let c = s.candidate;
-    let z = c.z;
-    let r = g.r;
-    let j = jacobian(p, ws, n, m, z, r);
-    match j {
-        Slopes::Broken(number, place, runs) => {
-            let next = with_status(count_runs(s, runs), Status::Refused(number, place));
-            Progress {
-                state: next,
-                r: r,
-                columns: false,
-            }
-        }
-        Slopes::Filled => {
-            let next = count_runs(s, n);
+    match jacobian(p, ws, n, m, s.candidate.z, g.r) {
+        Err(e) => Progress {
+            state: with_status(count_runs(s, e.runs), Status::Refused(e.why)),
+            columns: false,
+            ..g
+        },
+        Ok(()) => {
             let whole = Progress {
-                state: next,
-                r: r,
+                state: count_runs(s, n),
                 columns: true,
+                ..g
             };
             sum_columns(ws, gram, n, m);
             take_step(p, ws, gram, n, m, whole)
@@ -209,8 +179,7 @@ fn linear_step(
     ensures { (result.state ≡ Search.linear_step p g.state g.r) × Holds p (columns_in n m ws.new) gram.new result }
 {
     if g.columns {
-        let s = g.state;
-        return take_step(p, ws, gram, n, m, with_state(g, count_runs(s, n)));
+        return take_step(p, ws, gram, n, m, with_state(g, count_runs(g.state, n)));
     }
     form_columns(p, ws, gram, n, m, g)
 }
@@ -228,10 +197,8 @@ pub fn iterate(
     requires { Sizes p n m (length ws.old) × ((k < 40) × ((g.state.runs ≤ 8000) × Holds p (columns_in n m ws.old) gram.old g)) }
     ensures { (result.state ≡ Search.iterate p k g.state) × Holds p (columns_in n m ws.new) gram.new result }
 {
-    let before = g.state;
-    let s = begin_iteration(k, before);
-    let c = s.candidate;
-    if c.residual <= DEFECT_TOL {
+    let s = begin_iteration(k, g.state);
+    if s.candidate.residual <= DEFECT_TOL {
         return with_state(g, with_status(s, Status::Ended));
     }
     linear_step(p, ws, gram, n, m, with_state(g, s))

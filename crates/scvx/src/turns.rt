@@ -11,7 +11,7 @@ ghost use Rattle.scvx.specs.ProgressInner.{Sizes, Known};
 use super::states::{repeat_last, seed_candidate};
 use super::steps::iterate;
 use super::{Found, LM_LAMBDA_MAX, MAX_ITERS, Progress, SearchState, Status};
-use common::{DECISION_NUMBERS, Decision, Fate, ResidualNumbers};
+use common::{DECISION_NUMBERS, Decision, Refusal, ResidualNumbers};
 use float_bits::same_bits;
 use forward::runs::{refused_run, run_of};
 use problem::CheckedProblem;
@@ -27,17 +27,15 @@ pub fn start(m: usize, seed: Decision, r: ResidualNumbers) -> Progress
     requires { m ≤ 79 }
     ensures { result ≡ ProgressInner.start m seed r }
 {
-    let candidate = seed_candidate(seed, r, m);
-    let state = SearchState {
-        candidate: candidate,
-        lambda: LM_LAMBDA0,
-        iterations: 0,
-        runs: 1,
-        status: Status::Going,
-    };
     Progress {
-        state: state,
-        r: r,
+        state: SearchState {
+            candidate: seed_candidate(seed, r, m),
+            lambda: LM_LAMBDA0,
+            iterations: 0,
+            runs: 1,
+            status: Status::Going,
+        },
+        r,
         columns: false,
     }
 }
@@ -58,39 +56,34 @@ pub fn turns(p: CheckedProblem, ws: &mut [f64], n: usize, m: usize, first: Progr
 {
     let mut gram = [0.0; GRAM_NUMBERS];
     let mut g = first;
-    let mut k: usize = 0;
-    while k < MAX_ITERS {
+    for k in 0..MAX_ITERS {
         let before = g.state;
         g = iterate(p, ws, &mut gram, n, m, k, g);
-        k += 1;
         let s = g.state;
-        let status = s.status;
-        match status {
+        match s.status {
             Status::Ended => return s,
-            Status::Refused(_, _) => return s,
+            Status::Refused(_) => return s,
             Status::Going => {}
         }
         if is_settled(before.lambda, s.lambda) {
-            return repeat_last(s, k, s.runs - before.runs);
+            return repeat_last(s, k + 1, s.runs - before.runs);
         }
     }
     g.state
 }
 
 // A refusal: no decision.
-pub fn not_found(number: usize, place: usize, runs: usize) -> Found
-    ensures { result ≡ Search.not_found number place runs }
+pub fn not_found(why: Refusal, runs: usize) -> Found
+    ensures { result ≡ Search.not_found why runs }
 {
-    let z = [0.0; DECISION_NUMBERS];
-    let held: [usize; 12] = [0; 12];
     Found {
-        fate: Fate::Refused(number, place),
-        runs: runs,
+        fate: Err(why),
+        runs,
         iterations: 0,
-        z: z,
-        run: refused_run(number, place),
+        z: [0.0; DECISION_NUMBERS],
+        run: refused_run(why.number, why.place),
         tried: false,
-        held: held,
+        held: [0; 12],
     }
 }
 
@@ -103,17 +96,16 @@ fn final_run(p: CheckedProblem, s: SearchState) -> Found
     let z = c.z;
     let held = c.held;
     let run = run_of(p, z);
-    let fate = run.fate;
-    match fate {
-        Fate::Refused(number, place) => not_found(number, place, s.runs + 1),
-        Fate::Going => Found {
-            fate: Fate::Going,
+    match run.fate {
+        Err(why) => not_found(why, s.runs + 1),
+        Ok(()) => Found {
+            fate: Ok(()),
             runs: s.runs + 1,
             iterations: s.iterations,
-            z: z,
-            run: run,
+            z,
+            run,
             tried: c.tried,
-            held: held,
+            held,
         },
     }
 }
@@ -123,10 +115,9 @@ pub fn conclude(p: CheckedProblem, s: SearchState) -> Found
     requires { (is_sized p.map ≡ true) × ((control_dim p.map ≤ 12) × (s.runs ≤ 8500)) }
     ensures { result ≡ Search.conclude p s }
 {
-    let status = s.status;
-    match status {
+    match s.status {
         Status::Going => final_run(p, s),
         Status::Ended => final_run(p, s),
-        Status::Refused(number, place) => not_found(number, place, s.runs),
+        Status::Refused(why) => not_found(why, s.runs),
     }
 }

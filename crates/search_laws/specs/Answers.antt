@@ -1,12 +1,10 @@
 -- What a decision is that the search found and the end checks let pass. Assumes nothing.
-use Rattle.std.specs.Prelude.{◌≡◌, refl, List, [], ◌∷◌, ℕ, ◌<◌, ◌≤◌, T, length, Float}
+use Rattle.std.specs.Prelude.{◌≡◌, refl, List, [], ◌∷◌, ℕ, ◌<◌, ◌≤◌, T, length, Float, Ok, Err}
 use Rattle.std.proofs.Common.{arith}
 use Rattle.std.specs.Float.{binary64}
 use Rattle.std.specs.Float.Ieee.{le, fits, of_bits}
 use Rattle.std.specs.Float.Ieee.Scale.{finite}
 use Rattle.common.specs.Lists.{at}
-use Rattle.common.specs.declared.Fate.{Fate}
-use Rattle.common.specs.declared.Fate.TheVariants.{Going, Refused}
 use Rattle.float.specs.Ops.{abs}
 use Rattle.float_laws.specs.Finite.{finite_number}
 use Rattle.float_laws.specs.Limits.{Under}
@@ -40,6 +38,7 @@ use Rattle.search_laws.specs.Better.{Better}
 use Rattle.search_laws.specs.BetterLaws.{searched_better}
 use Rattle.search_laws.specs.Decisions.{Sound, searched_sound}
 use Rattle.search_laws.specs.Ends.{Checked, ends_checked}
+use Rattle.common.specs.Refusals.{Fate, going}
 
 -- control i's limit in a row of the map m, with the torque limits box
 abbrev pub limit_in : ActuatorMap → List Float → ℕ → Float
@@ -48,7 +47,7 @@ limit_in m box i = limit_of (rig_of m) m.wheel_torques m.thruster_torques box i
 -- the decision z that is found, and its run, which passes the end checks
 pub record Answered (p : CheckedProblem) (seed : List Float) (z : List Float) (run : Run) : Type 0 where
   -- its run is that of its own decision
-  pub went : (run_of p z).fate ≡ Going
+  pub went : (run_of p z).fate ≡ going
   pub is : run ≡ run_of p z
   -- every control is at most its limit in size
   pub controls : (k : ℕ) → k < 16 → (i : ℕ) → i < control_dim p.map → T (le (abs (control (control_dim p.map) z k i)) (limit_in p.map p.torque_limit i))
@@ -72,9 +71,9 @@ pub record Answered (p : CheckedProblem) (seed : List Float) (z : List Float) (r
   -- past its numbers stands what the seed's has there
   pub sound : Sound p seed z
 
-went_on : (e : Fate) → T (goes e) → e ≡ Going
-went_on Going t = refl
-went_on (Refused i j) t = absurd t
+went_on : (e : Fate) → T (goes e) → e ≡ going
+went_on (Ok _) t = refl
+went_on (Err why) t = absurd t
 
 end_held : Held binary64 Ends.tolerance
 end_held = held (unfold fits of_bits in tt) (unfold of_bits in tt)

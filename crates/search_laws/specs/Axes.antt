@@ -1,6 +1,6 @@
 -- The unit vector that `unit3` gives is finite: its length is at least 1e-18, and numbers whose squares are finite are at most 2 ^ 512. Assumes nothing.
 use Rattle.std.proofs.Math.Path.{◌≡◌}
-use Rattle.std.specs.Prelude.{refl, Bool, true, false, ◌||◌, List, [], ◌∷◌, ℕ, ◌+◌, ◌*◌, ◌^◌, ◌≤◌, ◌<◌, ℤ, pos, leb, Float}
+use Rattle.std.specs.Prelude.{refl, Bool, true, false, ◌||◌, List, [], ◌∷◌, ℕ, ◌+◌, ◌*◌, ◌^◌, ◌≤◌, ◌<◌, ℤ, pos, leb, Float, Option, Some, None}
 use Rattle.std.proofs.Common.{sym, ap, ◌∙◌, le_trans, le_of_eq, le_of_lt, le_of_mul-le-mul_right, mul_assoc, mul_left_comm, mul_right_comm, mul_comm, mul-one, mul-pos, mul-le-mul, mul-le-mul_right, arith, leb→le, pow_pos, pow-add}
 use Rattle.std.proofs.Math.Bool.{not}
 use Rattle.std.proofs.Math.Nat.{mul-mul-mul_comm}
@@ -21,8 +21,6 @@ use Rattle.float_laws.specs.Finite.{finite_number, add_finite, mul_finite, sqrt_
 use Rattle.float_laws.specs.Sizes.{Within, Beyond, mul_in, div_in}
 use Rattle.geom.specs.Vec.{dot3}
 use Rattle.geom.specs.Quats.{norm3, least, unit_by, unit3}
-use Rattle.geom.specs.declared.Axis.{Axis}
-use Rattle.geom.specs.declared.Axis.TheVariants.{Is, Not}
 use Rattle.run_laws.specs.Values.{Fine3, Fit3}
 use Rattle.run_laws.specs.TestLaws.{outcomes}
 
@@ -130,16 +128,20 @@ module _ (v : List Float) (F : Fit3 v) where
       )
 
   -- UNIT: a unit vector's parts are finite
-  pub unit_fine : (x y z : Float) → unit3 v ≡ Is x y z → T (finite x) × T (finite y) × T (finite z)
+  pub unit_fine : (x y z : Float) → unit3 v ≡ Some (x, y, z) → T (finite x) × T (finite y) × T (finite z)
   unfolding unit_by
-  unit_fine x y z e = outcomes (λ a. a ≡ Is x y z) (lt n least || not (finite n)) _ _ (λ t k. not_is k) (λ t k. let r = either_not (lt n least) (finite n) t in same k (parts_fine r.1 r.0)) e
+  unit_fine x y z e = outcomes (λ (a : Option (Float × Float × Float)). a ≡ Some (x, y, z)) (lt n least || not (finite n)) _ _ (λ t k. not_is k) (λ t k. let r = either_not (lt n least) (finite n) t in same k (parts_fine r.1 r.0)) e
     where
-      not_is : {X : Type 0} → Not ≡ Is x y z → X
+      not_is : {X : Type 0} → ◌≡◌ {A = Option (Float × Float × Float)} None (Some (x, y, z)) → X
       not_is h = let o : ◌≡◌ {A = ℕ} 0 1 = cc in absurd (omega arith)
 
-      same : {a b c : Float} → Is a b c ≡ Is x y z → T (finite a) × T (finite b) × T (finite c) → T (finite x) × T (finite y) × T (finite z)
+      part : (Float × Float × Float → Float) → Option (Float × Float × Float) → Float
+      part f (Some u) = f u
+      part f None = x
+
+      same : {a b c : Float} → ◌≡◌ {A = Option (Float × Float × Float)} (Some (a, b, c)) (Some (x, y, z)) → T (finite a) × T (finite b) × T (finite c) → T (finite x) × T (finite y) × T (finite z)
       same {a} {b} {c} h f =
-          let p : a ≡ x = cc in
-          let q : b ≡ y = cc in
-          let r : c ≡ z = cc in
+          let p : a ≡ x = ap (part (λ u. u.0)) h in
+          let q : b ≡ y = ap (part (λ u. u.1)) h in
+          let r : c ≡ z = ap (part (λ u. u.2)) h in
           (rw (← p) f.0, rw (← q) f.1, rw (← r) f.2)

@@ -1,11 +1,9 @@
 -- What every part of the search keeps, the search keeps: one traversal of its definition, over any property of its state. Assumes nothing.
-use Rattle.std.specs.Prelude.{◌≡◌, Bool, true, false, cond, List, T, Float}
+use Rattle.std.specs.Prelude.{◌≡◌, Bool, true, false, cond, List, T, Float, Ok, Err}
 use Rattle.std.proofs.Math.Path.{refl}
 use Prim.Native.Nat.{ℕ, zero, suc, ◌+◌}
 use Rattle.std.specs.Float.Ieee.{lt, le}
 use Rattle.common.specs.Iter.{iter}
-use Rattle.common.specs.declared.Fate.{Fate}
-use Rattle.common.specs.declared.Fate.TheVariants as Fate
 use Rattle.problem.specs.declared.CheckedProblem.{CheckedProblem}
 use Rattle.forward.specs.Runs.{run_of}
 use Rattle.residuals.specs.Residuals.{residuals_of}
@@ -18,6 +16,7 @@ use Rattle.scvx.specs.declared.Status.TheVariants.{Going, Ended, Refused}
 use Rattle.scvx.specs.declared.SearchState.{SearchState}
 use Rattle.scvx.specs.declared.Found.{Found}
 use Rattle.run_laws.specs.Values.{goes}
+use Rattle.common.specs.Refusals.{Fate}
 
 -- A property of the state that each part keeps: runs counted, an end, another damping factor, an iteration begun, and a trial of a strictly smaller length taken.
 pub record Kept (p : CheckedProblem) (Q : SearchState → Type 0) : Type 0 where
@@ -39,8 +38,8 @@ module _ (p : CheckedProblem) (Q : SearchState → Type 0) (K : Kept p Q) where
   judge_keeps s d q = judge s d _ _ (lt (Search.residual_length p (Search.trial_of p s.candidate.z d)) s.candidate.residual) (λ h. h) q
 
   try_step_by_keeps : (s : SearchState) (d : List Float) (f : Fate) → Q s → Q (Search.try_step_by p s (Search.trial_of p s.candidate.z d) (Search.trial_held p s.candidate.z d) (residuals_of p (Search.trial_of p s.candidate.z d)) f)
-  try_step_by_keeps s d Fate.Going q = judge_keeps s d q
-  try_step_by_keeps s d (Fate.Refused number place) q = K.ended s (Refused number place) q
+  try_step_by_keeps s d (Ok _) q = judge_keeps s d q
+  try_step_by_keeps s d (Err why) q = K.ended s (Refused why) q
 
   try_step_keeps : (s : SearchState) (d : List Float) → Q s → Q (Search.try_step p s d)
   unfolding Search.try_step
@@ -56,7 +55,7 @@ module _ (p : CheckedProblem) (Q : SearchState → Type 0) (K : Kept p Q) where
 
   linear_step_by_keeps : (s : SearchState) (r : List Float) (j : Columns) → Q s → Q (Search.linear_step_by p s r j)
   linear_step_by_keeps s r (Formed j) q = take_step_keeps (Search.count_runs_value s (Search.numbers p)) j r (K.ran s (Search.numbers p) q)
-  linear_step_by_keeps s r (Broken number place runs) q = K.ended (Search.count_runs_value s runs) (Refused number place) (K.ran s runs q)
+  linear_step_by_keeps s r (Broken why runs) q = K.ended (Search.count_runs_value s runs) (Refused why) (K.ran s runs q)
 
   linear_step_keeps : (s : SearchState) (r : List Float) → Q s → Q (Search.linear_step p s r)
   unfolding Search.linear_step
@@ -71,14 +70,14 @@ module _ (p : CheckedProblem) (Q : SearchState → Type 0) (K : Kept p Q) where
   improved_keeps s e q = either (le (Search.length_of p e) Search.goal) (Search.with_status s Ended) (Search.linear_step p s e.r) (K.ended s Ended q) (linear_step_keeps s e.r q)
 
   iterate_by_keeps : (s : SearchState) (e : ResidualVector) (f : Fate) → Q s → Q (Search.iterate_by p s e f)
-  iterate_by_keeps s e Fate.Going q = improved_keeps s e q
-  iterate_by_keeps s e (Fate.Refused number place) q = K.ended s (Refused number place) q
+  iterate_by_keeps s e (Ok _) q = improved_keeps s e q
+  iterate_by_keeps s e (Err why) q = K.ended s (Refused why) q
 
   turn_by_keeps : (k : ℕ) (s : SearchState) (f : Status) → Q s → Q (Search.turn_by_value p k s f)
   unfolding Search.iterate
   turn_by_keeps k s Going q = iterate_by_keeps (Search.begin_iteration k s) (residuals_of p s.candidate.z) (residuals_of p s.candidate.z).fate (K.begun k s q)
   turn_by_keeps k s Ended q = q
-  turn_by_keeps k s (Refused number place) q = q
+  turn_by_keeps k s (Refused why) q = q
 
   turns_keep : (s : SearchState) (k : ℕ) → Q s → Q (iter (Search.turn p) s k)
   unfolding iter Search.turn
@@ -101,14 +100,14 @@ pub record Gone (p : CheckedProblem) (s : SearchState) (f : Found) : Type 0 wher
 
 module _ (p : CheckedProblem) (s : SearchState) where
   last_gone : (e : Fate) → (run_of p s.candidate.z).fate ≡ e → T (goes (Search.final_run_by s (run_of p s.candidate.z) e).fate) → Gone p s (Search.final_run_by s (run_of p s.candidate.z) e)
-  last_gone Fate.Going h t = record { z = refl; runs = refl; run = refl; tried = refl; held = refl; went = rw h tt }
-  last_gone (Fate.Refused number place) h t = absurd t
+  last_gone (Ok _) h t = record { z = refl; runs = refl; run = refl; tried = refl; held = refl; went = rw h tt }
+  last_gone (Err why) h t = absurd t
 
   closed_gone : (f : Status) → T (goes (Search.conclude_by p s f).fate) → Gone p s (Search.conclude_by p s f)
   unfolding Search.final_run
   closed_gone Going t = last_gone (run_of p s.candidate.z).fate refl t
   closed_gone Ended t = last_gone (run_of p s.candidate.z).fate refl t
-  closed_gone (Refused number place) t = absurd t
+  closed_gone (Refused why) t = absurd t
 
 pub search_gone : (p : CheckedProblem) (seed : List Float) → T (goes (Search.search p seed).fate) → Gone p (Search.searched p seed) (Search.search p seed)
 unfolding Search.search Search.conclude

@@ -1,12 +1,10 @@
 -- The decision that the search ends in is the seed's, or that of the trial last taken. Assumes nothing.
-use Rattle.std.specs.Prelude.{◌≡◌, Bool, cond, List, ℕ, zero, suc, ◌<◌, ◌≤◌, leb, Float}
+use Rattle.std.specs.Prelude.{◌≡◌, Bool, cond, List, ℕ, zero, suc, ◌<◌, ◌≤◌, leb, Float, Ok, Err}
 use Rattle.std.proofs.Math.Path.{refl}
 use Rattle.std.proofs.Math.Bool.{true, false}
 use Rattle.std.proofs.Common.{arith, leb-true, leb-false}
 use Rattle.std.specs.Float.Ieee.{lt, le}
 use Rattle.common.specs.Iter.{iter}
-use Rattle.common.specs.declared.Fate.{Fate}
-use Rattle.common.specs.declared.Fate.TheVariants as Fate
 use Rattle.problem.specs.declared.CheckedProblem.{CheckedProblem}
 use Rattle.residuals.specs.Residuals.{residuals_of}
 use Rattle.residuals.specs.declared.ResidualVector.{ResidualVector}
@@ -18,6 +16,7 @@ use Rattle.scvx.specs.declared.Status.{Status}
 use Rattle.scvx.specs.declared.Status.TheVariants.{Going, Ended, Refused}
 use Rattle.scvx.specs.declared.SearchState.{SearchState}
 use Rattle.search_laws.specs.Made.{state_at, StepsBy, Made, by_seed, by_trial}
+use Rattle.common.specs.Refusals.{Fate}
 
 -- ---- one iteration leaves the candidate, or takes the trial of its step
 data Turned (p : CheckedProblem) (s : SearchState) (c : Candidate) : Type 0 where
@@ -44,8 +43,8 @@ module _ (p : CheckedProblem) (k : ℕ) (s : SearchState) where
 
   try_by : (d : List Float) → StepsBy p s d → (f : Fate) → Turned p s (Search.try_step_by p s3 (Search.trial_of p s.candidate.z d) (Search.trial_held p s.candidate.z d) (residuals_of p (Search.trial_of p s.candidate.z d)) f).candidate
   unfolding Search.judge
-  try_by d S Fate.Going = judge d S (lt (Search.residual_length p (Search.trial_of p s.candidate.z d)) s.candidate.residual) _ _
-  try_by d S (Fate.Refused number place) = stayed refl
+  try_by d S (Ok _) = judge d S (lt (Search.residual_length p (Search.trial_of p s.candidate.z d)) s.candidate.residual) _ _
+  try_by d S (Err why) = stayed refl
 
   step_by : (j : List (List Float)) → Search.jacobian p s.candidate.z e.r ≡ Formed j → (x : Solution) → Search.step_of p j e.r s.lambda ≡ x → Turned p s (Search.take_step_by p s2 x).candidate
   unfolding Search.try_step
@@ -55,7 +54,7 @@ module _ (p : CheckedProblem) (k : ℕ) (s : SearchState) where
   line_by_law : (c : Columns) → Search.jacobian p s.candidate.z e.r ≡ c → Turned p s (Search.linear_step_by p s1 e.r c).candidate
   unfolding Search.take_step
   line_by_law (Formed j) J = step_by j J (Search.step_of p j e.r s.lambda) refl
-  line_by_law (Broken number place runs) J = stayed refl
+  line_by_law (Broken why runs) J = stayed refl
 
   improve : (b : Bool) → Turned p s (cond b (Search.with_status s1 Ended) (Search.linear_step p s1 e.r)).candidate
   unfolding Search.linear_step
@@ -64,14 +63,14 @@ module _ (p : CheckedProblem) (k : ℕ) (s : SearchState) where
 
   go_by : (f : Fate) → Turned p s (Search.iterate_by p s1 e f).candidate
   unfolding Search.improved
-  go_by Fate.Going = improve (le (Search.length_of p e) Search.goal)
-  go_by (Fate.Refused number place) = stayed refl
+  go_by (Ok _) = improve (le (Search.length_of p e) Search.goal)
+  go_by (Err why) = stayed refl
 
   turn_by : (f : Status) → Turned p s (Search.turn_by_value p k s f).candidate
   unfolding Search.iterate
   turn_by Going = go_by e.fate
   turn_by Ended = stayed refl
-  turn_by (Refused number place) = stayed refl
+  turn_by (Refused why) = stayed refl
 
   turned : Turned p s (Search.turn p k s).candidate
   unfolding Search.turn

@@ -1,6 +1,6 @@
 -- A prepared map has the numbers that the user declared: its counts, its torques and momenta, the pyramid, and the unit vectors along its wheels' axes; and f64 holds them where it holds the
 -- user's. Assumes nothing.
-use Rattle.std.specs.Prelude.{◌≡◌, Bool, cond, List, T, set, length, Float}
+use Rattle.std.specs.Prelude.{◌≡◌, Bool, cond, List, T, set, length, Float, Option, Some, None, Ok, Err}
 use Rattle.std.proofs.Math.Path.{refl}
 use Rattle.std.proofs.Common.{sym, ◌∙◌, subst, arith, ltb-false, length-set, get_or-set_same, get_or-set_other}
 use Rattle.std.proofs.Math.Bool.{true, false}
@@ -10,71 +10,64 @@ use Rattle.std.specs.Float.{nan, binary64}
 use Rattle.std.specs.Float.Ieee.{fits}
 use Rattle.common.specs.Iter.{iter}
 use Rattle.common.specs.Lists.{at}
-use Rattle.common.specs.declared.Fate.{Fate}
-use Rattle.common.specs.declared.Fate.TheVariants.{Going, Refused}
 use Rattle.float_laws.specs.Below.{below_none, below_next}
 use Rattle.geom.specs.Quats.{unit3}
-use Rattle.geom.specs.declared.Axis.{Axis}
-use Rattle.geom.specs.declared.Axis.TheVariants.{Is, Not}
 use Rattle.actuators.specs.Maps as Maps
 use Rattle.actuators.specs.Prepare as Prepare
-use Rattle.actuators.specs.ReadyLaws.{prepared}
-use Rattle.actuators.specs.declared.Cmgs.{Cmgs}
-use Rattle.actuators.specs.declared.Cmgs.TheVariants.{Without, With}
+use Rattle.actuators.specs.ReadyLaws.{Holds, Sound, of_map, prepared}
 use Rattle.actuators.specs.declared.Actuators.{Actuators}
 use Rattle.actuators.specs.declared.ActuatorMap.{ActuatorMap}
-use Rattle.actuators.specs.declared.Prepared.{Prepared}
+use Rattle.actuators.specs.Prepare.{Prepared}
 use Rattle.forward.specs.StepLaws.{refused_going}
 use Rattle.run_laws.specs.Prepared.{RateFits, FitsM}
 use Rattle.search_laws.specs.Decisions.{set_all}
 use Rattle.search_laws.specs.Seeds.{zeros_fit}
+use Rattle.actuators.specs.declared.CmgPyramid.{CmgPyramid}
+use Rattle.common.specs.Refusals.{refusal, going}
 
 -- ---- one traversal of `prepare`, over any property of its answer with j wheels and l thrusters in the tables
 record Kept (a : Actuators) (W : ℕ → ℕ → Prepared → Type 0) : Type 0 where
-  -- a refusal; and an answer that is refused is so at every count
+  -- a refusal, at every count
   no : (j l n place : ℕ) → W j l (Prepare.refused n place)
-  stays : (j l i k n place : ℕ) (p : Prepared) → p.fate ≡ Refused n place → W j l p → W i k p
   start : W 0 0 (Prepare.so_far (Maps.unfilled a.wheel_count a.thruster_count a.cmgs))
-  wheel : (k l : ℕ) (m : ActuatorMap) (x y z : Float) → k < 8 → unit3 (Maps.wheel_at a.wheels k).axis ≡ Is x y z → W k l (Prepare.so_far m) → W (suc k) l (Prepare.so_far (Prepare.with_wheel m k (Maps.wheel_at a.wheels k) x y z))
+  wheel : (k l : ℕ) (m : ActuatorMap) (x y z : Float) → k < 8 → unit3 (Maps.wheel_at a.wheels k).axis ≡ Some (x, y, z) → W k l (Prepare.so_far m) → W (suc k) l (Prepare.so_far (Prepare.with_wheel m k (Maps.wheel_at a.wheels k) x y z))
   thruster : (j k : ℕ) (m : ActuatorMap) (x y z : Float) → k < 12 → W j k (Prepare.so_far m) → W j (suc k) (Prepare.so_far (Prepare.with_thruster m k (Maps.thruster_at a.thrusters k) x y z))
 
 module _ (a : Actuators) (W : ℕ → ℕ → Prepared → Type 0) (K : Kept a W) where
-  placed_keeps : (j l place : ℕ) (u v : Axis) (f : Float → Float → Float → ActuatorMap) → u ≡ v → ((x y z : Float) → u ≡ Is x y z → W j l (Prepare.so_far (f x y z))) → W j l (Prepare.placed place v f)
-  placed_keeps j l place u Not f e h = K.no j l 3 place
-  placed_keeps j l place u (Is x y z) f e h = h x y z e
+  placed_keeps : (j l place : ℕ) (u v : Option (Float × Float × Float)) (f : Float → Float → Float → ActuatorMap) → u ≡ v → ((x y z : Float) → u ≡ Some (x, y, z) → W j l (Prepare.so_far (f x y z))) → W j l (Prepare.placed place v f)
+  placed_keeps j l place u None f e h = K.no j l 3 place
+  placed_keeps j l place u (Some (x, y, z)) f e h = h x y z e
 
-  checked_keeps : (j l : ℕ) (out : Bool) (place : ℕ) (u : Axis) (f : Float → Float → Float → ActuatorMap) → ((x y z : Float) → u ≡ Is x y z → W j l (Prepare.so_far (f x y z))) → W j l (Prepare.checked out place u f)
+  checked_keeps : (j l : ℕ) (out : Bool) (place : ℕ) (u : Option (Float × Float × Float)) (f : Float → Float → Float → ActuatorMap) → ((x y z : Float) → u ≡ Some (x, y, z) → W j l (Prepare.so_far (f x y z))) → W j l (Prepare.checked out place u f)
   checked_keeps j l true place u f h = K.no j l 2 place
   checked_keeps j l false place u f h = placed_keeps j l place u u f refl h
 
   -- from p with j and l to the next answer with i and k
-  onward_keeps : (j l i k : ℕ) (f : Fate) (p next : Prepared) → p.fate ≡ f → W j l p → (W j l (Prepare.so_far p.map) → W i k next) → W i k (Prepare.onward f p next)
-  onward_keeps j l i k Going p next e w h = h (subst (λ (g : Fate). W j l (record { fate = g; map = p.map })) e w)
-  onward_keeps j l i k (Refused n place) p next e w h = K.stays j l i k n place p e w
+  onward_keeps : (j l i k : ℕ) (p : Prepared) (next : ActuatorMap → Prepared) → W j l p → ((m : ActuatorMap) → W j l (Prepare.so_far m) → W i k (next m)) → W i k (Prepare.onward p next)
+  onward_keeps j l i k (Ok m) next w h = h m w
+  onward_keeps j l i k (Err why) next w h = K.no i k why.number why.place
 
   wheels_keep : (n : ℕ) (p : Prepared) → n ≤ 8 → W 0 0 p → W n 0 (iter (Prepare.wheel_turn a.wheels) p n)
   unfolding iter Prepare.wheel_next Prepare.wheel_checked
   wheels_keep zero p h w = w
   wheels_keep (suc k) p h w =
-      let q = iter (Prepare.wheel_turn a.wheels) p k in
       let r = Maps.wheel_at a.wheels k in
-      onward_keeps k 0 (suc k) 0 q.fate q (Prepare.wheel_checked q.map k r) refl (wheels_keep k p (omega arith) w)
-      (λ v. checked_keeps (suc k) 0 (Prepare.wheel_outside r) k (unit3 r.axis) (Prepare.with_wheel q.map k r) (λ x y z u. K.wheel k 0 q.map x y z (omega arith) u v))
+      onward_keeps k 0 (suc k) 0 (iter (Prepare.wheel_turn a.wheels) p k) (λ m. Prepare.wheel_checked m k r) (wheels_keep k p (omega arith) w)
+      (λ m v. checked_keeps (suc k) 0 (Prepare.wheel_outside r) k (unit3 r.axis) (Prepare.with_wheel m k r) (λ x y z u. K.wheel k 0 m x y z (omega arith) u v))
 
   thrusters_keep : (j n : ℕ) (p : Prepared) → n ≤ 12 → W j 0 p → W j n (iter (Prepare.thruster_turn a.thrusters) p n)
   unfolding iter Prepare.thruster_next Prepare.thruster_checked
   thrusters_keep j zero p h w = w
   thrusters_keep j (suc k) p h w =
-      let q = iter (Prepare.thruster_turn a.thrusters) p k in
       let r = Maps.thruster_at a.thrusters k in
-      onward_keeps j k j (suc k) q.fate q (Prepare.thruster_checked q.map k r) refl (thrusters_keep j k p (omega arith) w)
-      (λ v. checked_keeps j (suc k) (Prepare.outside r.max_torque_nm) (8 + k) (unit3 r.torque_axis) (Prepare.with_thruster q.map k r) (λ x y z u. K.thruster j k q.map x y z (omega arith) v))
+      onward_keeps j k j (suc k) (iter (Prepare.thruster_turn a.thrusters) p k) (λ m. Prepare.thruster_checked m k r) (thrusters_keep j k p (omega arith) w)
+      (λ m v. checked_keeps j (suc k) (Prepare.outside r.max_torque_nm) (8 + k) (unit3 r.torque_axis) (Prepare.with_thruster m k r) (λ x y z u. K.thruster j k m x y z (omega arith) v))
 
-  cmgs_keep : (j l : ℕ) (c : Cmgs) (m : ActuatorMap) → W j l (Prepare.so_far m) → W j l (Prepare.cmgs_checked c m)
-  cmgs_keep j l Without m w = w
-  cmgs_keep j l (With y) m w = go (Prepare.pyramid_outside y)
+  cmgs_keep : (j l : ℕ) (c : Option CmgPyramid) (m : ActuatorMap) → W j l (Prepare.so_far m) → W j l (Prepare.cmgs_checked c m)
+  cmgs_keep j l None m w = w
+  cmgs_keep j l (Some y) m w = go (Prepare.pyramid_outside y)
     where
-      go : (b : Bool) → W j l (cond b (Prepare.refused 2 20) (Prepare.so_far m))
+      go : (b : Bool) → W j l (Prepare.under_cmgs (cond b (Err (refusal 2 20)) going) m)
       go true = K.no j l 2 20
       go false = w
 
@@ -83,9 +76,9 @@ module _ (a : Actuators) (W : ℕ → ℕ → Prepared → Type 0) (K : Kept a W
   filled_keeps h i =
       let p = iter (Prepare.wheel_turn a.wheels) (Prepare.so_far (Maps.unfilled a.wheel_count a.thruster_count a.cmgs)) a.wheel_count in
       let q = iter (Prepare.thruster_turn a.thrusters) p a.thruster_count in
-      onward_keeps a.wheel_count a.thruster_count a.wheel_count a.thruster_count q.fate q (Prepare.cmgs_checked a.cmgs q.map) refl
+      onward_keeps a.wheel_count a.thruster_count a.wheel_count a.thruster_count q (Prepare.cmgs_checked a.cmgs)
       (thrusters_keep a.wheel_count a.thruster_count p i (wheels_keep a.wheel_count (Prepare.so_far (Maps.unfilled a.wheel_count a.thruster_count a.cmgs)) h K.start))
-      (cmgs_keep a.wheel_count a.thruster_count a.cmgs q.map)
+      (cmgs_keep a.wheel_count a.thruster_count a.cmgs)
 
   prepare_keeps : W a.wheel_count a.thruster_count (Prepare.prepare a)
   unfolding Prepare.prepare
@@ -104,25 +97,24 @@ pub record FitsA (a : Actuators) : Type 0 where
   pub thrust : (k : ℕ) → T (fits binary64 (Maps.thruster_at a.thrusters k).max_torque_nm)
   pub rate : RateFits a.cmgs
 
-unfilled_fits : (nw nt : ℕ) (c : Cmgs) → RateFits c → FitsM (Maps.unfilled nw nt c)
+unfilled_fits : (nw nt : ℕ) (c : Option CmgPyramid) → RateFits c → FitsM (Maps.unfilled nw nt c)
 unfolding Maps.unfilled
 unfilled_fits nw nt c r = record { torque = zeros_fit 8; momentum = zeros_fit 8; thrust = zeros_fit 12; rate = r }
 
 abbrev IsFit : Float → Type 0
 IsFit x = T (fits binary64 x)
 
-fits_kept : (a : Actuators) → FitsA a → Kept a (λ j l p. FitsM p.map)
+fits_kept : (a : Actuators) → FitsA a → Kept a (λ j l p. FitsM (Prepare.map_or_blank p))
 unfolding Prepare.with_wheel Prepare.with_thruster
 fits_kept a F = record {
-  no = λ j l n place. unfilled_fits 0 0 Without tt;
-  stays = λ j l i k n place p e w. w;
+  no = λ j l n place. unfilled_fits 0 0 None tt;
   start = unfilled_fits _ _ a.cmgs F.rate;
   wheel = λ k l m x y z h u M. record { torque = set_all IsFit m.wheel_torques k _ (F.torque k) M.torque; momentum = set_all IsFit m.wheel_momenta k _ (F.momentum k) M.momentum; thrust = M.thrust; rate = M.rate };
   thruster = λ j k m x y z h M. record { torque = M.torque; momentum = M.momentum; thrust = set_all IsFit m.thruster_torques k _ (F.thrust k) M.thrust; rate = M.rate };
 }
 
-pub prepare_fits : (a : Actuators) → FitsA a → FitsM (Prepare.prepare a).map
-prepare_fits a F = prepare_keeps a (λ j l p. FitsM p.map) (fits_kept a F)
+pub prepare_fits : (a : Actuators) → FitsA a → FitsM (Prepare.map_or_blank (Prepare.prepare a))
+prepare_fits a F = prepare_keeps a (λ j l p. FitsM (Prepare.map_or_blank p)) (fits_kept a F)
 
 -- ---- the map has the user's numbers
 -- the first j numbers of a table of a size are those of v
@@ -149,12 +141,12 @@ module _ (a : Actuators) where
   -- the first j axes of a table of eight are the unit vectors along the wheels' axes
   pub record Axes (j : ℕ) (t : List Float) : Type 0 where
     pub long : length t ≡ 24
-    pub is : (k : ℕ) → k < j → unit3 (Maps.wheel_at a.wheels k).axis ≡ Is (at t (3 * k)) (at t (3 * k + 1)) (at t (3 * k + 2))
+    pub is : (k : ℕ) → k < j → unit3 (Maps.wheel_at a.wheels k).axis ≡ Some (at t (3 * k), at t (3 * k + 1), at t (3 * k + 2))
 
-  axes_more : (k : ℕ) (t : List Float) (x y z : Float) → k < 8 → unit3 (Maps.wheel_at a.wheels k).axis ≡ Is x y z → Axes k t → Axes (suc k) (Prepare.axis_set t k x y z)
+  axes_more : (k : ℕ) (t : List Float) (x y z : Float) → k < 8 → unit3 (Maps.wheel_at a.wheels k).axis ≡ Some (x, y, z) → Axes k t → Axes (suc k) (Prepare.axis_set t k x y z)
   axes_more k t x y z h u A = record {
     long = long3 ∙ A.long;
-    is = below_next (λ i. unit3 (Maps.wheel_at a.wheels i).axis ≡ Is (at t3 (3 * i)) (at t3 (3 * i + 1)) (at t3 (3 * i + 2))) k
+    is = below_next (λ i. unit3 (Maps.wheel_at a.wheels i).axis ≡ Some (at t3 (3 * i), at t3 (3 * i + 1), at t3 (3 * i + 2))) k
         (rw (here0, here1, here2) u)
         (λ i l. rw (there (3 * i) (omega arith), there (3 * i + 1) (omega arith), there (3 * i + 2) (omega arith)) (A.is i l));
   }
@@ -195,14 +187,13 @@ module _ (a : Actuators) where
     pub thrusts : Column 12 l thrust m.thruster_torques
     pub axes : Axes j m.wheel_axes
 
-  tables_kept : Kept a (λ j l p. p.fate ≡ Going → Tables j l p.map)
+  tables_kept : Kept a (λ j l p. Holds (Tables j l) p)
   unfolding Prepare.with_wheel Prepare.with_thruster Maps.unfilled
   tables_kept = record {
-    no = λ j l n place e. absurd (refused_going e);
-    stays = λ j l i k n place p f w e. absurd (refused_going (sym f ∙ e));
-    start = λ e. record { torques = record { long = refl; is = below_none _ }; momenta = record { long = refl; is = below_none _ }; thrusts = record { long = refl; is = below_none _ }; axes = record { long = refl; is = below_none _ } };
-    wheel = λ k l m x y z h u w e. let M = w refl in record { torques = column_more 8 k wheel_torque m.wheel_torques h M.torques; momenta = column_more 8 k wheel_momentum m.wheel_momenta h M.momenta; thrusts = M.thrusts; axes = axes_more k m.wheel_axes x y z h u M.axes };
-    thruster = λ j k m x y z h w e. let M = w refl in record { torques = M.torques; momenta = M.momenta; thrusts = column_more 12 k thrust m.thruster_torques h M.thrusts; axes = M.axes };
+    no = λ j l n place. tt;
+    start = record { torques = record { long = refl; is = below_none _ }; momenta = record { long = refl; is = below_none _ }; thrusts = record { long = refl; is = below_none _ }; axes = record { long = refl; is = below_none _ } };
+    wheel = λ k l m x y z h u M. record { torques = column_more 8 k wheel_torque m.wheel_torques h M.torques; momenta = column_more 8 k wheel_momentum m.wheel_momenta h M.momenta; thrusts = M.thrusts; axes = axes_more k m.wheel_axes x y z h u M.axes };
+    thruster = λ j k m x y z h M. record { torques = M.torques; momenta = M.momenta; thrusts = column_more 12 k thrust m.thruster_torques h M.thrusts; axes = M.axes };
   }
 
   -- THE MAP of what the user declares
@@ -212,7 +203,7 @@ module _ (a : Actuators) where
     pub cmgs : m.cmgs ≡ a.cmgs
     pub tables : Tables a.wheel_count a.thruster_count m
 
-  pub prepare_declared : (Prepare.prepare a).fate ≡ Going → Declared (Prepare.prepare a).map
+  pub prepare_declared : {m : ActuatorMap} → Prepare.prepare a ≡ Ok m → Declared m
   prepare_declared e =
-      let R = (prepared a e).ready in
-      record { wheels = R.wheels; thrusters = R.thrusters; cmgs = R.gyros; tables = prepare_keeps a (λ j l p. p.fate ≡ Going → Tables j l p.map) tables_kept e }
+      let R = (of_map (Sound a) (prepared a) e).ready in
+      record { wheels = R.wheels; thrusters = R.thrusters; cmgs = R.gyros; tables = of_map (Tables a.wheel_count a.thruster_count) (prepare_keeps a (λ j l p. Holds (Tables j l) p) tables_kept) e }

@@ -14,7 +14,6 @@ use Rattle.float_laws.specs.Zeros.{is_zero, is_minus_zero, add-zero, times_zero}
 use Rattle.geom.specs.Vec as Vec
 use Rattle.geom.specs.Quats.{unit3}
 use Rattle.geom.specs.declared.Quat.{Quat}
-use Rattle.geom.specs.declared.Axis.TheVariants.{Is}
 use Rattle.actuators.specs.Maps as Maps
 use Rattle.actuators.specs.declared.Actuators.{Actuators}
 use Rattle.control_rows.specs.Parts.{axes, body_momentum}

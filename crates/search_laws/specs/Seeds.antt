@@ -1,5 +1,5 @@
 -- The seed's decision is a projected one: f64 holds its numbers where it holds the seed's, each control is clamped to its limit, and past its numbers stands +0. Assumes nothing.
-use Rattle.std.specs.Prelude.{◌≡◌, refl, Bool, true, false, cond, ◌&&◌, List, [], ◌∷◌, ◌++◌, ℕ, zero, suc, ◌+◌, ◌*◌, ◌<◌, ◌≤◌, T, eqb, set, length, take, replicate, Float}
+use Rattle.std.specs.Prelude.{◌≡◌, refl, Bool, true, false, cond, ◌&&◌, List, [], ◌∷◌, ◌++◌, ℕ, zero, suc, ◌+◌, ◌*◌, ◌<◌, ◌≤◌, T, eqb, set, length, take, replicate, Float, Option, Some, None, Result, Ok, Err}
 use Rattle.std.proofs.Common.{◌∙◌, suc-mul, arith, length-take-le}
 use Rattle.std.proofs.lemmas.List.{get_or-replicate}
 use Rattle.std.specs.Float.{nan, binary64}
@@ -9,8 +9,6 @@ use Rattle.std.specs.Float.Ieee.Fits.{add-fits, nan-fits}
 use Rattle.common.specs.Floats as Floats
 use Rattle.common.specs.IterLaws.{row_end}
 use Rattle.common.specs.Lists.{at}
-use Rattle.common.specs.declared.Fate.{Fate}
-use Rattle.common.specs.declared.Fate.TheVariants.{Going, Refused}
 use Rattle.float.specs.Ops.{clamp}
 use Rattle.float_laws.specs.Below.{below_turns}
 use Rattle.float_laws.specs.Limits.{Limit, limit_held, limit_place}
@@ -18,12 +16,10 @@ use Rattle.float_laws.specs.Order.{neg_held, place_neg, up_nlt}
 use Rattle.geom.specs.Vec as Vec
 use Rattle.geom.specs.Tensors.{invert3}
 use Rattle.actuators.specs.Maps.{is_empty, control_dim}
-use Rattle.actuators.specs.Pyramid.{rows, gram, pyramid_a}
+use Rattle.actuators.specs.Pyramid.{Jacobian, rows, gram, pyramid_a}
 use Rattle.actuators.specs.Allocate as Allocate
-use Rattle.actuators.specs.declared.Allocated.{Allocated}
+use Rattle.actuators.specs.Allocate.{Allocated}
 use Rattle.actuators.specs.declared.CmgPyramid.{CmgPyramid}
-use Rattle.actuators.specs.declared.Cmgs.{Cmgs}
-use Rattle.actuators.specs.declared.Cmgs.TheVariants.{Without, With}
 use Rattle.actuators.specs.declared.ActuatorMap.{ActuatorMap}
 use Rattle.forward.specs.Decisions.{packed_len}
 use Rattle.seeds.specs.Seeds as Seeds
@@ -32,6 +28,7 @@ use Rattle.run_laws.specs.Runs.{take_fits}
 use Rattle.run_laws.specs.Decisions.{paste_low, paste_high, paste_length, paste_all, Projected, Done, all_done, control_limit_law}
 use Rattle.search_laws.specs.Decisions.{set_all}
 use Rattle.search_laws.specs.Fits.{Fit}
+use Rattle.common.specs.declared.Refusal.{Refusal}
 
 -- ---- lists that f64 holds, number by number
 abbrev pub All : List Float → Type 0
@@ -61,38 +58,38 @@ zeros_fit n = all_fit (replicate n Floats.plus_zero) (zeros n)
 
 -- ---- a row that `allocate` gives: 20 numbers, that f64 holds where it holds the torque
 record Row (tau : List Float) (a : Allocated) : Type 0 where
-  long : length a.u ≡ 20
-  fit : Fit tau → Fit a.u
+  long : length (Allocate.row_or_zeros a) ≡ 20
+  fit : Fit tau → Fit (Allocate.row_or_zeros a)
 
 module _ (tau : List Float) where
   unserved_row : (n place : ℕ) → Row tau (Allocate.unserved n place)
   unserved_row n place = record { long = refl; fit = λ F. zeros_fit 20 }
 
-  three_row : (v : List Float) → (Fit tau → Fit v) → Row tau (Allocate.three v)
-  three_row v f = record { long = refl; fit = λ F. all_fit (Allocate.three v).u (f F 0, (f F 1, (f F 2, zeros 17))) }
+  three_row : (v : List Float) → (Fit tau → Fit v) → Row tau (Ok (Allocate.three v))
+  three_row v f = record { long = refl; fit = λ F. all_fit (Allocate.three v) (f F 0, (f F 1, (f F 2, zeros 17))) }
 
-  four_row : (a : List (List Float)) (y : List Float) → Row tau (Allocate.four a y)
-  four_row a y = record { long = refl; fit = λ F. all_fit (Allocate.four a y).u (add-fits binary64 _ _, (add-fits binary64 _ _, (add-fits binary64 _ _, (add-fits binary64 _ _, zeros 16)))) }
+  four_row : (a : List (List Float)) (y : List Float) → Row tau (Ok (Allocate.four a y))
+  four_row a y = record { long = refl; fit = λ F. all_fit (Allocate.four a y) (add-fits binary64 _ _, (add-fits binary64 _ _, (add-fits binary64 _ _, (add-fits binary64 _ _, zeros 16)))) }
 
-  along_row : (f : Fate) (inverse v : List Float) → Row tau (Allocate.along_by f inverse v)
-  along_row Going inverse v = let w = Vec.apply_tensor (Vec.tensor inverse) v in three_row w (λ F. all_fit w (add-fits binary64 _ _, (add-fits binary64 _ _, (add-fits binary64 _ _, tt))))
-  along_row (Refused n place) inverse v = unserved_row 6 1
+  along_row : (i : Result (List Float) Refusal) (v : List Float) → Row tau (Allocate.along_by i v)
+  along_row (Ok inverse) v = let w = Vec.apply_tensor (Vec.tensor inverse) v in three_row w (λ F. all_fit w (add-fits binary64 _ _, (add-fits binary64 _ _, (add-fits binary64 _ _, tt))))
+  along_row (Err why) v = unserved_row 6 1
 
-  least_row : (f : Fate) (inverse : List Float) (a : List (List Float)) (v : List Float) → Row tau (Allocate.least_by_value f inverse a v)
-  least_row Going inverse a v = four_row a (Vec.apply_tensor (Vec.tensor inverse) v)
-  least_row (Refused n place) inverse a v = unserved_row 6 1
+  least_row : (i : Result (List Float) Refusal) (a : List (List Float)) (v : List Float) → Row tau (Allocate.least_by_value i a v)
+  least_row (Ok inverse) a v = four_row a (Vec.apply_tensor (Vec.tensor inverse) v)
+  least_row (Err why) a v = unserved_row 6 1
 
   along : (a : List (List Float)) (v : List Float) → Row tau (Allocate.along_axes a v)
   unfolding Allocate.along_axes
-  along a v = along_row (invert3 a).fate (invert3 a).m v
+  along a v = along_row (invert3 a) v
 
   least : (a : List (List Float)) (v : List Float) → Row tau (Allocate.least_rates a v)
   unfolding Allocate.least_rates
-  least a v = least_row (invert3 (gram a)).fate (invert3 (gram a)).m a v
+  least a v = least_row (invert3 (gram a)) a v
 
-  pyramid_row : (f : Fate) (a : List Float) (p : CmgPyramid) → Row tau (Allocate.pyramid_alone_by f a p tau)
-  pyramid_row Going a p = least (rows a) _
-  pyramid_row (Refused n place) a p = unserved_row 11 0
+  pyramid_row : (j : Jacobian) (p : CmgPyramid) → Row tau (Allocate.pyramid_alone_by j p tau)
+  pyramid_row (Ok a) p = least (rows a) _
+  pyramid_row (Err why) p = unserved_row why.number why.place
 
   either : (b : Bool) (x y : Allocated) → Row tau x → Row tau y → Row tau (cond b x y)
   either true x y p q = p
@@ -106,15 +103,15 @@ module _ (tau : List Float) where
 
   pyramid_alone_law : (p : CmgPyramid) → Row tau (Allocate.pyramid_alone p tau)
   unfolding Allocate.pyramid_alone
-  pyramid_alone_law p = let a = pyramid_a p.skew_rad (replicate 4 Floats.plus_zero) in pyramid_row a.fate a.a p
+  pyramid_alone_law p = pyramid_row (pyramid_a p.skew_rad (replicate 4 Floats.plus_zero)) p
 
-  served_row : (c : Cmgs) (m : ActuatorMap) → Row tau (Allocate.served_by c m tau)
-  served_row Without m = axes_row m
-  served_row (With p) m = either (eqb m.wheel_count 0 && eqb m.thruster_count 0) (Allocate.pyramid_alone p tau) (Allocate.unserved 8 0) (pyramid_alone_law p) (unserved_row 8 0)
+  served_row : (c : Option CmgPyramid) (m : ActuatorMap) → Row tau (Allocate.served_by c m tau)
+  served_row None m = axes_row m
+  served_row (Some p) m = either (eqb m.wheel_count 0 && eqb m.thruster_count 0) (Allocate.pyramid_alone p tau) (Allocate.unserved 8 0) (pyramid_alone_law p) (unserved_row 8 0)
 
   allocate_row : (m : ActuatorMap) → Row tau (Allocate.allocate m tau)
   unfolding Allocate.allocate
-  allocate_row m = either (is_empty m) (Allocate.three tau) (Allocate.served_by m.cmgs m tau) (three_row tau (λ F. F)) (served_row m.cmgs m)
+  allocate_row m = either (is_empty m) (Ok (Allocate.three tau)) (Allocate.served_by m.cmgs m tau) (three_row tau (λ F. F)) (served_row m.cmgs m)
 
 -- ---- a clamped number is its own clamp, a NaN too
 twice : {A : Type 0} (b : Bool) (x : A) → x ≡ cond b x x
@@ -152,7 +149,7 @@ module _ (m : ActuatorMap) (narrow : control_dim m ≤ 12) (duration : Float) (t
     long = paste_length l u a c room lu ∙ D.long;
     first = paste_low l u a c room lu 0 (omega arith) ∙ D.first;
     past = λ i q r. let s = suc-mul k c in paste_high l u a c room lu i (omega arith) ∙ D.past i (omega arith) r;
-    fit = λ F G. paste_all l u a c room lu (λ x. T (fits binary64 x)) (D.fit F G) (λ i q. take_fits x.u c (A.fit (all_fit (Seeds.torque_at torques k) (G (3 * k), (G (3 * k + 1), (G (3 * k + 2), tt))))) i);
+    fit = λ F G. paste_all l u a c room lu (λ x. T (fits binary64 x)) (D.fit F G) (λ i q. take_fits (Allocate.row_or_zeros x) c (A.fit (all_fit (Seeds.torque_at torques k) (G (3 * k), (G (3 * k + 1), (G (3 * k + 2), tt))))) i);
   }
     where
       x : Allocated
@@ -162,7 +159,7 @@ module _ (m : ActuatorMap) (narrow : control_dim m ≤ 12) (duration : Float) (t
       A = allocate_row (Seeds.torque_at torques k) m
 
       u : List Float
-      u = take c x.u
+      u = take c (Allocate.row_or_zeros x)
 
       a : ℕ
       a = 1 + k * c
@@ -171,7 +168,7 @@ module _ (m : ActuatorMap) (narrow : control_dim m ≤ 12) (duration : Float) (t
       room = let s = row_end k 16 c h in omega (arith, D.long, narrow)
 
       lu : length u ≡ c
-      lu = length-take-le c x.u (omega (arith, A.long, narrow))
+      lu = length-take-le c (Allocate.row_or_zeros x) (omega (arith, A.long, narrow))
 
   begin : Filled 0 (set (replicate 193 Floats.plus_zero) 0 duration)
   begin = record {

@@ -3,17 +3,17 @@ use Rattle.std.specs.Prelude.{ℕ, ◌+◌, ◌*◌, List, [], ◌∷◌, set, t
 use Rattle.common.specs.Floats as Floats
 use Rattle.common.specs.Iter.{iter}
 use Rattle.common.specs.Lists.{at, pasted}
-use Rattle.common.specs.declared.Fate.{Fate}
 use Rattle.geom.specs.Vec as Vec
 use Rattle.actuators.specs.Maps.{control_dim}
-use Rattle.actuators.specs.Allocate.{allocate}
+use Rattle.actuators.specs.Allocate.{allocate, row_or_zeros}
 use Rattle.actuators.specs.declared.ActuatorMap.{ActuatorMap}
 use Rattle.held_counts.specs.Counts.{held_counts}
 use Rattle.forward.specs.Decisions.{project_turn}
+use Rattle.common.specs.Refusals.{Fate, fate_of}
 
 -- 8, and 6 at place 1: `allocate_body_torque` refuses the actuators. It does so whatever the torque is (SeedLaws), so that this is asked once, of no torque.
 unfoldable pub served : ActuatorMap → Fate
-served m = (allocate m Vec.zero3).fate
+served m = fate_of (allocate m Vec.zero3)
 
 -- node k's torque, of three numbers a node
 abbrev pub torque_at : List Float → ℕ → List Float
@@ -21,7 +21,7 @@ torque_at torques k = at torques (3 * k) ∷ at torques (3 * k + 1) ∷ at torqu
 
 -- the controls that give node k's torque
 abbrev pub row_at : ActuatorMap → List Float → ℕ → List Float
-row_at m torques k = (allocate m (torque_at torques k)).u
+row_at m torques k = row_or_zeros (allocate m (torque_at torques k))
 
 -- row k
 abbrev pub allocate_turn : ActuatorMap → List Float → ℕ → List Float → List Float

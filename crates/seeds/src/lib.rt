@@ -8,7 +8,7 @@ ghost use Rattle.actuators.specs.Maps.{control_dim};
 ghost use Rattle.seeds.specs.Seeds as Seeds;
 
 use actuators::{ActuatorMap, allocate_body_torque, control_dim};
-use common::{DECISION_NUMBERS, Decision, Fate, STEPS};
+use common::{DECISION_NUMBERS, Decision, Refusal, STEPS};
 use forward::decisions::project_rows;
 use held_counts::held_counts;
 
@@ -20,12 +20,11 @@ pub struct SeedDecision {
 }
 
 // Whether the actuators are served: 8, or 6 at place 1, where they are not.
-pub fn served(map: ActuatorMap) -> Fate
+pub fn served(map: ActuatorMap) -> Result<(), Refusal>
     ensures { result ≡ Seeds.served map }
 {
-    let row = allocate_body_torque(map, [0.0; 3]);
-    let fate = row.fate;
-    fate
+    allocate_body_torque(map, [0.0; 3])?;
+    Ok(())
 }
 
 // The lent row becomes the first numbers of u.
@@ -33,11 +32,8 @@ fn put_row(row: &mut [f64], u: [f64; 20])
     requires { length row.old ≤ 20 }
     ensures { row.new ≡ take (length row.old) u }
 {
-    let mut i = 0;
-    while i < row.len() {
-        row[i] = u[i];
-        i += 1;
-    }
+    let n = row.len();
+    row.copy_from_slice(&u[..n]);
 }
 
 // The controls that give node k's torque, of three numbers a node.
@@ -46,9 +42,7 @@ fn row_of(map: ActuatorMap, torques: &[f64], k: usize) -> [f64; 20]
     ensures { result ≡ Seeds.row_at map torques.now k }
 {
     let i = 3 * k;
-    let row = allocate_body_torque(map, [torques[i], torques[i + 1], torques[i + 2]]);
-    let u = row.u;
-    u
+    allocate_body_torque(map, [torques[i], torques[i + 1], torques[i + 2]]).unwrap_or([0.0; 20])
 }
 
 // The 16 rows allocated, n controls to a row.
@@ -57,13 +51,9 @@ fn allocate_rows(map: ActuatorMap, n: usize, torques: &[f64], z: Decision) -> De
     ensures { result ≡ iter (Seeds.allocate_turn map torques.now) z 16 }
 {
     let mut out = z;
-    let mut k: usize = 0;
-    while k < STEPS {
+    for k in 0..STEPS {
         let at = 1 + k * n;
-        let end = at + n;
-        let u = row_of(map, torques, k);
-        put_row(&mut out[at..end], u);
-        k += 1;
+        put_row(&mut out[at..at + n], row_of(map, torques, k));
     }
     out
 }
@@ -85,8 +75,5 @@ pub fn seed_decision(
     let rows = allocate_rows(map, n, torques, z);
     let projected = project_rows(map, n, torque_limit, rows);
     let held = held_counts(map, torque_limit, &rows);
-    SeedDecision {
-        z: projected,
-        held: held,
-    }
+    SeedDecision { z: projected, held }
 }

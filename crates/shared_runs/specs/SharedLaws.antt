@@ -1,5 +1,5 @@
 -- Two decisions with the same first rows have the same first steps, and what is kept of them stays. Assumes nothing.
-use Rattle.std.specs.Prelude.{ℕ, ◌+◌, ◌*◌, ◌-◌, ◌≤◌, ◌<◌, zero, suc, ◌≡◌, length, take, drop, Float}
+use Rattle.std.specs.Prelude.{ℕ, ◌+◌, ◌*◌, ◌-◌, ◌≤◌, ◌<◌, zero, suc, ◌≡◌, length, take, drop, Float, Ok, Err}
 use Rattle.std.proofs.Math.Path.{refl, ap}
 use Rattle.std.proofs.Common.{sym, subst, ◌∙◌, arith, length-take, length-drop, get_or-take, get_or-drop, ext_get_or}
 use mathlib.Core.List.{List}
@@ -8,12 +8,11 @@ use Rattle.std.specs.Float.Ieee.{div}
 use Rattle.common.specs.Iter.{iter}
 use Rattle.common.specs.IterLaws.{row_end}
 use Rattle.common.specs.Lists.{at, slice}
-use Rattle.common.specs.declared.Fate.{Fate}
-use Rattle.common.specs.declared.Fate.TheVariants.{Going, Refused}
 use Rattle.actuators.specs.Maps.{control_dim}
 use Rattle.problem.specs.declared.CheckedProblem.{CheckedProblem}
 use Rattle.forward.specs.Decisions.{row_of, sixteen, step_time}
-use Rattle.forward.specs.Steps.{Body, step}
+use Rattle.forward.specs.Steps.{step}
+use Rattle.forward.specs.declared.Body.{Body}
 use Rattle.forward.specs.Runs.{Rollout, advance, rollout_by, rollout_turn, start_rollout, body_of, start_of}
 use Rattle.forward.specs.Rows.{node_from, nodes_from, SameBelow}
 use Rattle.forward.specs.RowLaws.{nodes_at}
@@ -27,6 +26,7 @@ use Rattle.residuals.specs.declared.Begun.{Begun}
 use Rattle.residuals.specs.declared.Target.{Target}
 use Rattle.shared_runs.specs.Shared.{Agree, Same, After, Kept}
 use Rattle.shared_runs.specs.declared.Base.{Base}
+use Rattle.common.specs.Refusals.{Fate}
 
 -- two loops whose turns agree below k come to the same
 iter_agree : {A : Type 0} (f g : ℕ → A → A) (a : A) (k : ℕ) → ((j : ℕ) → j < k → (s : A) → f j s ≡ g j s) → iter f a k ≡ iter g a k
@@ -54,8 +54,8 @@ module _ (n k : ℕ) (y z : List Float) (long : length y ≡ length z) (same : A
   turn_same b j l c = by c.fate
     where
       by : (f : Fate) → rollout_by f b n z j c ≡ rollout_by f b n y j c
-      by Going = ap (λ (u : List Float). advance b.frame.dt j c (step b u j c.s)) (sym (row_same j l))
-      by (Refused p q) = refl
+      by (Ok _) = ap (λ (u : List Float). advance b.frame.dt j c (step b u j c.s)) (sym (row_same j l))
+      by (Err why) = refl
 
   time_same : step_time z ≡ step_time y
   time_same = ap (λ (x : Float). div binary64 x sixteen) (sym (same 0 (omega arith)))

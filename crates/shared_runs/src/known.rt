@@ -3,7 +3,7 @@ ghost use Rattle.std.specs.Prelude.{◌≡◌, true, ◌+◌, ◌≤◌, length}
 ghost use Rattle.actuators.specs.Maps.{control_dim, is_sized};
 ghost use Rattle.gimbal_angles.specs.Known.{KnownOf, Filled};
 
-use actuators::{ActuatorMap, Cmgs, control_dim};
+use actuators::{ActuatorMap, CmgPyramid, control_dim};
 use common::{Decision, STEPS};
 use forward::steps::gimbals_next;
 use gimbal_angles::{KnownAngles, put_angles};
@@ -15,14 +15,12 @@ fn fill_angles(n: usize, first: usize, z: &[f64], lut: &mut KnownAngles)
 {
     let dt = z[0] / 16.0;
     let mut delta = [0.0; 4];
-    let mut k: usize = 0;
-    while k < STEPS {
+    for k in 0..STEPS {
         let at = first + k * n;
         let past = at + 4;
         let next = gimbals_next(&z[at..past], delta, dt);
         put_angles(lut, k, next);
         delta = next;
-        k += 1;
     }
 }
 
@@ -33,8 +31,8 @@ pub fn know_angles(map: ActuatorMap, z: &Decision, lut: &mut KnownAngles)
 {
     let cmgs = map.cmgs;
     match cmgs {
-        Cmgs::Without => {}
-        Cmgs::With(_) => {
+        None => {}
+        Some(_) => {
             let n = control_dim(map);
             fill_angles(n, 1 + map.wheel_count + map.thruster_count, z, lut);
         }

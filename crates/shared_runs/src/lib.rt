@@ -3,17 +3,16 @@
 #![tactic(auto)]
 
 ghost use Rattle.std.specs.Prelude.{◌≡◌, true, List, ◌+◌, ◌*◌, ◌≤◌, length, Float};
-ghost use Rattle.common.specs.declared.Fate.TheVariants.{Going};
 ghost use Rattle.actuators.specs.Maps.{control_dim, is_sized};
 ghost use Rattle.gimbal_angles.specs.Known.{KnownOf};
 ghost use Rattle.residuals.specs.Residuals.{residuals_of};
 ghost use Rattle.shared_runs.specs.Shared.{Agree, Same, Keeps, Holds};
 
-use common::{Decision, Fate, SOLVER_NODES, STEPS};
+use common::{Decision, Refusal, SOLVER_NODES, STEPS};
 use control_rows::WheelLaw;
 use float_bits::same_bits;
 use forward::runs::{run_on, start, start_gimbals, steps_under, unbegun};
-use forward::{Partway, Skew};
+use forward::{Angles, Partway, Skew};
 use problem::CheckedProblem;
 use residuals::sums::sums_next;
 use residuals::terms::{keep_error, of_rows, refused_residuals, residuals_of, target_of};
@@ -34,12 +33,12 @@ pub struct Base {
 }
 
 // Whether a stage goes on, and what is known goes with it.
-fn goes(fate: Fate, known: bool) -> bool
-    ensures { result ≡ true → (fate ≡ Going) × (known ≡ true) }
+fn goes(fate: Result<(), Refusal>, known: bool) -> bool
+    ensures { result ≡ true → (fate ≡ Ok tt) × (known ≡ true) }
 {
     match fate {
-        Fate::Going => known,
-        Fate::Refused(_, _) => false,
+        Ok(()) => known,
+        Err(_) => false,
     }
 }
 
@@ -52,20 +51,27 @@ pub fn base_start(p: CheckedProblem) -> Base
     let wheels = map.wheel_axes;
     let momenta = p.momenta;
     let from = start(&wheels, map.wheel_count, p.q0, momenta);
-    let cmgs = map.cmgs;
-    let l = start_gimbals(cmgs);
-    let a = l.a;
-    let skew = l.skew;
-    let fate = l.fate;
-    let at = unbegun(from, a);
-    Base {
-        on: goes(fate, true),
-        steps: 0,
-        skew: skew,
-        at: at,
-        sums: Begun {
-            energy: 0.0,
-            smooth: 0.0,
+    let sums = Begun {
+        energy: 0.0,
+        smooth: 0.0,
+    };
+    match start_gimbals(map.cmgs) {
+        Err(_) => Base {
+            on: false,
+            steps: 0,
+            skew: Skew {
+                sine: 0.0,
+                cosine: 0.0,
+            },
+            at: unbegun(from, [0.0; 12]),
+            sums,
+        },
+        Ok(l) => Base {
+            on: true,
+            steps: 0,
+            skew: l.skew,
+            at: unbegun(from, l.a),
+            sums,
         },
     }
 }
@@ -86,7 +92,6 @@ pub fn base_next(
 {
     let k = b.steps;
     let skew = b.skew;
-    let c = b.at;
     let s = b.sums;
     if !b.on {
         return b;
@@ -94,7 +99,8 @@ pub fn base_next(
     if STEPS <= k {
         return b;
     }
-    let w = steps_under(WheelLaw::Once, p, z, skew, lut, k, k + 1, c, nodes);
+    let angles = Angles { skew, lut };
+    let w = steps_under(WheelLaw::Once, p, z, angles, k, k + 1, b.at, nodes);
     let sums = sums_next(nodes, z[0] / 16.0, k, s);
     let known = keep_error(target_of(p), nodes, k, errors);
     let fate = w.fate;
@@ -113,12 +119,10 @@ pub fn same_front(y: &[f64], z: &[f64], e: usize) -> bool
     requires { (e ≤ length y.now) × (e ≤ length z.now) }
     ensures { result ≡ true → Agree e y.now z.now }
 {
-    let mut i: usize = 0;
-    while i < e {
+    for i in 0..e {
         if !same_bits(y[i], z[i]) {
             return false;
         }
-        i += 1;
     }
     true
 }
@@ -153,13 +157,12 @@ pub fn residuals_sharing(
     if !shares(b.on, k, n, z, y) {
         return residuals_of(p, *y);
     }
-    let skew = b.skew;
-    let c = b.at;
-    let w = run_on(WheelLaw::Once, p, y, skew, lut, k, c, nodes);
+    let angles = Angles { skew: b.skew, lut };
+    let w = run_on(WheelLaw::Once, p, y, angles, k, b.at, nodes);
     let fate = w.fate;
     match fate {
-        Fate::Refused(number, place) => refused_residuals(number, place),
-        Fate::Going => {
+        Err(refusal) => refused_residuals(refusal.number, refusal.place),
+        Ok(()) => {
             let s = b.sums;
             of_rows(target_of(p), y, nodes, k, s, errors)
         }

@@ -3,7 +3,7 @@
 #![tactic(auto)]
 
 use canonical::canonical_text;
-use common::Fate;
+use common::Refusal;
 use program_io::read_full;
 use refusal_text::explain;
 use std::io;
@@ -25,7 +25,7 @@ fn main(rt: HostRuntime) -> io::Result<()> {
     let bytes = told.bytes;
     rt.stdout().write_all(&out[..bytes])?;
     let fate = told.fate;
-    if let Fate::Refused(number, place) = fate {
+    if let Err(Refusal { number, place }) = fate {
         return say(&rt, number, place);
     }
     Ok(())

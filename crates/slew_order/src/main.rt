@@ -1,7 +1,7 @@
 // Orders the tiles of the table of times that stands on standard input: the answer goes to standard output and, where it is refused, a sentence to standard error.
 #![tactic(auto)]
 
-use common::Fate;
+use common::Refusal;
 use order_text::order_text;
 use program_io::read_full;
 use refusal_text::explain;
@@ -24,7 +24,7 @@ fn main(rt: HostRuntime) -> io::Result<()> {
     let bytes = told.bytes;
     rt.stdout().write_all(&out[..bytes])?;
     let fate = told.fate;
-    if let Fate::Refused(number, place) = fate {
+    if let Err(Refusal { number, place }) = fate {
         return say(&rt, number, place);
     }
     Ok(())

@@ -3,28 +3,52 @@
 // error. A program of this language has no exit status: bad arguments show by their sentence, and by nothing on standard output.
 #![tactic(auto)]
 
-ghost use Rattle.std.specs.Prelude.{◌≤◌, length};
-
-use arguments::{Requested, read_requested};
+use arguments::read_requested;
 use program_io::{arg, arg_count};
-use region_text::words::{Whole, read_whole};
+use region_text::words::read_whole;
 use region_text::{write_region, write_reply, write_start};
 use std::io;
 use std::io::Print;
 
-// What a word that is no number is read as: no number that is read is so large.
-const NONE: i64 = 9999;
+// What the arguments ask for.
+enum Asked {
+    Region,
+    Start(i64, i64),
+    Reply(i64, i64, usize, i64),
+}
 
-const NO_TURNS: usize = 999_999;
-
-// Argument number k; the first of the program's arguments, number 0, is its own name.
-fn number(rt: &HostRuntime, k: usize) -> i64 {
+// Argument number k, where it is a number; the first of the program's arguments, number 0, is its own name.
+fn number(rt: &HostRuntime, k: usize) -> Option<i64> {
     let mut word = [0u8; 64];
     let length = arg(rt, k, &mut word);
-    let read = read_whole(&word[..length]);
-    match read {
-        Whole::Is(z) => z,
-        Whole::Not => NONE,
+    read_whole(&word[..length])
+}
+
+// Argument number k as turns left.
+fn turns_left(rt: &HostRuntime, k: usize) -> Option<usize> {
+    let mut word = [0u8; 64];
+    let length = arg(rt, k, &mut word);
+    read_requested(&word[..length])
+}
+
+// Whether argument number 1 is the word `reply`.
+fn asks_reply(rt: &HostRuntime) -> bool {
+    let mut word = [0u8; 64];
+    let length = arg(rt, 1, &mut word);
+    word[..length] == b"reply"[..]
+}
+
+fn read_arguments(rt: &HostRuntime) -> Option<Asked> {
+    match arg_count(rt) {
+        1 => Some(Asked::Region),
+        3 => Some(Asked::Start(number(rt, 1)?, number(rt, 2)?)),
+        6 if asks_reply(rt) => Some(Asked::Reply(
+            number(rt, 2)?,
+            number(rt, 3)?,
+            turns_left(rt, 4)?,
+            number(rt, 5)?,
+        )),
+        _ => None,
     }
 }
 
@@ -34,33 +58,23 @@ fn say_usage(rt: &HostRuntime) -> io::Result<()> {
     )
 }
 
-// An answer's first bytes to standard output, a sentence's to standard error.
-fn show(rt: &HostRuntime, out: &[u8], bytes: usize, said: &[u8], told: usize) -> io::Result<()>
-    requires { (bytes ≤ length out.now) × (told ≤ length said.now) }
-{
-    rt.stdout().write_all(&out[..bytes])?;
-    rt.stderr().write_all(&said[..told])
+// An answer to standard output, and a sentence to standard error.
+fn show(rt: &HostRuntime, answer: &[u8], sentence: &[u8]) -> io::Result<()> {
+    rt.stdout().write_all(answer)?;
+    rt.stderr().write_all(sentence)
+}
+
+fn print_region(rt: &HostRuntime) -> io::Result<()> {
+    let mut out = [0u8; 12780];
+    let bytes = write_region(&mut out);
+    show(rt, &out[..bytes], b"")
 }
 
 fn print_start(rt: &HostRuntime, angle: i64, rate: i64) -> io::Result<()> {
-    if angle == NONE || rate == NONE {
-        return say_usage(rt);
-    }
     let mut out = [0u8; 100];
     let mut said = [0u8; 212];
     let printed = write_start(angle, rate, &mut out, &mut said);
-    show(rt, &out, printed.bytes, &said, printed.said)
-}
-
-// Argument number k as turns left.
-fn turns_left(rt: &HostRuntime, k: usize) -> usize {
-    let mut word = [0u8; 64];
-    let length = arg(rt, k, &mut word);
-    let read = read_requested(&word[..length]);
-    match read {
-        Requested::Of(n) => n,
-        Requested::Not => NO_TURNS,
-    }
+    show(rt, &out[..printed.bytes], &said[..printed.said])
 }
 
 fn print_reply(
@@ -70,48 +84,19 @@ fn print_reply(
     left: usize,
     choice: i64,
 ) -> io::Result<()> {
-    if angle == NONE || rate == NONE || left == NO_TURNS || choice == NONE {
-        return say_usage(rt);
-    }
     let mut out = [0u8; 100];
     let mut said = [0u8; 212];
     let printed = write_reply(angle, rate, left, choice, &mut out, &mut said);
-    show(rt, &out, printed.bytes, &said, printed.said)
-}
-
-fn print_region(rt: &HostRuntime) -> io::Result<()> {
-    let mut out = [0u8; 12780];
-    let bytes = write_region(&mut out);
-    show(rt, &out, bytes, b"", 0)
-}
-
-// Whether argument number 1 is the word `reply`.
-fn asks_reply(rt: &HostRuntime) -> bool {
-    let mut word = [0u8; 64];
-    let length = arg(rt, 1, &mut word);
-    length == 5
-        && word[0] == b'r'
-        && word[1] == b'e'
-        && word[2] == b'p'
-        && word[3] == b'l'
-        && word[4] == b'y'
+    show(rt, &out[..printed.bytes], &said[..printed.said])
 }
 
 fn main(rt: HostRuntime) -> io::Result<()> {
-    let given = arg_count(&rt);
-    if given == 1 {
-        print_region(&rt)
-    } else if given == 3 {
-        print_start(&rt, number(&rt, 1), number(&rt, 2))
-    } else if given == 6 && asks_reply(&rt) {
-        print_reply(
-            &rt,
-            number(&rt, 2),
-            number(&rt, 3),
-            turns_left(&rt, 4),
-            number(&rt, 5),
-        )
-    } else {
-        say_usage(&rt)
+    match read_arguments(&rt) {
+        Some(Asked::Region) => print_region(&rt),
+        Some(Asked::Start(angle, rate)) => print_start(&rt, angle, rate),
+        Some(Asked::Reply(angle, rate, left, choice)) => {
+            print_reply(&rt, angle, rate, left, choice)
+        }
+        None => say_usage(&rt),
     }
 }

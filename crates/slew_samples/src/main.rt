@@ -1,4 +1,4 @@
-// Prints the dense samples of the problem whose text stands on standard input (crates/programs/src/samples.rt).
+// Prints the dense samples of the problem whose text stands on standard input (crates/programs/src/dense_samples.rt).
 #![tactic(auto)]
 
 use std::io;

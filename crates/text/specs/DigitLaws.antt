@@ -2,16 +2,13 @@
 use Prim.Native.Nat.{ℕ, zero, suc, ◌+◌, ◌-◌, ◌*◌, ◌^◌, ◌≤◌, ◌<◌, ◌%◌, zero-le}
 use Rattle.std.proofs.Common.{arith, mul-le-mul_right, lt_of_not-le, sym, ◌∙◌}
 use Rattle.std.proofs.Math.Nat.{pow-succ'}
-use Rattle.std.specs.Prelude.{◌≡◌, refl, List, true, cond, not, ◌&&◌, T, leb, length, get_or}
+use Rattle.std.specs.Prelude.{◌≡◌, refl, List, true, cond, not, ◌&&◌, T, leb, length, get_or, Option, Some, None}
 use Rattle.std.proofs.Math.ListN.{get_or-eq_default}
 use Rattle.std.specs.Float.Ieee as Ieee
 use Rattle.std.specs.Float.{binary64, nan, inf, fin}
 use Rattle.std.specs.Float.Ieee.{of_bits, of_fields, is_nan, nan_bits, div}
 use Rattle.std.specs.Float.Ieee.Bits.{nan_bits_is, nan_bits_above}
 use borrow.Author.Tests.{lt-ltb, le-ltb, le-leb, lt-leb}
-use Rattle.text.specs.declared.hex.Hex.{Hex}
-use Rattle.text.specs.declared.hex.Hex.TheVariants.{Bits, Wrong}
-use Rattle.text.specs.declared.hex.Real.TheVariants as Real
 use Rattle.text.specs.Hex.{digit, more, hex_at, HexIs, real_at, RealIs, float}
 
 suc_sub_one : (k : ℕ) → suc k - 1 ≡ k
@@ -83,12 +80,12 @@ module _ (s : List ℕ) (at m v : ℕ) (e : v ≡ digit (get_or s at 0)) where
   more_step zero p h = absurd (omega arith)
   more_step (suc k) p h = simp (← e, lt-ltb _ _ h, suc_sub_one)
 
-  pub more_stop : (k : ℕ) → 0 < k → 16 ≤ v → more s k at m ≡ Bits m at
+  pub more_stop : (k : ℕ) → 0 < k → 16 ≤ v → more s k at m ≡ Some (m, at)
   unfolding more
   more_stop zero p h = absurd (omega arith)
   more_stop (suc k) p h = simp (← e, le-ltb _ _ h)
 
-pub more_end : (s : List ℕ) (at m k : ℕ) → k ≡ 0 → more s k at m ≡ Bits m at
+pub more_end : (s : List ℕ) (at m k : ℕ) → k ≡ 0 → more s k at m ≡ Some (m, at)
 unfolding more
 more_end s at m k e = rw e
 
@@ -96,7 +93,7 @@ pub hex_at_step : (s : List ℕ) (at v : ℕ) → v ≡ digit (get_or s at 0) �
 unfolding hex_at
 hex_at_step s at v e h = simp (← e, lt-ltb _ _ h)
 
-pub hex_at_none : (s : List ℕ) (at v : ℕ) → v ≡ digit (get_or s at 0) → 16 ≤ v → hex_at s at ≡ Wrong
+pub hex_at_none : (s : List ℕ) (at v : ℕ) → v ≡ digit (get_or s at 0) → 16 ≤ v → hex_at s at ≡ None
 unfolding hex_at
 hex_at_none s at v e h = simp (← e, le-ltb _ _ h)
 
@@ -127,10 +124,10 @@ nan_is m h = zero_over_zero ∙ sym (is_nan_law (of_bits binary64 m) (sym (nan_b
 pub no_nan_bits : (m : ℕ) → m % 0x8000_0000_0000_0000 ≤ 0x7ff0_0000_0000_0000 → T (not (nan_bits binary64 m))
 no_nan_bits m h = rw (nan_bits_above binary64 m ∙ le-ltb _ _ h) tt
 
-pub real_is : (s : List ℕ) (at m i : ℕ) (x : Ieee.Float) (r : Hex) → HexIs s at r → r ≡ Bits m i → x ≡ float m → RealIs s at (Real.Is x i)
+pub real_is : (s : List ℕ) (at m i : ℕ) (x : Ieee.Float) (r : Option (ℕ × ℕ)) → HexIs s at r → r ≡ Some (m, i) → x ≡ float m → RealIs s at (Some (x, i))
 unfolding real_at
 real_is s at m i x r h e n = record { is = rw (← h.is, e, n); within = rw e at h.within }
 
-pub real_wrong : (s : List ℕ) (at : ℕ) (r : Hex) → HexIs s at r → r ≡ Wrong → RealIs s at Real.Wrong
+pub real_wrong : (s : List ℕ) (at : ℕ) (r : Option (ℕ × ℕ)) → HexIs s at r → r ≡ None → RealIs s at None
 unfolding real_at
 real_wrong s at r h e = record { is = rw (← h.is, e); within = zero-le }

@@ -1,12 +1,11 @@
 -- How the words of a line may be written: how many blanks stand before a word, and what a float looks like. Definitions only.
-use Rattle.std.specs.Prelude.{ℕ, zero, suc, ◌+◌, ◌≤◌, ◌≡◌, cond, List, eqb, length, get_or}
-use Rattle.text.specs.declared.hex.Real.{Real}
+use Rattle.std.specs.Prelude.{ℕ, zero, suc, ◌+◌, ◌≤◌, ◌≡◌, cond, List, eqb, length, get_or, Float, Option}
 use Rattle.text.specs.Hex.{real_at}
 
 -- the position of a word after its first blank, and the float at a position
 pub record Form : Type 0 where
   pub skip : List ℕ → ℕ → ℕ
-  pub real : List ℕ → ℕ → Real
+  pub real : List ℕ → ℕ → Option (Float × ℕ)
 
 -- past at most n blanks
 unfoldable pub past : List ℕ → ℕ → ℕ → ℕ

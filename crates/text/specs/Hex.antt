@@ -1,13 +1,9 @@
 -- A float of the program's text: its bits in hexadecimal, top digit first. Read are 1 to 16 digits in either case; written are capitals, trailing zeros dropped but one digit
 -- kept. Definitions only.
 -- What stands at a position is `get_or s at 0`: past the end stands 0, which no form has.
-use Rattle.std.specs.Prelude.{ℕ, zero, suc, ◌+◌, ◌-◌, ◌*◌, ◌/◌, ◌%◌, ◌^◌, ◌≤◌, ◌≡◌, Bool, cond, ◌&&◌, List, [], ◌∷◌, ltb, leb, eqb, length, get_or, Float}
+use Rattle.std.specs.Prelude.{ℕ, zero, suc, ◌+◌, ◌-◌, ◌*◌, ◌/◌, ◌%◌, ◌^◌, ◌≤◌, ◌≡◌, Bool, cond, ◌&&◌, List, [], ◌∷◌, ltb, leb, eqb, length, get_or, Float, Option, Some, None}
 use Rattle.std.specs.Float.{binary64}
 use Rattle.std.specs.Float.Ieee.{of_bits, to_bits}
-use Rattle.text.specs.declared.hex.Hex.{Hex}
-use Rattle.text.specs.declared.hex.Hex.TheVariants.{Bits, Wrong}
-use Rattle.text.specs.declared.hex.Real.{Real}
-use Rattle.text.specs.declared.hex.Real.TheVariants as Real
 
 abbrev inside : ℕ → ℕ → ℕ → Bool
 inside b low high = leb low b && leb b high
@@ -19,26 +15,26 @@ unfoldable pub digit : ℕ → ℕ
 digit b = cond (inside b 48 57) (b - 48) (cond (inside b 65 70) (b - 65 + 10) (cond (inside b 97 102) (b - 97 + 10) 16))
 
 -- at most k more digits, each at its weight
-unfoldable pub more : List ℕ → ℕ → ℕ → ℕ → Hex
-more s zero at m = Bits m at
+unfoldable pub more : List ℕ → ℕ → ℕ → ℕ → Option (ℕ × ℕ)
+more s zero at m = Some (m, at)
 more s (suc k) at m =
     cond (ltb (digit (get_or s at 0)) 16)
     (more s k (at + 1) (m + digit (get_or s at 0) * 16 ^ k))
-    (Bits m at)
+    (Some (m, at))
 
 -- 1 to 16 digits of the pattern from the top; those that are not written are 0
-unfoldable pub hex_at : List ℕ → ℕ → Hex
-hex_at s at = cond (ltb (digit (get_or s at 0)) 16) (more s 15 (at + 1) (digit (get_or s at 0) * 16 ^ 15)) Wrong
+unfoldable pub hex_at : List ℕ → ℕ → Option (ℕ × ℕ)
+hex_at s at = cond (ltb (digit (get_or s at 0)) 16) (more s 15 (at + 1) (digit (get_or s at 0) * 16 ^ 15)) None
 
 -- the float of a pattern; every NaN's pattern is the NaN
 abbrev pub float : ℕ → Float
 float m = of_bits binary64 m
 
-abbrev pub real_by : Hex → Real
-real_by (Bits m next) = Real.Is (float m) next
-real_by Wrong = Real.Wrong
+abbrev pub real_by : Option (ℕ × ℕ) → Option (Float × ℕ)
+real_by (Some (m, next)) = Some (float m, next)
+real_by None = None
 
-unfoldable pub real_at : List ℕ → ℕ → Real
+unfoldable pub real_at : List ℕ → ℕ → Option (Float × ℕ)
 real_at s at = real_by (hex_at s at)
 
 -- ---- writing
@@ -58,18 +54,15 @@ real_text x = hex_text 16 (to_bits binary64 x)
 
 -- ---- contracts: the answer is the definition's, and the next position is within the text
 
-abbrev pub hex_next : Hex → ℕ
-hex_next (Bits m next) = next
-hex_next Wrong = 0
+-- the position after what was read; 0 where nothing was
+abbrev pub next : {A : Type 0} → Option (A × ℕ) → ℕ
+next (Some (a, i)) = i
+next None = 0
 
-pub record HexIs (s : List ℕ) (at : ℕ) (r : Hex) : Type 0 where
+pub record HexIs (s : List ℕ) (at : ℕ) (r : Option (ℕ × ℕ)) : Type 0 where
   pub is : r ≡ hex_at s at
-  pub within : hex_next r ≤ length s
+  pub within : next r ≤ length s
 
-abbrev pub real_next : Real → ℕ
-real_next (Real.Is x next) = next
-real_next Real.Wrong = 0
-
-pub record RealIs (s : List ℕ) (at : ℕ) (r : Real) : Type 0 where
+pub record RealIs (s : List ℕ) (at : ℕ) (r : Option (Float × ℕ)) : Type 0 where
   pub is : r ≡ real_at s at
-  pub within : real_next r ≤ length s
+  pub within : next r ≤ length s

@@ -3,20 +3,6 @@ ghost use Rattle.std.specs.Prelude.{◌≡◌, ◌≤◌, length, get_or};
 ghost use Rattle.text.specs.Forms as Forms;
 ghost use Rattle.text.specs.Hex as Hexes;
 
-// A pattern of 64 bits with the position after its digits, or none.
-#[derive(Clone, Copy)]
-pub enum Hex {
-    Bits(u64, usize),
-    Wrong,
-}
-
-// A float with the position after its digits, or none.
-#[derive(Clone, Copy)]
-pub enum Real {
-    Is(f64, usize),
-    Wrong,
-}
-
 // What stands at a position; past the end, 0.
 pub fn byte(s: &[u8], at: usize) -> u8
     ensures { result ≡ get_or s.now at 0 }
@@ -25,6 +11,7 @@ pub fn byte(s: &[u8], at: usize) -> u8
 }
 
 // A hexadecimal digit's value in either case; 16 of any other byte.
+#[tactic(auto, unfolding(crate::specs::Hex::digit))]
 pub fn hex_digit(b: u8) -> u8
     ensures { result ≡ Hexes.digit b }
 {
@@ -42,33 +29,31 @@ fn wide(x: u8) -> u64
     x as u64
 }
 
-// The pattern at a position: one digit, and up to fifteen more, each at its weight.
-pub fn hex_at(s: &[u8], at: usize) -> Hex
+// The pattern at a position, with the position after its digits: one digit, and up to fifteen more, each at its weight.
+pub fn hex_at(s: &[u8], at: usize) -> Option<(u64, usize)>
     requires { at ≤ length s.now }
     ensures { Hexes.HexIs s.now at result }
 {
     let first = hex_digit(byte(s, at));
     if first >= 16 {
-        return Hex::Wrong;
+        return None;
     }
     let mut weight: u64 = 0x1000_0000_0000_0000;
     let mut m = wide(first) * weight;
-    let mut i = at + 1;
-    let mut k: usize = 15;
-    while k > 0 {
+    let end = at + 16;
+    for i in at + 1..end {
         let d = hex_digit(byte(s, i));
         if d >= 16 {
-            return Hex::Bits(m, i);
+            return Some((m, i));
         }
-        weight = weight / 16;
-        m = m + wide(d) * weight;
-        i += 1;
-        k -= 1;
+        weight /= 16;
+        m += wide(d) * weight;
     }
-    Hex::Bits(m, i)
+    Some((m, end))
 }
 
 // The float of a pattern; every NaN's pattern is the NaN.
+#[tactic(auto, using(crate::specs::DigitLaws::nan_is, crate::specs::DigitLaws::no_nan_bits))]
 pub fn real_of(m: u64) -> f64
     ensures { result ≡ Hexes.float m }
 {
@@ -78,15 +63,14 @@ pub fn real_of(m: u64) -> f64
     f64::from_bits(m)
 }
 
-// The float at a position.
-pub fn real_at(s: &[u8], at: usize) -> Real
+// The float at a position, with the position after its digits.
+#[tactic(auto, unfolding(crate::specs::Hex::real_at))]
+pub fn real_at(s: &[u8], at: usize) -> Option<(f64, usize)>
     requires { at ≤ length s.now }
     ensures { Hexes.RealIs s.now at result }
 {
-    match hex_at(s, at) {
-        Hex::Bits(m, next) => Real::Is(real_of(m), next),
-        Hex::Wrong => Real::Wrong,
-    }
+    let (m, next) = hex_at(s, at)?;
+    Some((real_of(m), next))
 }
 
 // The position after the blanks at a position.
@@ -94,9 +78,8 @@ pub fn past_blanks(s: &[u8], at: usize) -> usize
     requires { at ≤ length s.now }
     ensures { Forms.PastIs s.now at result }
 {
-    let mut i = at;
-    while byte(s, i) == b' ' {
-        i += 1;
+    match s[at..].iter().position(|&b| b != b' ') {
+        Some(blanks) => at + blanks,
+        None => s.len(),
     }
-    i
 }

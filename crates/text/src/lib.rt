@@ -3,3 +3,4 @@
 
 pub mod hex;
 pub mod lines;
+pub mod places;

@@ -2,18 +2,19 @@
 use Prim.Native.Nat.{ℕ, zero, suc, ◌+◌, ◌-◌, ◌*◌, ◌/◌, ◌%◌, ◌^◌, ◌≤◌, ◌<◌, zero-le}
 use native.Mathlib.Omega.{arith}
 use native.Mathlib.Numerals.{add-one}
-use native.Mathlib.Nat.{add-zero, add-suc, mod-lt, div-lt_iff_lt-mul, pow-succ'}
-use mathlib.Core.Path.{◌≡◌, refl, sym, ◌∙◌}
+use native.Mathlib.Nat.{mod-lt, div-lt_iff_lt-mul, pow-succ'}
+use mathlib.Core.Path.{◌≡◌, refl, ◌∙◌}
 use mathlib.Core.List.{List, [], ◌∷◌, ◌++◌}
 use mathlib.Core.Bool.{Bool, true, false, cond, not, beq}
-use lib.Dec.{T, eqb, ltb}
-use lib.ListN.{length, set, drop, get_or, drop_of_length-le}
-use lib.Seq.{sets, drop-cons}
+use lib.Dec.{T, eqb}
+use lib.ListN.{length, set, take, drop, get_or}
+use lib.Seq.{sets}
+use Rattle.std.proofs.Common.{get_or-take, get_or-drop}
 use lib.Ieee.{Float, nan, inf, fin, eq, ne, is_nan, up, down}
 use borrow.Author.Tests.{eq-eqb, ne_eqb, lt-ltb, le-ltb}
 use Rattle.text.specs.Hex.{digit_byte, hex_text}
 use Rattle.text_writer.specs.Puts.{Puts}
-use Rattle.text_writer.specs.PutLaws.{puts_none, puts_join}
+use Rattle.text_writer.specs.PutLaws.{puts_none}
 use Rattle.text_writer.specs.Texts.{digits}
 
 -- ---- decimal
@@ -98,11 +99,9 @@ puts_end b t i e = rw e
 pub ends_end : (i : ℕ) (t : List ℕ) → t ≡ [] → i ≡ i + length t
 ends_end i t e = rw e (omega arith)
 
-pub puts_one : (b w : List ℕ) (at k : ℕ) → k < length w → sets b (at + k) (drop k w) ≡ sets (set b (at + k) (get_or w k 0)) (at + (k + 1)) (drop (k + 1) w)
-puts_one b w at k h = rw (add-one, drop-cons w k 0) (rw (add-suc at k))
-
-pub puts_all : (b w : List ℕ) (at k : ℕ) → length w ≤ k → sets b (at + k) (drop k w) ≡ b
-puts_all b w at k h = rw (drop_of_length-le w h)
+-- a float of a part is one of the whole
+pub part_at : (v : List Float) (from n k : ℕ) (d : Float) → k < n → get_or (take (from + n - from) (drop from v)) k d ≡ get_or v (from + k) d
+part_at v from n k d h = get_or-take (from + n - from) (drop from v) k d (omega arith) ∙ get_or-drop from v k d
 
 -- ---- the NaN
 

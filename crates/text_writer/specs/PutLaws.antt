@@ -1,5 +1,5 @@
 -- One text after another, a buffer that has room for the whole, a difference in decimal. Assumes nothing.
-use Rattle.std.specs.Prelude.{ℕ, zero, suc, ◌+◌, ◌-◌, ◌*◌, ◌≤◌, ◌<◌, ◌≡◌, Bool, true, false, cond, List, [], ◌∷◌, ◌++◌, ltb, pos, negsuc, length, drop}
+use Rattle.std.specs.Prelude.{ℕ, suc, ◌+◌, ◌-◌, ◌*◌, ◌≤◌, ◌<◌, ◌≡◌, Bool, true, false, cond, List, [], ◌∷◌, ◌++◌, ltb, pos, negsuc, length, drop}
 use Rattle.std.proofs.Common.{arith, add-one, add-zero, add_assoc, add-suc, suc-add, sym, ◌∙◌, ap, ltb-true, length-append}
 use Rattle.std.proofs.Math.Path.{refl}
 use Rattle.std.proofs.Math.IntN.{sub_ℕ}

@@ -35,10 +35,8 @@ pub fn put_rows(b: &mut [u8], at: usize, z: &[f64], c: usize) -> usize
     ensures { Puts b.old at (Texts.rows z.now c) 3376 b.new result }
 {
     let mut i = at;
-    let mut k: usize = 0;
-    while k < 16 {
+    for k in 0..16 {
         i = put_row(b, i, z, c, k);
-        k += 1;
     }
     i
 }
@@ -78,13 +76,8 @@ fn put_node(b: &mut [u8], at: usize, node: Node, wheels: usize) -> usize
     requires { (at < 2 ^ 28) × (wheels ≤ 8) }
     ensures { Puts b.old at (Texts.node node wheels) 382 b.new result }
 {
-    let q = node.q;
-    let w = node.w;
-    let tau = node.tau;
-    let h = node.h;
-    let hw = node.hw;
-    let state = state_of(node.t, q, w, tau, h);
-    put_node_line(b, at, &state, &hw, wheels)
+    let state = state_of(node.t, node.q, node.w, node.tau, node.h);
+    put_node_line(b, at, &state, &node.hw, wheels)
 }
 
 // The 17 nodes.
@@ -93,11 +86,8 @@ pub fn put_nodes(b: &mut [u8], at: usize, nodes: [Node; SOLVER_NODES], wheels: u
     ensures { Puts b.old at (Texts.nodes nodes wheels) 6494 b.new result }
 {
     let mut i = at;
-    let mut k: usize = 0;
-    while k < 17 {
-        let node = nodes[k];
-        i = put_node(b, i, node, wheels);
-        k += 1;
+    for node in &nodes {
+        i = put_node(b, i, *node, wheels);
     }
     i
 }

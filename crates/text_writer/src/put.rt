@@ -29,12 +29,10 @@ pub fn put_all(b: &mut [u8], at: usize, w: &[u8]) -> usize
     requires { at < 2 ^ 32 }
     ensures { Puts b.old at w.now (length w.now) b.new result }
 {
-    let mut k: usize = 0;
-    while k < w.len() {
-        put(b, at + k, w[k]);
-        k += 1;
+    for (k, x) in w.iter().enumerate() {
+        put(b, at + k, *x);
     }
-    at + k
+    at + w.len()
 }
 
 fn decimal_byte(d: usize) -> u8
@@ -60,6 +58,7 @@ pub fn put_digits(b: &mut [u8], at: usize, places: usize, n: usize) -> usize
 }
 
 // x - m in decimal.
+#[tactic(auto, using(crate::specs::PutLaws::puts_join, crate::specs::PutLaws::puts_most), unfolding(crate::specs::Texts::whole))]
 pub fn put_less(b: &mut [u8], at: usize, x: usize, m: usize) -> usize
     requires { at < 2 ^ 29 }
     ensures { Puts b.old at (Texts.whole (sub_ℕ x m)) 21 b.new result }
@@ -71,6 +70,7 @@ pub fn put_less(b: &mut [u8], at: usize, x: usize, m: usize) -> usize
     put_digits(b, at, 20, x - m)
 }
 
+#[tactic(auto, unfolding(text::specs::Hex::digit_byte))]
 fn hex_byte(d: u64) -> u8
     requires { d < 16 }
     ensures { result ≡ Hex.digit_byte d }
@@ -90,13 +90,11 @@ pub fn put_hex(b: &mut [u8], at: usize, x: u64) -> usize
     put(b, at, hex_byte(x / weight));
     let mut rest = x % weight;
     let mut i = at + 1;
-    let mut k: usize = 15;
     while rest != 0 {
-        weight = weight / 16;
+        weight /= 16;
         put(b, i, hex_byte(rest / weight));
-        rest = rest % weight;
+        rest %= weight;
         i += 1;
-        k -= 1;
     }
     i
 }
@@ -112,6 +110,7 @@ fn bits_of(x: f64) -> u64
 }
 
 // A blank and a float.
+#[tactic(auto, using(crate::specs::PutLaws::puts_join, crate::specs::PutLaws::puts_most))]
 pub fn put_word(b: &mut [u8], at: usize, x: f64) -> usize
     requires { at < 2 ^ 31 }
     ensures { Puts b.old at (Texts.word x) 17 b.new result }
@@ -126,10 +125,8 @@ pub fn put_words(b: &mut [u8], at: usize, v: &[f64], from: usize, n: usize) -> u
     ensures { Puts b.old at (Texts.words v.now from n) (17 * n) b.new result }
 {
     let mut i = at;
-    let mut k: usize = 0;
-    while k < n {
-        i = put_word(b, i, v[from + k]);
-        k += 1;
+    for x in &v[from..from + n] {
+        i = put_word(b, i, *x);
     }
     i
 }

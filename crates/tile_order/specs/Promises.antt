@@ -1,7 +1,6 @@
 -- What is promised of the answer for n tiles, the table t and the budget b. Definitions only: `PromisesKept` proves it.
 use Rattle.std.specs.Prelude.{ℕ, ◌+◌, ◌-◌, ◌≤◌, ◌≡◌, true, false, List, length, get_or, take}
 use Rattle.tile_order.specs.declared.Found.{Found}
-use Rattle.tile_order.specs.Tables.{floor}
 use Rattle.tile_order.specs.Orders.{Order, cost}
 
 pub record Promised (n : ℕ) (t : List ℕ) (b : ℕ) (r : Found) : Type 0 where

@@ -7,12 +7,11 @@ use Rattle.std.proofs.Math.Logic.{inl, inr, ⊎_elim}
 use Rattle.std.proofs.lemmas.Bool.{eqb-false}
 use Rattle.common.specs.Iter.{iter}
 use Rattle.common.specs.Answer as Answer
-use Rattle.common.specs.declared.Fate.TheVariants.{Going}
 use Rattle.tile_order.specs.declared.Ordered.{Ordered}
 use Rattle.tile_order.specs.Below.{sum}
 use Rattle.tile_order.specs.SumLaws.{sum_none}
 use Rattle.tile_order.specs.Tables.{refused, floor, Table}
-use Rattle.tile_order.specs.Orders.{cost, straight}
+use Rattle.tile_order.specs.Orders.{straight}
 use Rattle.tile_order.specs.Search.{Progress, opening, search, visit}
 use Rattle.tile_order.specs.Answers.{refusal, found, answer, of_ordered}
 use Rattle.tile_order.specs.TableLaws.{table, table_taken}
@@ -23,6 +22,7 @@ use Rattle.tile_order.specs.MoreLaws.{visit_ahead, visit_nothing}
 use Rattle.tile_order.specs.FloorLaws.{floor_le}
 use Rattle.tile_order.specs.WaysLaws.{ways, ways_up, visit_ways}
 use Rattle.tile_order.specs.Promises.{Promised}
+use Rattle.common.specs.Refusals.{going}
 
 -- the search begins with tile 0 placed, and with the order 0, 1, 2 and so on
 begun : (n : ℕ) (t : List ℕ) → 1 ≤ n → Placed n t 0 (replicate 10 0) 0
@@ -137,6 +137,6 @@ nothing n t r = rw (table_taken n t r) (by (eqb n 1) refl)
     by false e = let ne : n ≡ 1 → ⊥ = eqb-false n 1 e in visit_nothing n t (n - 1) 0 _ 0 _ (omega arith)
 
 -- one tile
-pub one : (t : List ℕ) (b : ℕ) → Table 1 t → answer 1 t b ≡ record { fate = Going; found = record { order = replicate 10 0; cost = 0; placed = 0; exhausted = false; floor = 0 } }
+pub one : (t : List ℕ) (b : ℕ) → Table 1 t → answer 1 t b ≡ record { fate = going; found = record { order = replicate 10 0; cost = 0; placed = 0; exhausted = false; floor = 0 } }
 unfolding answer visit sum
 one t b r = rw (table_taken 1 t r)

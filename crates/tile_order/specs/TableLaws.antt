@@ -1,5 +1,5 @@
 -- What the table's test says: what is not refused is exactly a `Table`. Assumes nothing.
-use Rattle.std.specs.Prelude.{ℕ, ◌*◌, ◌<◌, ◌≤◌, ◌≡◌, refl, Bool, true, false, cond, List, ltb, eqb, length}
+use Rattle.std.specs.Prelude.{ℕ, ◌*◌, ◌≤◌, ◌≡◌, refl, Bool, true, false, cond, List, ltb, eqb, length}
 use Rattle.std.proofs.Common.{sym, arith, eqb-true, ltb-false, eq-eqb, ne_eqb, le-ltb}
 use Rattle.std.proofs.lemmas.Bool.{eqb-false}
 use Rattle.tile_order.specs.AnyLaws.{any_fails, any_not}

@@ -1,6 +1,6 @@
 -- The definition tries tile after tile, the code goes from link to link: what is passed over is placed already. Assumes nothing.
-use Rattle.std.specs.Prelude.{ℕ, ◌+◌, ◌-◌, ◌<◌, ◌≤◌, ◌≡◌, refl, Bool, true, false, List, get_or, set}
-use Rattle.std.proofs.Common.{sym, ◌∙◌, arith, set-set}
+use Rattle.std.specs.Prelude.{ℕ, ◌+◌, ◌≤◌, ◌≡◌, Bool, true, false, List, get_or, set}
+use Rattle.std.proofs.Common.{arith, set-set}
 use Rattle.std.proofs.lemmas.List.{set-get_or}
 use Rattle.common.specs.Iter.{iter}
 use Rattle.common.specs.IterLaws.{iter_next, iter_stays}

@@ -6,13 +6,13 @@ ghost use Rattle.std.specs.Prelude.{◌≡◌, ◌≤◌};
 ghost use Rattle.tile_order.specs.Answers as Answers;
 ghost use Rattle.tile_order.specs.Orders as Orders;
 
-use common::Fate;
+use common::Refusal;
 
 pub mod search;
 pub mod table;
 
-use search::visit;
-use table::{cost_of, floor, refused};
+use search::Search;
+use table::{Table, refused};
 
 // What is found: the order in the first places, 0 in those past the tiles; its cost; how many tiles were placed; whether one more was wanted than the budget
 // has; the floor, which no order goes below.
@@ -28,7 +28,7 @@ pub struct Found {
 // The answer; beside a refusal everything found is 0.
 #[derive(Clone, Copy)]
 pub struct Ordered {
-    pub fate: Fate,
+    pub fate: Result<(), Refusal>,
     pub found: Found,
 }
 
@@ -38,10 +38,8 @@ fn straight(n: usize) -> [usize; 10]
     ensures { result ≡ Orders.straight n }
 {
     let mut order = [0; 10];
-    let mut i = 0;
-    while i < n {
+    for i in 0..n {
         order[i] = i;
-        i += 1;
     }
     order
 }
@@ -57,8 +55,11 @@ fn refusal() -> Ordered
         floor: 0,
     };
     Ordered {
-        fate: Fate::Refused(25, 0),
-        found: found,
+        fate: Err(Refusal {
+            number: 25,
+            place: 0,
+        }),
+        found,
     }
 }
 
@@ -69,34 +70,32 @@ pub fn order(tiles: usize, times: &[u32], budget: u64) -> Ordered
     if refused(tiles, times) {
         return refusal();
     }
-    let mut best = straight(tiles);
-    let mut bound = cost_of(tiles, times, &best);
-    let lowest = floor(tiles, times);
-    let mut placed = 0;
-    let mut path = [0; 10];
-    let mut after = [1, 1, 2, 3, 4, 5, 6, 7, 8, 9, 10];
-    let exhausted = visit(
-        tiles,
-        times,
+    let table = Table { n: tiles, times };
+    let best = straight(tiles);
+    let path = [0; 10];
+    let after = [1, 1, 2, 3, 4, 5, 6, 7, 8, 9, 10];
+    let bound = table.cost_of(&best);
+    let mut search = Search {
+        table,
         budget,
-        tiles - 1,
-        0,
-        0,
-        &mut path,
-        &mut after,
-        &mut best,
-        &mut bound,
-        &mut placed,
-    );
+        path,
+        after,
+        best,
+        bound,
+        placed: 0,
+    };
+    let floor = table.floor();
+    let exhausted = search.visit(tiles - 1, 0, 0);
+    let best = search.best;
     let found = Found {
         order: best,
-        cost: bound,
-        placed: placed,
-        exhausted: exhausted,
-        floor: lowest,
+        cost: search.bound,
+        placed: search.placed,
+        exhausted,
+        floor,
     };
     Ordered {
-        fate: Fate::Going,
-        found: found,
+        fate: Ok(()),
+        found,
     }
 }

@@ -1,7 +1,7 @@
 -- Momenta with the same bits, the wheel that 26 names, and what is on record after a start. Assumes nothing.
 use Prim.Native.Nat.{ℕ, zero, suc, ◌+◌, ◌<◌, ◌≤◌}
 use Rattle.std.proofs.Math.Path.{◌≡◌, refl, sym}
-use Rattle.std.proofs.Common.{◌∙◌}
+use Rattle.std.proofs.Common.{◌∙◌, Ok, Err}
 use Rattle.std.specs.Prelude.{Bool, ◌&&◌, ltb}
 use Rattle.std.proofs.Math.Bool.{true, false, cond}
 use native.Mathlib.Omega.{arith}
@@ -10,12 +10,11 @@ use Rattle.std.proofs.Math.Dec.{eqb}
 use Rattle.common.specs.Iter.{iter}
 use Rattle.common.specs.IterLaws.{iter_next, iter_stays}
 use Rattle.common.specs.Lists.{at}
-use Rattle.common.specs.declared.Fate.{Fate}
-use Rattle.common.specs.declared.Fate.TheVariants.{Going, Refused}
 use Rattle.problem.specs.declared.Momenta.{Momenta}
 use Rattle.float_bits.specs.Bits.{same_bits}
 use Rattle.float_bits.specs.BitLaws.{both, same_is, same_self}
 use Rattle.wheel_record.specs.Commits.{same_wheel, leading_turn, leading_same, same, not_started, started, commit}
+use Rattle.common.specs.Refusals.{Fate, going}
 
 module _ (m n : Momenta) where
   -- ---- the loop over the wheels: k of them are the same so far
@@ -132,8 +131,8 @@ module _ (m n : Momenta) where
 
 -- ---- ON RECORD AFTER A START: the path's last momenta where it was started, else what was on record
 abbrev pub after_by : Fate → Momenta → Momenta → Momenta
-after_by Going m last = last
-after_by (Refused number place) m last = m
+after_by (Ok _) m last = last
+after_by (Err why) m last = m
 
 module _ (m : Momenta) (answered : Bool) (began last : Momenta) where
   pub commit_leaves : (commit m answered began last).on_record ≡ after_by (commit m answered began last).fate m last
@@ -147,11 +146,11 @@ module _ (m : Momenta) (answered : Bool) (began last : Momenta) where
       by false b = refl
 
   -- only an answered preview is started, and only beside the bits that it began from
-  pub commit_started : (commit m answered began last).fate ≡ Going → (answered ≡ true) × (same m began ≡ true)
+  pub commit_started : (commit m answered began last).fate ≡ going → (answered ≡ true) × (same m began ≡ true)
   unfolding commit
   commit_started = by answered (same m began)
     where
-      by : (a b : Bool) → (cond a (cond b (started last) (not_started m (leading_same m began))) (not_started m 0)).fate ≡ Going → (a ≡ true) × (b ≡ true)
+      by : (a b : Bool) → (cond a (cond b (started last) (not_started m (leading_same m began))) (not_started m 0)).fate ≡ going → (a ≡ true) × (b ≡ true)
       by true true e = (refl, refl)
       by true false e = let z : ◌≡◌ {A = ℕ} 0 1 = cc in absurd (omega arith)
       by false b e = let z : ◌≡◌ {A = ℕ} 0 1 = cc in absurd (omega arith)

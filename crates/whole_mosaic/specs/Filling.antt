@@ -1,13 +1,11 @@
 -- The whole mosaic in the code's steps: k legs are answered, their rows stand in the lent lists, and the mosaic goes on. Laws that assume nothing.
-use Rattle.std.specs.Prelude.{ℕ, ◌+◌, ◌*◌, ◌<◌, ◌≤◌, length, set, Float}
+use Rattle.std.specs.Prelude.{ℕ, ◌+◌, ◌*◌, ◌<◌, ◌≤◌, length, set, Float, Err}
 use Rattle.std.proofs.Math.Path.{◌≡◌, refl, ap}
 use Rattle.std.proofs.Common.{sym, ◌∙◌, add-zero, arith}
 use mathlib.Core.List.{List, [], ◌∷◌, ◌++◌}
 use Rattle.std.proofs.Math.Option.{some}
 use Rattle.std.proofs.Math.ListN.{get_elem?}
 use Rattle.common.specs.Iter.{iter}
-use Rattle.common.specs.declared.Fate.{Fate}
-use Rattle.common.specs.declared.Fate.TheVariants.{Going, Refused}
 use Rattle.geom.specs.declared.Quat.{Quat}
 use Rattle.problem.specs.declared.Momenta.{Momenta}
 use Rattle.problem.specs.declared.Problem.{Problem}
@@ -27,6 +25,8 @@ use Rattle.mosaic_laws.specs.Turns.{planned_open, next_open}
 use Rattle.whole_mosaic.specs.Filled.{Filled}
 use Rattle.whole_mosaic.specs.Layout as Layout
 use Rattle.whole_mosaic.specs.Layout.{leg_rows}
+use Rattle.common.specs.Refusals.{Fate, refusal, going}
+use Rattle.common.specs.declared.Refusal.{Refusal}
 
 -- ---- a row more
 pub put_row_law : {A : Type 0} (f : Planned → A) (legs : List Planned) (leg : Planned) (out : List A) → length legs < length out → set (leg_rows f legs out) (length legs) (f leg) ≡ leg_rows f (legs ++ leg ∷ []) out
@@ -55,7 +55,7 @@ module _ (way : Way) (p : Problem) (tile : ℕ → Quat) (m : Momenta) (ws : Lis
   pub record Filling (k : ℕ) (c : Cursor) (counts counts' : List (List ℕ)) (times times' decisions decisions' : List (List Float)) (nodes nodes' : List (List (List Float))) (ws' : List Float) : Type 0 where
     pub legs : List Planned
     pub is : record { cursor = c; legs = legs } ≡ flown plan p tile m k
-    pub goes : c.fate ≡ Going
+    pub goes : c.fate ≡ going
     pub runs : c.runs ≤ k * most_runs
     pub counts_as : counts' ≡ leg_rows Layout.counts legs counts
     pub times_as : times' ≡ leg_rows Layout.times legs times
@@ -81,7 +81,7 @@ module _ (way : Way) (p : Problem) (tile : ℕ → Quat) (m : Momenta) (ws : Lis
 
   module _ {k : ℕ} {c : Cursor} {counts counts' : List (List ℕ)} {times times' decisions decisions' : List (List Float)} {nodes nodes' : List (List (List Float))} {ws' : List Float}
       (F : Filling k c counts counts' times times' decisions decisions' nodes nodes' ws') where
-    stands : (flown plan p tile m k).cursor.fate ≡ Going
+    stands : (flown plan p tile m k).cursor.fate ≡ going
     stands = rw (← F.is) F.goes
 
     index : c.index ≡ k
@@ -138,8 +138,8 @@ module _ (way : Way) (p : Problem) (tile : ℕ → Quat) (m : Momenta) (ws : Lis
       exit_is = a.left ∙ ap (leaves r.planned.runs) F.left ∙ leaves_twice c.runs r.planned.runs ws
 
       -- it was answered
-      module _ (g : r.planned.fate ≡ Going) where
-        goes_as : leg.fate ≡ Going
+      module _ (g : r.planned.fate ≡ going) where
+        goes_as : leg.fate ≡ going
         goes_as = ap (λ (x : Planned). x.fate) (sym planned_is) ∙ g
 
         took_as : r.cursor ≡ took c r.planned
@@ -166,22 +166,22 @@ module _ (way : Way) (p : Problem) (tile : ℕ → Quat) (m : Momenta) (ws : Lis
         })
 
       -- it was refused, and ends the mosaic of n legs
-      module _ {number place n : ℕ} (g : r.planned.fate ≡ Refused number place) (h : k < n) where
-        refused_as : leg.fate ≡ Refused number place
+      module _ {why : Refusal} {n : ℕ} (g : r.planned.fate ≡ Err why) (h : k < n) where
+        refused_as : leg.fate ≡ Err why
         refused_as = ap (λ (x : Planned). x.fate) (sym planned_is) ∙ g
 
-        halted_as : r.cursor ≡ halted c number place r.planned.runs
+        halted_as : r.cursor ≡ halted c why r.planned.runs
         unfolding moved
         halted_as = cursor_is ∙ ap (moved c) (sym planned_is) ∙ rw g refl
 
         last_as : flown plan p tile m (k + 1) ≡ record { cursor = r.cursor; legs = F.legs }
         last_as = more ∙ (λ i. record { cursor = sym cursor_is i; legs = added_by (refused_as i) F.legs leg })
 
-        stops : (flown plan p tile m (k + 1)).cursor.fate ≡ Refused number place
+        stops : (flown plan p tile m (k + 1)).cursor.fate ≡ Err why
         stops = ap (λ (x : Flight). x.cursor.fate) last_as ∙ ap (λ (x : Cursor). x.fate) halted_as
 
         pub filling_cut : Filled (flown plan p tile m n) way p tile m r.cursor counts counts' times times' decisions decisions' nodes nodes' ws exit
-        filling_cut = rw (stays plan p tile m (k + 1) n number place (omega arith) stops, last_as) (record {
+        filling_cut = rw (stays plan p tile m (k + 1) n why.number why.place (omega arith) stops, last_as) (record {
           cursor = refl;
           counts_as = F.counts_as;
           times_as = F.times_as;

@@ -7,7 +7,7 @@ ghost use Rattle.mosaic.specs.Ways as Ways;
 ghost use Rattle.whole_mosaic.specs.Filled as Filled;
 ghost use Rattle.whole_mosaic.specs.Layout as Layout;
 
-use common::{Decision, Fate, SOLVER_NODES};
+use common::{Decision, Refusal, SOLVER_NODES};
 use geom::Quat;
 use mosaic::ways::Way;
 use mosaic::{Cursor, check_count, halted, next, start};
@@ -31,16 +31,19 @@ pub fn quat_of(v: [f64; 4]) -> Quat
 fn counts_of(leg: Planned) -> [usize; 4]
     ensures { result ≡ Layout.counts leg }
 {
-    let path = leg.path;
-    [leg.runs, path.controls, path.wheels, path.iterations]
+    [
+        leg.runs,
+        leg.path.controls,
+        leg.path.wheels,
+        leg.path.iterations,
+    ]
 }
 
 // A leg's duration and largest defect.
 fn times_of(leg: Planned) -> [f64; 2]
     ensures { result ≡ Layout.times leg }
 {
-    let path = leg.path;
-    [path.duration, path.max_defect]
+    [leg.path.duration, leg.path.max_defect]
 }
 
 // The legs over the tiles 0 to `legs`, up to the first that is refused.
@@ -62,64 +65,75 @@ fn put_legs(
         decisions.old decisions.new nodes.old nodes.new ws.old ws.new }
 {
     let mut c = start(m);
-    let mut k: usize = 0;
-    while k < legs {
-        let from = quat_of(tiles[k]);
-        let to = quat_of(tiles[k + 1]);
-        let made = next(p, way, c, from, to, ws);
-        let moved = made.cursor;
+    for k in 0..legs {
+        let made = next(p, way, c, quat_of(tiles[k]), quat_of(tiles[k + 1]), ws);
         let leg = made.planned;
-        let fate = leg.fate;
-        c = moved;
-        match fate {
-            Fate::Refused(_, _) => {
-                return c;
-            }
-            Fate::Going => {}
+        c = made.cursor;
+        if let Err(_) = leg.fate {
+            return c;
         }
         let path = leg.path;
         let decision = path.z;
-        let visited = path.nodes;
         let count = counts_of(leg);
         let time = times_of(leg);
-        let node = rows(visited);
+        let node = rows(path.nodes);
         counts[k] = count;
         times[k] = time;
         decisions[k] = decision;
         nodes[k] = node;
-        k += 1;
     }
     c
 }
 
 // 99 where a lent list has fewer rows than there are legs.
-fn check_rows(legs: usize, counts: usize, times: usize, decisions: usize, nodes: usize) -> Fate
+fn check_rows(
+    legs: usize,
+    counts: usize,
+    times: usize,
+    decisions: usize,
+    nodes: usize,
+) -> Result<(), Refusal>
     ensures { result ≡ Layout.room_fate legs counts times decisions nodes }
 {
     if counts < legs {
-        return Fate::Refused(99, 0);
+        return Err(Refusal {
+            number: 99,
+            place: 0,
+        });
     }
     if times < legs {
-        return Fate::Refused(99, 0);
+        return Err(Refusal {
+            number: 99,
+            place: 0,
+        });
     }
     if decisions < legs {
-        return Fate::Refused(99, 0);
+        return Err(Refusal {
+            number: 99,
+            place: 0,
+        });
     }
     if nodes < legs {
-        return Fate::Refused(99, 0);
+        return Err(Refusal {
+            number: 99,
+            place: 0,
+        });
     }
-    Fate::Going
+    Ok(())
 }
 
 // 23, then 99.
-fn check_tiles(tiles: usize, counts: usize, times: usize, decisions: usize, nodes: usize) -> Fate
+fn check_tiles(
+    tiles: usize,
+    counts: usize,
+    times: usize,
+    decisions: usize,
+    nodes: usize,
+) -> Result<(), Refusal>
     ensures { result ≡ Layout.lent_fate tiles counts times decisions nodes }
 {
-    let fate = check_count(tiles);
-    match fate {
-        Fate::Refused(number, place) => Fate::Refused(number, place),
-        Fate::Going => check_rows(tiles - 1, counts, times, decisions, nodes),
-    }
+    check_count(tiles)?;
+    check_rows(tiles - 1, counts, times, decisions, nodes)
 }
 
 // The whole mosaic of 2 to 64 tiles from the momenta m, by a way: 23, then 99 where too few rows are lent, then the legs. A refused leg ends it, and the rows of the legs
@@ -148,8 +162,8 @@ pub fn plan_mosaic(
         nodes.len(),
     );
     match fate {
-        Fate::Refused(number, place) => halted(start(m), number, place, 0),
-        Fate::Going => put_legs(
+        Err(why) => halted(start(m), why, 0),
+        Ok(()) => put_legs(
             p,
             way,
             m,

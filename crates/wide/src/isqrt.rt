@@ -18,10 +18,8 @@ fn digit(s: u64, b: u64, hi: u64, lo: u64) -> u64
 fn by_digits(hi: u64, lo: u64) -> u64
     ensures { result ≡ Isqrt.isqrt (hi * 2 ^ 64 + lo) }
 {
-    let mut s: u64 = 0;
-    let mut k: u32 = 64;
-    while k > 0 {
-        k -= 1;
+    let mut s = 0;
+    for k in (0..64u32).rev() {
         s = digit(s, 1 << k, hi, lo);
     }
     s

@@ -1,5 +1,4 @@
 -- `actuators::is_sized` meets its contract: each test is the definition's. Assumes nothing.
-use borrow.Author.Rules.{rules}
 use mathlib.Core.Path.{refl}
 use Rattle.actuators.specs.Maps.{is_sized}
 use Rattle.actuators.proofs.is_sized.Statement.{statement}

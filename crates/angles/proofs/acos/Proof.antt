@@ -1,17 +1,15 @@
 -- `angles::acos` meets its contract: the two comparisons are together the definition's test, and inside `arc_cosine` answers.
-use Rattle.std.proofs.Common.{◌≡◌, Bool, true, false, cond, sym, ap, ◌∙◌}
+use Rattle.std.proofs.Common.{◌≡◌, Bool, true, false, cond, sym, ap, ◌∙◌, Some, None}
 use lib.Ieee.{Float}
-use Rattle.angles.specs.declared.Angle.{Angle}
-use Rattle.angles.specs.declared.Angle.TheVariants as Angle
 use Rattle.angles.specs.Arcs.{in_unit, arc_of, acos_of}
 use Rattle.angles.proofs.Tests.{and_yes, and_no}
 use Rattle.angles.proofs.acos.Statement.{statement}
 use Rattle.angles.proofs.acos.Tie as tie
 
 -- the answer by the test
-by : (w : Float) (b : Bool) → in_unit w ≡ b → cond b (Angle.Is (arc_of w)) Angle.Outside ≡ acos_of w
+by : (w : Float) (b : Bool) → in_unit w ≡ b → cond b (Some (arc_of w)) None ≡ acos_of w
 unfolding acos_of
-by w b e = ap (λ (b : Bool). cond b (Angle.Is (arc_of w)) Angle.Outside) (sym e)
+by w b e = ap (λ (b : Bool). cond b (Some (arc_of w)) None) (sym e)
 
 arc-cosine-requires : tie.Need-arc_cosine-requires
 unfolding in_unit
@@ -21,7 +19,7 @@ returns : tie.Need-returns-then-w-2
 unfolding in_unit
 returns c =
     let t = c.before in
-    ap Angle.Is c.arc_cosine.ensures ∙ by _ true (sym (and_yes _ _ t.if-w.true) ∙ t.if-w-2.true)
+    ap Some c.arc_cosine.ensures ∙ by _ true (sym (and_yes _ _ t.if-w.true) ∙ t.if-w-2.true)
 
 returns_2 : tie.Need-returns-else-w-2
 unfolding in_unit

@@ -1,6 +1,5 @@
 -- `angles::cos` meets its contract: region by region; inside, the cosine is the ring's place after the quarters of `reduced` (`cosine_at_law`).
-use Rattle.std.proofs.Common.{true, sym, refl, ap, ◌∙◌, rules}
-use Rattle.angles.specs.declared.Angle.TheVariants as Angle
+use Rattle.std.proofs.Common.{true, sym, refl, ap, ◌∙◌, rules, Some}
 use Rattle.angles.proofs.Regions.{is_outside, is_tiny, is_inside}
 use Rattle.angles.proofs.Answered.{cos_by_law, cosine_at_law}
 use Rattle.angles.proofs.cos.Statement.{statement}
@@ -24,7 +23,7 @@ returns_2 c =
     let m = d.before in
     let t = m.before in
     let r = t.before.before in
-    ap Angle.Is (cosine_at_law d.reduced-t.ensures c.ring_at.ensures) ∙ cos_by_law _ (is_inside _ _ _ r.in_range.ensures t.is_tiny.ensures t.if-in_range.true m.if-is_tiny.false) refl
+    ap Some (cosine_at_law d.reduced-t.ensures c.ring_at.ensures) ∙ cos_by_law _ (is_inside _ _ _ r.in_range.ensures t.is_tiny.ensures t.if-in_range.true m.if-is_tiny.false) refl
 
 returns_3 : tie.Need-returns-else-in_range
 returns_3 c = cos_by_law _ (is_outside _ _ true c.in_range.ensures c.if-in_range.false) refl

@@ -5,13 +5,13 @@ use borrow.Author.Rules.{rules}
 use Rattle.export_mosaic.proofs.fill.Statement.{statement}
 use Rattle.export_mosaic.proofs.fill.Tie as tie
 
-returns : tie.Need-returns-in-By
+returns : tie.Need-returns-in-Some
 returns c =
-    fills_by _ _ (sym c.in-By.is ∙ c.asked_of-asked.ensures) c.plan_mosaic.ensures
+    fills_by _ _ (sym c.in-Some.is ∙ c.asked_of-asked.ensures) c.plan_mosaic.ensures
 
-returns_2 : tie.Need-returns-in-Unknown
+returns_2 : tie.Need-returns-in-None
 returns_2 c =
-    fills_not _ _ (sym c.in-Unknown.is ∙ c.asked_of-asked.ensures) c.start.ensures c.halted.ensures
+    fills_not _ _ (sym c.in-None.is ∙ c.asked_of-asked.ensures) c.start.ensures c.halted.ensures
 
 pub fill_spec : {M : Type 1} → statement M
 fill_spec =

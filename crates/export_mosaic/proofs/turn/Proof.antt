@@ -5,12 +5,12 @@ use borrow.Author.Rules.{rules}
 use Rattle.export_mosaic.proofs.turn.Statement.{statement}
 use Rattle.export_mosaic.proofs.turn.Tie as tie
 
-returns : tie.Need-returns-in-By
+returns : tie.Need-returns-in-Some
 returns c =
-    turn_by _ _ _ _ (sym c.in-By.is ∙ c.asked_of-asked.ensures) c.next.ensures
+    turn_by _ _ _ _ (sym c.in-Some.is ∙ c.asked_of-asked.ensures) c.next.ensures
 
-returns_2 : tie.Need-returns-in-Unknown
-returns_2 c = turn_none _ _ _ _ (sym c.in-Unknown.is ∙ c.asked_of-asked.ensures) c.refused.ensures
+returns_2 : tie.Need-returns-in-None
+returns_2 c = turn_none _ _ _ _ (sym c.in-None.is ∙ c.asked_of-asked.ensures) c.refused.ensures
 
 pub turn_spec : {M : Type 1} → statement M
 turn_spec =

@@ -11,15 +11,15 @@ returns c =
     let norm3 = c.norm3-n in
     rw (← norm3.ensures, c.if-n.true)
 
-returns_2 : tie.Need-returns-in-Is
+returns_2 : tie.Need-returns-in-Some
 unfolding log_at of_bits neg
 returns_2 c =
-    rw (← c.norm3-n.ensures, c.if-n.false, ← c.clamp.ensures, ← c.acos-half.ensures, c.in-Is.is)
+    rw (← c.norm3-n.ensures, c.if-n.false, ← c.clamp.ensures, ← c.acos-half.ensures, c.in-Some.is)
 
-returns_3 : tie.Need-returns-in-Outside
+returns_3 : tie.Need-returns-in-None
 unfolding log_at of_bits neg
 returns_3 c =
-    rw (← c.norm3-n.ensures, c.if-n.false, ← c.clamp.ensures, ← c.acos-half.ensures, c.in-Outside.is)
+    rw (← c.norm3-n.ensures, c.if-n.false, ← c.clamp.ensures, ← c.acos-half.ensures, c.in-None.is)
 
 pub log_up_spec : {M : Type 1} → statement M
 log_up_spec =

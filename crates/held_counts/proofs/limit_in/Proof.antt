@@ -1,7 +1,7 @@
 -- `held_counts::limit_in` meets its contract: each way out is a case of the definition, told by the tests on the way. Assumes nothing.
 use Prim.Native.Nat.{◌<◌}
 use mathlib.Core.Path.{◌≡◌, sym, ◌∙◌, subst}
-use mathlib.Core.Bool.{Bool, true, false}
+use mathlib.Core.Bool.{Bool}
 use Rattle.control_limits.specs.Limits as Limits
 use Rattle.control_rows.specs.Parts.{bare}
 use Rattle.controls.specs.Controls.{rig_of}

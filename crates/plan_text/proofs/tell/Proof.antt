@@ -5,13 +5,13 @@ use borrow.Author.Rules.{rules}
 use Rattle.plan_text.proofs.tell.Statement.{statement}
 use Rattle.plan_text.proofs.tell.Tie as tie
 
-returns : tie.Need-returns-in-Refused
+returns : tie.Need-returns-in-Err
 returns c =
-    prints_refusal c.in-Refused.is c.tell_refused.ensures
+    prints_refusal c.in-Err.is c.tell_refused.ensures
 
-returns_2 : tie.Need-returns-in-Going
+returns_2 : tie.Need-returns-in-Ok
 returns_2 c =
-    prints_path c.in-Going.is refl c.print_path-bytes.ensures
+    prints_path c.in-Ok.is refl c.print_path-bytes.ensures
 
 pub tell_spec : {M : Type 1} → statement M
 tell_spec = tie.close (tie.spec (search rules) (search rules) (search rules) (search rules) (search rules) returns (search rules) returns_2)

@@ -11,12 +11,12 @@ returns c = rw (← c.normalized.ensures, c.in_default.is) c.refused.ensures
 returns_2 : tie.Need-returns-in_default-normalized
 unfolding Problems.with_starts
 returns_2 c =
-    rw (← c.normalized.ensures, c.in-Is.is, ← c.normalized-2.ensures, c.in_default-normalized.is) c.refused-in_default-normalized.ensures
+    rw (← c.normalized.ensures, c.in-Some.is, ← c.normalized-2.ensures, c.in_default-normalized.is) c.refused-in_default-normalized.ensures
 
 returns_3 : tie.Need-returns
 unfolding Problems.with_starts
 returns_3 c =
-    rw (← c.normalized.ensures, c.in-Is.is, ← c.normalized-2.ensures, c.in-Is-normalized.is) c.with_attitudes.ensures
+    rw (← c.normalized.ensures, c.in-Some.is, ← c.normalized-2.ensures, c.in-Some-normalized.is) c.with_attitudes.ensures
 
 pub with_starts_spec : {M : Type 1} → statement M
 with_starts_spec =

@@ -5,17 +5,17 @@ use borrow.Author.Rules.{rules}
 use Rattle.problem_text.proofs.judge_count.Statement.{statement}
 use Rattle.problem_text.proofs.judge_count.Tie as tie
 
-returns : tie.Need-returns-in-Refused
+returns : tie.Need-returns-in-Err
 unfolding judge_count
-returns c = simp c.in-Refused.is
+returns c = simp c.in-Err.is
 
 returns_2 : tie.Need-returns-then-row-actuators
 unfolding judge_count
-returns_2 c = simp (c.in-Going.is, eq-eqb _ _ c.if-row-actuators.true)
+returns_2 c = simp (c.in-Ok.is, eq-eqb _ _ c.if-row-actuators.true)
 
 returns_3 : tie.Need-returns-else-row-actuators
 unfolding judge_count
-returns_3 c = simp (c.in-Going.is, ne_eqb _ _ c.if-row-actuators.false) c.nothing.ensures
+returns_3 c = simp (c.in-Ok.is, ne_eqb _ _ c.if-row-actuators.false) c.nothing.ensures
 
 pub judge_count_spec : {M : Type 1} → statement M
 judge_count_spec = tie.close (tie.spec (search rules) (search rules) (search rules) (search rules) returns returns_2 returns_3)

@@ -4,13 +4,13 @@ use borrow.Author.Rules.{rules}
 use Rattle.problem_text.proofs.next_list.Statement.{statement}
 use Rattle.problem_text.proofs.next_list.Tie as tie
 
-returns : tie.Need-returns-in-Refused
+returns : tie.Need-returns-in-Err
 unfolding next_list
-returns c = simp c.in-Refused.is
+returns c = simp c.in-Err.is
 
-returns_2 : tie.Need-returns-in-Going
+returns_2 : tie.Need-returns-in-Ok
 unfolding next_list
-returns_2 c = simp c.in-Going.is c.with_list.ensures
+returns_2 c = simp c.in-Ok.is c.with_list.ensures
 
 pub next_list_spec : {M : Type 1} → statement M
 next_list_spec = tie.close (tie.spec (search rules) (search rules) (search rules) returns returns_2)

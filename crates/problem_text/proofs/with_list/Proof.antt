@@ -8,17 +8,17 @@ returns : tie.Need-returns-then-list
 unfolding with_list
 returns c = simp c.if-list.true c.nothing.ensures
 
-returns_2 : tie.Need-returns-in-Refused
+returns_2 : tie.Need-returns-in-Err
 unfolding with_list
 returns_2 c =
     let if1 = c.if-list in
-    simp (if1.false, c.in-Refused.is) c.nothing-in-Refused.ensures
+    simp (if1.false, c.in-Err.is) c.nothing-in-Err.ensures
 
-returns_3 : tie.Need-returns-in-Going
+returns_3 : tie.Need-returns-in-Ok
 unfolding with_list
 returns_3 c =
     let if1 = c.if-list in
-    simp (if1.false, c.in-Going.is)
+    simp (if1.false, c.in-Ok.is)
 
 pub with_list_spec : {M : Type 1} → statement M
 with_list_spec = tie.close (tie.spec (search rules) returns (search rules) (search rules) (search rules) returns_2 returns_3)

@@ -3,11 +3,11 @@ use borrow.Author.Rules.{rules}
 use Rattle.profile.proofs.with_alpha.Statement.{statement}
 use Rattle.profile.proofs.with_alpha.Tie as tie
 
-returns : tie.Need-returns-in-Not
-returns c = rw (c.in-Not.is, c.refused.ensures)
+returns : tie.Need-returns-in-None
+returns c = rw (c.in-None.is, c.refused.ensures)
 
-returns_2 : tie.Need-returns-in-Is
-returns_2 c = rw (c.in-Is.is, c.with_switches.ensures, c.switch_times.ensures)
+returns_2 : tie.Need-returns-in-Some
+returns_2 c = rw (c.in-Some.is, c.with_switches.ensures, c.switch_times.ensures)
 
 pub with_alpha_spec : {M : Type 1} → statement M
 with_alpha_spec =

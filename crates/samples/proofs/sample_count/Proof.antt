@@ -1,6 +1,5 @@
 -- `samples::sample_count` meets its contract: four cases, a law for each; where `whole_above` is called the steps are in its range (`steps_most`).
 use Rattle.std.proofs.Common.{refl, arith, rules}
-use lib.Ieee.{of_bits}
 use Rattle.samples.specs.CountLaws.{many_requested, many_steps, as_requested, steps_most, steps_few, by_rate}
 use Rattle.samples.proofs.sample_count.Statement.{statement}
 use Rattle.samples.proofs.sample_count.Tie as tie

@@ -4,14 +4,14 @@ use borrow.Author.Rules.{rules}
 use Rattle.export.proofs.courses.slew_problem_profile.Statement.{statement}
 use Rattle.export.proofs.courses.slew_problem_profile.Tie as tie
 
-returns : tie.Need-returns-in-Refused
+returns : tie.Need-returns-in-Err
 returns c =
-    rw (← c.problem_of.ensures, ← c.check-checked.ensures, c.in-Refused.is)
+    rw (← c.problem_of.ensures, ← c.check-checked.ensures, c.in-Err.is)
     (record { number_is = refl; place_is = refl; value_is = refl })
 
-returns_2 : tie.Need-returns-in-Going
+returns_2 : tie.Need-returns-in-Ok
 returns_2 c =
-    rw (← c.problem_of.ensures, ← c.check-checked.ensures, c.in-Going.is) c.put_checked.ensures
+    rw (← c.problem_of.ensures, ← c.check-checked.ensures, c.in-Ok.is) c.put_checked.ensures
 
 pub slew_problem_profile_spec : {M : Type 1} → statement M
 slew_problem_profile_spec =

@@ -1,5 +1,5 @@
 -- `samples::counts::whole_above` meets its contract: x cut to a whole number is its ceiling or one less, and the comparison tells which.
-use Rattle.std.proofs.Common.{◌∙◌, arith, rules}
+use Rattle.std.proofs.Common.{arith}
 use Rattle.samples.specs.CountLaws.{steps_fit, steps_cut, steps_up, steps_same}
 use Rattle.samples.proofs.counts.whole_above.Statement.{statement}
 use Rattle.samples.proofs.counts.whole_above.Tie as tie

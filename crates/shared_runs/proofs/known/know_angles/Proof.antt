@@ -20,13 +20,13 @@ start c = c.before.before
 room : (c : tie.After-control_dim-n) → (start c).args.map.wheel_count + (start c).args.map.thruster_count + 4 ≤ control_dim (start c).args.map
 room c =
     let m = (start c).args.map in
-    let four : gimbals m.cmgs ≡ 4 = ap gimbals c.in-With.is in
+    let four : gimbals m.cmgs ≡ 4 = ap gimbals c.in-Some.is in
     omega (arith, row_room (rig_under Once m) (control_dim m) (dim_sized Once m (start c).requires.0), four)
 
 add-fill-angles : tie.Need-overflow_add-map
 add-fill-angles c = omega (arith, (sized_counts _ (start c.before).requires.0).0)
 
-add-fill-angles-2 : tie.Need-overflow_add-map-in-With
+add-fill-angles-2 : tie.Need-overflow_add-map-in-Some
 add-fill-angles-2 c = let counts = sized_counts _ (start c.before.before).requires.0 in omega (arith, counts.0, counts.1)
 
 fill-angles-requires : tie.Need-fill_angles-requires
@@ -35,12 +35,12 @@ fill-angles-requires c κs =
     let pre = (start d).requires in
     rw c.control_dim-n.ensures (omega (arith, room d), (pre.1.0, (search rules, pre.1.1)))
 
-returns : tie.Need-returns-in-Without
-returns c = (c.requires.1.1, rw c.in-Without.is tt)
+returns : tie.Need-returns-in-None
+returns c = (c.requires.1.1, rw c.in-None.is tt)
 
-returns_2 : tie.Need-returns-in-With
+returns_2 : tie.Need-returns-in-Some
 returns_2 c =
-    (c.fill_angles.ensures.long, rw c.in-With.is (filled_whole _ c.fill_angles.ensures))
+    (c.fill_angles.ensures.long, rw c.in-Some.is (filled_whole _ c.fill_angles.ensures))
 
 pub know_angles_spec : {M : Type 1} → statement M
 know_angles_spec =

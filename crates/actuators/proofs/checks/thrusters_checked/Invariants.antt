@@ -1,0 +1,8 @@
+-- After k turns the map is that of the first k thrusters, of which none was refused.
+use Rattle.std.proofs.Common.{◌≡◌}
+use Rattle.common.specs.Iter.{iter}
+use Rattle.actuators.specs.Prepare as Prepare
+use Rattle.actuators.proofs.checks.thrusters_checked.Given as goal
+
+abbrev pub invariant-loop-k : goal.invariant-loop-k
+invariant-loop-k l = Prepare.so_far l.map ≡ iter (Prepare.thruster_turn l.thrusters) (Prepare.so_far l.initial.map) l.k

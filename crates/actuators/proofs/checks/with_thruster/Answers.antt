@@ -1,0 +1,6 @@
+use Rattle.actuators.specs.Prepare as Prepare
+use Rattle.actuators.proofs.checks.with_thruster.Goals as goal
+
+pub returns : goal.returns
+unfolding Prepare.with_thruster
+returns c = rw c.put_axis.ensures

@@ -1,0 +1,10 @@
+use Rattle.std.proofs.Common.{refl}
+use borrow.Author.Rules.{rules}
+use Rattle.common.specs.IterLaws.{iter_none, iter_next}
+use Rattle.control_rows.proofs.axis_sum.Goals as goal
+
+pub loop-i-init : goal.loop-i-init
+loop-i-init c = (search rules, iter_none _ _)
+
+pub loop-i-preserved : goal.loop-i-preserved
+loop-i-preserved c = (search rules, iter_next _ _ _ c.loop-i.invariant.1 refl)

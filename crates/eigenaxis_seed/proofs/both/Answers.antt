@@ -1,0 +1,8 @@
+-- `both` meets its contract: the test of a decides, as in the definition.
+use Rattle.eigenaxis_seed.proofs.both.Goals as goal
+
+pub returns-then-a : goal.returns-then-a
+returns-then-a c = rw c.if-a.true
+
+pub returns-else-a : goal.returns-else-a
+returns-else-a c = rw c.if-a.false

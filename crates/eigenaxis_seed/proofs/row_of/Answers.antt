@@ -1,0 +1,6 @@
+-- `row_of` meets its contract: the row is the one that `allocate_body_torque` answers.
+use Rattle.eigenaxis_seed.proofs.row_of.Goals as goal
+
+pub returns : goal.returns
+unfolding lib.Ieee.of_bits
+returns c = rw (c.unwrap_or.ensures, c.allocate_body_torque.ensures)

@@ -1,0 +1,8 @@
+use Rattle.common.specs.Lists.{at}
+use Rattle.normal_equations.specs.FilledInner.{Filled}
+use Rattle.elimination.specs.Elimination as Elimination
+use Rattle.elimination.proofs.rows.divide.Given as goal
+
+-- the numbers from k to j are divided and the others unchanged
+abbrev pub invariant-loop-j : goal.invariant-loop-j
+invariant-loop-j l = Filled (Elimination.divided_at l.k l.initial.row) l.k l.j (at l.initial.row) (at l.row)

@@ -1,0 +1,7 @@
+use Rattle.reference_checks.proofs.rate_fits.Goals as goal
+
+pub returns-in-None : goal.returns-in-None
+returns-in-None c = rw c.in-None.is
+
+pub returns-in-Some : goal.returns-in-Some
+returns-in-Some c = rw (c.in-Some.is, c.fits.ensures, c.norm3.ensures)

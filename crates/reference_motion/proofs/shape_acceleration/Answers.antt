@@ -1,0 +1,8 @@
+use Rattle.reference_motion.proofs.shape_acceleration.Goals as goal
+use mathlib.Core.Path.{refl}
+use lib.Ieee as Ieee
+use Rattle.reference_motion.specs.Motion as Motion
+
+pub returns : goal.returns
+unfolding Motion.shape_acceleration Ieee.of_bits
+returns c = refl

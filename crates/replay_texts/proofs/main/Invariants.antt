@@ -1,9 +1,0 @@
--- `main` ends: the loop counts up to its bound.
-use Rattle.std.proofs.Common.{◌-◌, ◌≤◌}
-use Rattle.replay_texts.proofs.main.Given as goal
-
-abbrev pub invariant-loop-k : goal.invariant-loop-k
-invariant-loop-k l = l.k ≤ 64
-
-abbrev pub decreases-loop-k : goal.decreases-loop-k
-decreases-loop-k l = 64 - l.k

@@ -1,0 +1,15 @@
+use borrow.Author.Rules.{rules}
+use Rattle.std.proofs.Common.{refl}
+use Rattle.common.specs.IterLaws.{iter_none, iter_next}
+use Rattle.residuals.specs.Sums as Sums
+use Rattle.residuals.proofs.sums.norm_slice.Goals as goal
+
+pub loop-k-init : goal.loop-k-init
+loop-k-init c = iter_none _ _
+
+pub loop-k-preserved : goal.loop-k-preserved
+loop-k-preserved c = iter_next _ _ _ c.loop-k.invariant refl
+
+pub returns : goal.returns
+unfolding Sums.norm_slice
+returns c = rw (c.sqrt.ensures) (search rules)

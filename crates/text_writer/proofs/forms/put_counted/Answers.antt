@@ -1,0 +1,8 @@
+use Rattle.std.proofs.Common.{arith}
+use Rattle.text_writer.specs.PutLaws.{puts_join, puts_most}
+use Rattle.text_writer.specs.Texts.{counted}
+use Rattle.text_writer.proofs.forms.put_counted.Goals as goal
+
+pub returns : goal.returns
+unfolding counted
+returns c = puts_most (omega arith) (puts_join (puts_join c.put_all-i.ensures c.put_digits-j.ensures) c.put_all.ensures)

@@ -1,0 +1,7 @@
+-- What wraps is a multiple of 2^64.
+use Rattle.std.proofs.Common.{arith}
+use Rattle.wide.proofs.Products.{word_mul}
+use Rattle.wide.proofs.product.low_product.Goals as goal
+
+pub returns : goal.returns
+returns c = omega (arith, word_mul c.args.u c.args.v)
