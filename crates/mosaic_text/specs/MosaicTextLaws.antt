@@ -12,7 +12,7 @@ use Rattle.text.specs.Forms.{loose}
 use Rattle.text.specs.Lines.{is_at, line_at}
 use Rattle.text.specs.declared.lines.Row.{Row}
 use Rattle.mosaic_text.specs.MosaicTexts.{end_from, line_turn, same_attitude}
-use Rattle.mosaic_text.specs.TileLines.{closed, turn, begun, ended, tile_form, tile_by, next_line, tiles_at}
+use Rattle.mosaic_text.specs.TileLines.{closed, turn, begun, ended, tile_form, tile_by, wrong_line, next_line, tiles_at}
 use Rattle.mosaic_text.specs.declared.tiles.Reading.{Reading}
 use Rattle.mosaic_text.specs.declared.tiles.Reading.TheVariants.{More, Closed, Wrong}
 use Rattle.std.proofs.Math.Path.{ap}
@@ -76,14 +76,14 @@ turn_goes s k at t d e = e
 abbrev pub AtMost : ℕ → Reading → Type 0
 AtMost k (More at t) = t.count ≤ k
 AtMost k (Closed t) = t.count ≤ k
-AtMost k (Wrong at) = Unit {0}
+AtMost k (Wrong w) = Unit {0}
 
 module _ (s : List ℕ) (at : ℕ) (t : Tiles) where
   pub next_low : (k : ℕ) → t.count ≤ k → AtMost (k + 1) (next_line s at t)
   unfolding next_line closed
   next_low k h = go (is_at s at (bytes ")\n")) (leb (length s) (at + 2)) (line_at loose s at tile_form)
     where
-      go : (p q : Bool) (r : Option Row) → AtMost (k + 1) (cond p (cond q (Closed t) (Wrong (at + 2))) (tile_by at t r))
+      go : (p q : Bool) (r : Option Row) → AtMost (k + 1) (cond p (cond q (Closed t) (Wrong (wrong_line (at + 2) t))) (tile_by at t r))
       go true true r = omega arith
       go true false r = tt
       go false q (Some r) = omega arith

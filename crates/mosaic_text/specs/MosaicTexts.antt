@@ -12,6 +12,7 @@ use Rattle.problem_text.specs.declared.Read.{Read}
 use Rattle.mosaic_text.specs.TileLines.{no_tile, tile_at, tiles_at}
 use Rattle.mosaic_text.specs.declared.ReadMosaic.{ReadMosaic}
 use Rattle.mosaic_text.specs.declared.tiles.Tiles.{Tiles}
+use Rattle.mosaic_text.specs.declared.tiles.WrongLine.{WrongLine}
 use Rattle.common.specs.Refusals.{Fate, refusal, going}
 
 -- beside a refusal stands what the problem's reader gives for no text at all
@@ -71,16 +72,16 @@ abbrev pub ended_by_value : Fate → Problem → Tiles → ReadMosaic
 ended_by_value (Err why) p t = wrong why.place
 ended_by_value (Ok _) p t = record { fate = going; problem = p; count = t.count; tiles = t.tiles }
 
-unfoldable pub with_tiles : List ℕ → Problem → Result Tiles ℕ → ReadMosaic
+unfoldable pub with_tiles : List ℕ → Problem → Result Tiles WrongLine → ReadMosaic
 with_tiles s p (Ok t) = ended_by_value (judge_ends p.q0 p.qf t.count t.tiles) p t
-with_tiles s p (Err at) = wrong (line_of s at)
+with_tiles s p (Err w) = wrong (line_of s w.at)
 
-abbrev pub read_by : Fate → List ℕ → Problem → Result Tiles ℕ → ReadMosaic
+abbrev pub read_by : Fate → List ℕ → Problem → Result Tiles WrongLine → ReadMosaic
 read_by (Err why) s p t = wrong (placed why.place)
 read_by (Ok _) s p t = with_tiles s p t
 
 -- the problem's text is judged first
-unfoldable pub mosaic_of : List ℕ → Read → Result Tiles ℕ → ReadMosaic
+unfoldable pub mosaic_of : List ℕ → Read → Result Tiles WrongLine → ReadMosaic
 mosaic_of s r t = read_by r.fate s r.problem t
 
 unfoldable pub read_parts : List ℕ → ReadMosaic

@@ -14,7 +14,7 @@ use text::lines::is_at;
 
 pub mod tiles;
 
-use tiles::{Tiles, no_tile, tiles_at};
+use tiles::{Tiles, WrongLine, no_tile, tiles_at};
 
 // What a mosaic's text gives: the problem, how many tiles there are, and the first 64 of them; or refusal 21 with the line, a blank problem and no tiles.
 #[derive(Clone, Copy)]
@@ -118,13 +118,13 @@ fn judge_ends(q0: Quat, qf: Quat, count: usize, tiles: [Quat; 64]) -> Result<(),
 
 // The mosaic of a problem and the tiles behind it.
 #[tactic(auto, unfolding(crate::specs::MosaicTexts::with_tiles))]
-fn with_tiles(s: &[u8], p: Problem, t: Result<Tiles, usize>) -> ReadMosaic
+fn with_tiles(s: &[u8], p: Problem, t: Result<Tiles, WrongLine>) -> ReadMosaic
     requires { length s.now ≤ 16384 }
     ensures { result ≡ MosaicTexts.with_tiles s.now p t }
 {
     let Tiles { count, tiles } = match t {
         Ok(t) => t,
-        Err(at) => return wrong(line_of(s, at)),
+        Err(first) => return wrong(line_of(s, first.at)),
     };
     match judge_ends(p.q0, p.qf, count, tiles) {
         Err(refusal) => wrong(refusal.place),
@@ -139,7 +139,7 @@ fn with_tiles(s: &[u8], p: Problem, t: Result<Tiles, usize>) -> ReadMosaic
 
 // The same, unless the problem's text is wrong.
 #[tactic(auto, unfolding(crate::specs::MosaicTexts::mosaic_of))]
-fn mosaic_of(s: &[u8], read: Read, t: Result<Tiles, usize>) -> ReadMosaic
+fn mosaic_of(s: &[u8], read: Read, t: Result<Tiles, WrongLine>) -> ReadMosaic
     requires { length s.now ≤ 16384 }
     ensures { result ≡ MosaicTexts.mosaic_of s.now read t }
 {

@@ -13,12 +13,19 @@ pub struct Tiles {
     pub tiles: [Quat; 64],
 }
 
-// How far the tiles are read: another line may follow at a position; the mosaic is closed and the text ends there; or the line at a position is wrong.
+// The first line that is wrong: where it begins, and the tiles before it.
+#[derive(Clone, Copy)]
+pub struct WrongLine {
+    pub at: usize,
+    pub before: Tiles,
+}
+
+// How far the tiles are read: another line may follow at a position; the mosaic is closed and the text ends there; or a line is wrong.
 #[derive(Clone, Copy)]
 enum Reading {
     More(usize, Tiles),
     Closed(Tiles),
-    Wrong(usize),
+    Wrong(WrongLine),
 }
 
 pub fn no_tile() -> Quat
@@ -58,7 +65,7 @@ fn closed(s: &[u8], t: Tiles, at: usize) -> Reading
     if at >= s.len() {
         Reading::Closed(t)
     } else {
-        Reading::Wrong(at)
+        Reading::Wrong(WrongLine { at, before: t })
     }
 }
 
@@ -73,12 +80,12 @@ fn next_line(s: &[u8], at: usize, t: Tiles) -> Reading
     }
     match line_at(s, at, b" (tile", Words::Floats(4), b")\n") {
         Some(row) => Reading::More(row.at, with_tile(t, row)),
-        None => Reading::Wrong(at),
+        None => Reading::Wrong(WrongLine { at, before: t }),
     }
 }
 
-// The tiles from a position on, or the position of the first line that is wrong. There are at most as many lines as bytes.
-pub fn tiles_at(s: &[u8], at: usize) -> Result<Tiles, usize>
+// The tiles from a position on, or the first line that is wrong, with the tiles before it. There are at most as many lines as bytes.
+pub fn tiles_at(s: &[u8], at: usize) -> Result<Tiles, WrongLine>
     requires { length s.now ≤ 16384 }
     ensures { result ≡ TileLines.tiles_at s.now at }
 {
@@ -97,5 +104,5 @@ pub fn tiles_at(s: &[u8], at: usize) -> Result<Tiles, usize>
             Reading::Wrong(wrong) => return Err(wrong),
         }
     }
-    Err(at)
+    Err(WrongLine { at, before: t })
 }
