@@ -8,7 +8,10 @@ pub fn copy(to: &mut [f64], from: &[f64])
     requires { length from.now ≡ length to.old }
     ensures { to.new ≡ from.now }
 {
-    to.copy_from_slice(from);
+    // `copy_from_slice` would make the archives call `memmove`, and they name `memcpy` and `memset` alone.
+    for i in 0..to.len() {
+        to[i] = from[i];
+    }
 }
 
 // Row c of the rows in a becomes line.
