@@ -8,12 +8,15 @@ const BLOCK_BYTES: usize = 65536;
 
 const MOST_BLOCKS: usize = 64;
 
-// Every case of a block: no more than it has bytes.
+// Every case of a block: no more than it has bytes. Behind the block's end there is none, and no step is made.
 fn block_run<F: Fn(&[u8], Tally) -> Tally>(s: &[u8], start: Tally, step: &F) -> Tally
     requires { F.IsAlwaysCallable step.now }
 {
     let mut t = start;
     for _ in 0..BLOCK_BYTES {
+        if t.at >= s.len() {
+            break;
+        }
         t = step(s, t);
     }
     t
