@@ -113,7 +113,10 @@ fn later(t: &[u8], n: usize, place: usize, when: usize, k: usize, found: usize) 
     requires { k < 2 ^ 31 }
     ensures { result ≡ Sentences.later t.now n place when k found }
 {
-    if begins(t, k) && serves(t, n, place, when, k) {
+    if !begins(t, k) {
+        return found;
+    }
+    if serves(t, n, place, when, k) {
         k
     } else {
         found
